@@ -1,0 +1,229 @@
+-- Records given as stores: the instructions that they say, or the first record that breaks the store layout (refusal 30). Three folds
+-- over the records, each with its own running state, name the first record that each finds bad; the lowest counts.
+use Prim.Native.Nat.{ℕ, zero, suc, _+_, _*_, _/_, _%_}
+use mathlib.Core.Bool.{Bool, true, false, not, _&&_, _||_}
+use mathlib.Core.List.{List, [], _∷_}
+use mathlib.Core.Option.{Option, none, some}
+use lib.Dec.{leb, ltb, eqb}
+use lib.ListN.{length, take, drop, getD}
+use Rattle.spec.specs.declared.State.{State}
+use Rattle.spec.specs.declared.State.the-variants.{Outside}
+use Rattle.spec.specs.declared.Cell.{Cell}
+use Rattle.spec.specs.declared.Cell.the-variants.{Tagged, Refuses}
+use Rattle.spec.specs.declared.Fields.{Fields}
+use Rattle.spec.specs.Base.{if_then_else_, implies, has, every}
+use Rattle.spec.specs.Words.{fourAt, long}
+use Rattle.spec.specs.Text.{isUtf8}
+use Rattle.spec.specs.Kinds.{isLogged, isLong, isText}
+use Rattle.spec.specs.Records.{Operand, narrow, wide, text, Placed, operandsSize, idSize, recordSize, fieldsAt}
+use Rattle.spec.specs.Layout.{layoutOf, endNumber}
+
+-- three stores and their counts: records, log bytes, string bytes
+pub record Given : Type 0 where
+  pub instructions : List ℕ
+  pub log : List ℕ
+  pub strings : List ℕ
+  pub count : ℕ
+  pub logCount : ℕ
+  pub stringCount : ℕ
+
+-- the lower of two indices, where one is there
+abbrev pub lower : Option ℕ → Option ℕ → Option ℕ
+lower none b = b
+lower (some i) none = some i
+lower (some i) (some j) = if leb i j then some i else some j
+
+-- THE RECORDS
+
+-- so many records, as far as they lie wholly in the store
+unfoldable pub recordsOf : ℕ → List ℕ → List Fields
+recordsOf zero ws = []
+recordsOf (suc n) ws =
+    let more = recordsOf n (drop recordSize ws) in
+    if has recordSize ws then fieldsAt ws ∷ more else []
+
+-- the first record that does not
+unfoldable pub missing : ℕ → List Fields → Option ℕ
+missing count fs = if eqb (length fs) count then none else some (length fs + 1)
+
+-- 1. FIELDS AND OFFSETS: "unknown .. presence bits, a result field not 0 without its bit", "offsets (the first is 20) .. that do not
+-- follow on", a word count over 65,535
+
+-- the presence bits: 1 for a result type, 2 for a result id
+abbrev pub bitsIn : Fields → ℕ
+bitsIn f = f .head / 65536
+
+-- the fields of a record that should stand at an offset
+unfoldable pub fieldsGood : ℕ → Fields → Bool
+fieldsGood at f =
+    leb (bitsIn f) 3 && implies (eqb (bitsIn f % 2) 0) (eqb (f .rtype) 0) && implies (ltb (bitsIn f) 2) (eqb (f .rid) 0)
+    && eqb (f .offset) at && leb (f .words) 65535
+
+-- the first record whose fields are bad, the first of them at an index and an offset
+unfoldable pub fieldsFault : ℕ → ℕ → List Fields → Option ℕ
+fieldsFault index at [] = none
+fieldsFault index at (f ∷ fs) =
+    let later = fieldsFault (suc index) (at + 4 * f .words) fs in
+    if fieldsGood at f then later else some index
+
+-- 2. LOG AND STRINGS: "unknown kinds", "ranges past a store", "logs that do not follow on, strings with a zero byte or not UTF-8, a
+-- word count that is wrong", and log or string bytes left over
+
+-- how much of log and strings went before, and what is left of them
+pub record Left : Type 0 where
+  pub logAt : ℕ
+  pub log : List ℕ
+  pub stringsAt : ℕ
+  pub strings : List ℕ
+
+-- so many bytes of log and strings further
+abbrev pub past : ℕ → ℕ → Left → Left
+past n m l =
+    record { logAt = l .logAt + n; log = drop n (l .log); stringsAt = l .stringsAt + m; strings = drop m (l .strings) }
+
+-- an operand of the log and what is left, or none that is good
+pub data Took : Type 0 where
+  broken : Took
+  took : Operand → Left → Took
+
+-- a string of so many bytes that starts there: it follows on, lies in the store, has no zero byte, is UTF-8
+abbrev pub takeText : ℕ → ℕ → Left → Took
+takeText start n l =
+    if eqb start (l .stringsAt) && has n (l .strings) && every (λ b. not (eqb b 0)) (take n (l .strings)) && isUtf8 (take n (l .strings))
+    then took (text (take n (l .strings))) (past 9 n l)
+    else broken
+
+-- an operand of a kind, with its first number
+abbrev pub takeKind : ℕ → ℕ → Left → Took
+takeKind k v l =
+    if not (isLong k || isText k) then took (narrow k v) (past 5 0 l)
+    else if not (has 9 (l .log)) then broken
+    else if isLong k then took (wide k (long v (fourAt 5 (l .log)))) (past 9 0 l)
+    else takeText v (fourAt 5 (l .log)) l
+
+-- the operand that the log begins with
+unfoldable pub takeOperand : Left → Took
+takeOperand l =
+    if has 5 (l .log) && isLogged (getD (l .log) 0 0) then takeKind (getD (l .log) 0 0) (fourAt 1 (l .log)) l else broken
+
+-- some operands and what is left, or not all of them good
+pub data Taken : Type 0 where
+  short : Taken
+  taken : List Operand → Left → Taken
+
+-- one operand before others
+abbrev pub addTaken : Operand → Taken → Taken
+addTaken o short = short
+addTaken o (taken os l) = taken (o ∷ os) l
+
+-- go on after an operand
+abbrev pub onTook : Took → (Operand → Left → Taken) → Taken
+onTook broken f = short
+onTook (took o l) f = f o l
+
+-- so many operands
+unfoldable pub takeOperands : ℕ → Left → Taken
+takeOperands zero l = taken [] l
+takeOperands (suc n) l = onTook (takeOperand l) (λ o m. addTaken o (takeOperands n m))
+
+-- a result field that is there
+abbrev pub fieldIn : Bool → ℕ → Option ℕ
+fieldIn true v = some v
+fieldIn false v = none
+
+-- the instruction that a record and its operands say
+unfoldable pub placedOf : Fields → List Operand → Placed
+placedOf f os =
+    record {
+      instr =
+          record {
+            opcode = f .head % 65536;
+            resultType = fieldIn (eqb (bitsIn f % 2) 1) (f .rtype);
+            resultId = fieldIn (leb 2 (bitsIn f)) (f .rid);
+            operands = os;
+            offset = f .offset;
+            words = f .words;
+          };
+      tag = f .tag;
+    }
+
+-- its word count is that of its first word, its result words and its operands
+unfoldable pub wordsGood : Placed → Bool
+wordsGood p =
+    eqb (p .instr .words)
+    (1 + idSize (p .instr .resultType) + idSize (p .instr .resultId) + operandsSize (p .instr .operands))
+
+-- the instructions before the first record whose operands are bad, and its index
+pub record Scan : Type 0 where
+  pub instrs : List Placed
+  pub fault : Option ℕ
+
+-- the end of a scan
+abbrev pub endScan : Option ℕ → Scan
+endScan x = record { instrs = []; fault = x }
+
+-- one instruction before others
+abbrev pub addScan : Placed → Scan → Scan
+addScan p x = record { instrs = p ∷ x .instrs; fault = x .fault }
+
+-- a record's operands, and on to the next record
+abbrev pub onTaken : ℕ → Fields → Taken → (Left → Scan) → Scan
+onTaken index f short more = endScan (some index)
+onTaken index f (taken os l) more =
+    if wordsGood (placedOf f os) then addScan (placedOf f os) (more l) else endScan (some index)
+
+-- the operands of records, the first of them at an index; all of both counts is taken in the end. "an instruction without operands
+-- starts at the log count so far"
+unfoldable pub scanFrom : ℕ → ℕ → ℕ → Left → List Fields → Scan
+scanFrom logCount stringCount index l [] =
+    endScan (if eqb (l .logAt) logCount && eqb (l .stringsAt) stringCount then none else some index)
+scanFrom logCount stringCount index l (f ∷ fs) =
+    if eqb (f .start) (l .logAt)
+    then onTaken index f (takeOperands (f .count) l) (λ m. scanFrom logCount stringCount (suc index) m fs)
+    else endScan (some index)
+
+-- 3. TAGS: "tags that the table cannot give, and in module order records that end inside a function"
+
+-- go on where the tag is the one that the table gives
+abbrev pub onTag : ℕ → ℕ → Cell → (State → Option ℕ) → Option ℕ
+onTag index tag (Tagged t s) more = if eqb tag t then more s else some index
+onTag index tag (Refuses n) more = some index
+
+-- the first record whose tag is bad, the first of them at an index and in a state; whole: the end must be outside functions
+unfoldable pub tagsFault : Bool → ℕ → State → List Fields → Option ℕ
+tagsFault whole index s [] = if implies whole (eqb (endNumber s) 0) then none else some index
+tagsFault whole index s (f ∷ fs) =
+    onTag index (f .tag) (layoutOf (f .head % 65536) s) (λ t. tagsFault whole (suc index) t fs)
+
+-- THE CHECK
+
+-- the records, log and strings of what is given, up to their counts
+abbrev pub recordsIn : Given → List Fields
+recordsIn x = recordsOf (x .count) (x .instructions)
+
+-- the operands of what is given
+abbrev pub scanOf : Given → Scan
+scanOf x =
+    scanFrom (x .logCount) (x .stringCount) 1
+    (record { logAt = 0; log = take (x .logCount) (x .log); stringsAt = 0; strings = take (x .stringCount) (x .strings) })
+    (recordsIn x)
+
+-- the index of the first bad record, or count + 1 for the end; whole as for module order and standing, not for any other call
+unfoldable pub faultOf : Bool → Given → Option ℕ
+faultOf whole x =
+    lower (missing (x .count) (recordsIn x))
+    (lower (fieldsFault 1 20 (recordsIn x)) (lower (scanOf x .fault) (tagsFault whole 1 Outside (recordsIn x))))
+
+-- what a check comes to: the index of the first bad record, or the instructions
+pub data Checked : Type 0 where
+  bad : ℕ → Checked
+  good : List Placed → Checked
+
+-- by the first fault, where there is one
+abbrev pub checkedBy : Option ℕ → List Placed → Checked
+checkedBy none is = good is
+checkedBy (some i) is = bad i
+
+-- the check of given records
+unfoldable pub check : Bool → Given → Checked
+check whole x = checkedBy (faultOf whole x) (scanOf x .instrs)

@@ -1,0 +1,60 @@
+-- The listing program's text: "index, offset, tag, opcode, words" of each record, then how the load ended.
+use Prim.Native.Nat.{ℕ, zero, suc, _+_, _/_, _%_}
+use mathlib.Core.Bool.{Bool, true, false}
+use mathlib.Core.List.{List, [], _∷_, _++_}
+use lib.Dec.{ltb, eqb}
+use lib.ListN.{length, getD}
+use Rattle.spec.specs.declared.Loaded.{Loaded}
+use Rattle.spec.specs.Base.{if_then_else_, every}
+use Rattle.spec.specs.Words.{major, minor}
+use Rattle.spec.specs.Records.{Placed}
+use Rattle.spec.specs.Load.{Outcome, enough, load}
+use Rattle.spec.specs.Builtin.{builtin}
+
+-- a number's decimal digits, of which there are at most n
+unfoldable pub digitsFrom : ℕ → ℕ → List ℕ
+digitsFrom zero v = []
+digitsFrom (suc n) v = let more = digitsFrom n (v / 10) in if ltb v 10 then (48 + v) ∷ [] else more ++ ((48 + v % 10) ∷ [])
+
+-- a number in decimal
+unfoldable pub decimal : ℕ → List ℕ
+decimal v = digitsFrom 20 v
+
+-- numbers in decimal, a blank between them, and the end of the line
+unfoldable pub numbersLine : List ℕ → List ℕ
+numbersLine [] = 10 ∷ []
+numbersLine (v ∷ []) = decimal v ++ (10 ∷ [])
+numbersLine (v ∷ w ∷ vs) = decimal v ++ (32 ∷ numbersLine (w ∷ vs))
+
+-- "module M.m bound B", left out "when the header words are 0"
+unfoldable pub moduleLine : List ℕ → List ℕ
+moduleLine h =
+    if every (λ w. eqb w 0) h then []
+    else
+    109 ∷ 111 ∷ 100 ∷ 117 ∷ 108 ∷ 101 ∷ 32  -- "module "
+    ∷ decimal (major (getD h 1 0)) ++ (46 ∷ decimal (minor (getD h 1 0)))
+    ++ (32 ∷ 98 ∷ 111 ∷ 117 ∷ 110 ∷ 100 ∷ 32 ∷ numbersLine (getD h 3 0 ∷ []))  -- " bound "
+
+-- a line for each record, the first of them at an index
+unfoldable pub recordLines : ℕ → List Placed → List ℕ
+recordLines index [] = []
+recordLines index (p ∷ ps) =
+    numbersLine (index ∷ p .instr .offset ∷ p .tag ∷ p .instr .opcode ∷ p .instr .words ∷ []) ++ recordLines (suc index) ps
+
+-- "accepted N", or "`refused`, number, offset, index"
+unfoldable pub lastLine : Loaded → List ℕ
+lastLine x =
+    if eqb (x .number) 0
+    then 97 ∷ 99 ∷ 99 ∷ 101 ∷ 112 ∷ 116 ∷ 101 ∷ 100 ∷ 32 ∷ numbersLine (x .counts .instructions ∷ [])  -- "accepted "
+    else 114 ∷ 101 ∷ 102 ∷ 117 ∷ 115 ∷ 101 ∷ 100 ∷ 32 ∷ numbersLine (x .number ∷ x .offset ∷ x .index ∷ [])  -- "refused "
+
+-- the text of a load
+unfoldable pub outcomeText : Outcome → List ℕ
+outcomeText x = moduleLine (x .said .header) ++ recordLines 1 (x .kept) ++ lastLine (x .said)
+
+-- "A listing program takes at most 4,096 bytes on standard input (more: the line `too long`)", with room for the 1,019 words after the
+-- header of so many bytes
+unfoldable pub listing : List ℕ → List ℕ
+listing s =
+    if ltb 4096 (length s) then 116 ∷ 111 ∷ 111 ∷ 32 ∷ 108 ∷ 111 ∷ 110 ∷ 103 ∷ 10 ∷ []  -- "too long"
+    else outcomeText (load builtin (enough 1019) s)

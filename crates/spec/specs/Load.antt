@@ -1,0 +1,177 @@
+-- Loading a module: the first refusals, the header, the instructions, the end, and the stores afterwards.
+use Prim.Native.Nat.{ℕ, zero, suc, _+_, _*_, _/_}
+use mathlib.Core.Bool.{Bool, true, false}
+use mathlib.Core.List.{List, [], _∷_, _++_}
+use lib.Dec.{ltb, eqb}
+use lib.ListN.{length, drop}
+use lib.Seq.{sets}
+use Rattle.spec.specs.declared.Limit.the-variants.{Unlimited}
+use Rattle.spec.specs.declared.HeaderRead.{HeaderRead}
+use Rattle.spec.specs.declared.State.{State}
+use Rattle.spec.specs.declared.State.the-variants.{Outside}
+use Rattle.spec.specs.declared.Cell.{Cell}
+use Rattle.spec.specs.declared.Cell.the-variants.{Tagged, Refuses}
+use Rattle.spec.specs.declared.Counts.{Counts}
+use Rattle.spec.specs.declared.Loaded.{Loaded}
+use Rattle.spec.specs.Base.{if_then_else_, has, joined}
+use Rattle.spec.specs.Records.{Instr, Placed, Entry, operandsLog, operandsStrings, recordSize, recordsFrom, logFrom, stringStore, entrySize, entryWords}
+use Rattle.spec.specs.Reader.{Reader, reader, Read, got, refused}
+use Rattle.spec.specs.Decoder.{noWords, headerFrom}
+use Rattle.spec.specs.Grammar.{Grammar, grammarOf, wellFormed}
+use Rattle.spec.specs.Layout.{layoutOf, endNumber}
+use Rattle.spec.specs.Types.{track}
+use Rattle.spec.specs.Match.{readInstr}
+
+-- COUNTS AND ROOM
+
+-- counts by their four numbers
+abbrev pub counts : ℕ → ℕ → ℕ → ℕ → Counts
+counts i l s t = record { instructions = i; log = l; strings = s; types = t }
+
+-- the room in stores of so many words, bytes, bytes and words
+unfoldable pub roomOf : ℕ → ℕ → ℕ → ℕ → Counts
+roomOf i l s t = counts (i / recordSize) l s (t / entrySize)
+
+-- "With W whole words after the header, W instruction records, 9W log bytes, 4W string bytes and W type entries always suffice."
+unfoldable pub enough : ℕ → Counts
+enough w = counts w (9 * w) (4 * w) w
+
+-- "Room is refused exactly when the instruction's records go past a store": 25, 26, 27, 28 in that order, or 0
+unfoldable pub roomFault : Counts → Counts → ℕ
+roomFault room need =
+    if ltb (room .instructions) (need .instructions) then 25
+    else if ltb (room .log) (need .log) then 26
+    else if ltb (room .strings) (need .strings) then 27
+    else if ltb (room .types) (need .types) then 28
+    else 0
+
+-- THE BOOK
+
+-- what is kept so far: the instructions, the type entries, what they take in the stores, and the state of the layout
+pub record Book : Type 0 where
+  pub kept : List Placed
+  pub types : List Entry
+  pub used : Counts
+  pub state : State
+
+-- nothing kept, outside functions
+abbrev pub emptyBook : Book
+emptyBook = record { kept = []; types = []; used = counts 0 0 0 0; state = Outside }
+
+-- what is taken after an instruction more, whose types are then these
+abbrev pub usedAfter : Counts → Instr → List Entry → Counts
+usedAfter c i types =
+    counts (c .instructions + 1) (c .log + length (operandsLog 0 (i .operands)))
+    (c .strings + length (operandsStrings (i .operands))) (length types)
+
+-- the book with an instruction more, its tag, and the state after it
+abbrev pub entered : Book → Instr → ℕ → State → Book
+entered b i tag s =
+    record {
+      kept = b .kept ++ (record { instr = i; tag = tag } ∷ []);
+      types = track i (b .types);
+      used = usedAfter (b .used) i (track i (b .types));
+      state = s;
+    }
+
+-- WHAT A LOAD COMES TO
+
+-- its answer, and the instructions and type entries kept
+pub record Outcome : Type 0 where
+  pub said : Loaded
+  pub kept : List Placed
+  pub types : List Entry
+
+-- the end of a load, at the instruction after those kept: number, place, value
+abbrev pub stop : List ℕ → Book → ℕ → ℕ → ℕ → Outcome
+stop h b n at v =
+    record {
+      said =
+          record { number = n; offset = at; index = b .used .instructions + 1; value = v; header = h; counts = b .used };
+      kept = b .kept;
+      types = b .types;
+    }
+
+-- a load that has come to no instruction: index, header words and counts are 0
+abbrev pub nothing : ℕ → ℕ → Outcome
+nothing n at =
+    record {
+      said = record { number = n; offset = at; index = 0; value = 0; header = noWords; counts = counts 0 0 0 0 };
+      kept = [];
+      types = [];
+    }
+
+-- THE INSTRUCTIONS: decoding, layout and room, one after the other
+
+-- decoding: go on with the instruction, or stop at its refusal
+abbrev pub onInstr : List ℕ → Book → Read Instr → (Instr → Reader → Outcome) → Outcome
+onInstr h b (got i r) f = f i r
+onInstr h b (refused x r) f = stop h b (x .number) (x .place) (x .value)
+
+-- layout: go on with a tag and a state, or stop at the instruction
+abbrev pub onCell : List ℕ → Book → Instr → Cell → (ℕ → State → Outcome) → Outcome
+onCell h b i (Tagged tag s) f = f tag s
+onCell h b i (Refuses n) f = stop h b n (i .offset) 0
+
+-- room: go on with the next book, or stop at the instruction
+abbrev pub onRoom : List ℕ → Book → Instr → ℕ → Outcome → Outcome
+onRoom h b i n more = if eqb n 0 then more else stop h b n (i .offset) 0
+
+-- "At the end (0, 16, or 21 there) the place is the whole words' length and count + 1."
+abbrev pub finish : List ℕ → Book → Reader → Outcome
+finish h b r = stop h b (endNumber (b .state)) (r .at) 0
+
+-- the instructions from a reader on. Each takes a word or more, so where n is at least the whole words left, none is left when n is
+-- zero
+unfoldable pub loadFrom : Grammar → Counts → List ℕ → ℕ → Book → Reader → Outcome
+loadFrom g room h zero b r = finish h b r
+loadFrom g room h (suc n) b r =
+    if has 4 (r .rest)
+    then
+    onInstr h b (readInstr g (b .types) r)
+    (λ i t. onCell h b i (layoutOf (i .opcode) (b .state))
+    (λ tag s.
+    let c = entered b i tag s in
+    let more = loadFrom g room h n c t in
+    onRoom h b i (roomFault room (c .used)) more))
+    else finish h b r
+
+-- THE WHOLE
+
+-- the header's refusal, or the instructions after it
+abbrev pub afterHeader : Grammar → Counts → List ℕ → HeaderRead → Outcome
+afterHeader g room s h =
+    if eqb (h .refusal .number) 0
+    then loadFrom g room (h .words) (length s / 4) emptyBook (reader 20 Unlimited (drop 20 s))
+    else nothing (h .refusal .number) (h .refusal .place)
+
+-- a load with the rows and enumerants of a grammar
+unfoldable pub loadWith : Grammar → Counts → List ℕ → Outcome
+loadWith g room s = if ltb 67108864 (length s) then nothing 31 0 else afterHeader g room s (headerFrom s)
+
+-- a load with the bytes of a grammar: "24, 31 and the header come first, in that order."
+unfoldable pub load : List ℕ → Counts → List ℕ → Outcome
+load grammar room s = if wellFormed grammar then loadWith (grammarOf grammar) room s else nothing 24 0
+
+-- THE STORES
+
+-- "a module's [records] are all four [stores] up to their counts"
+pub record Stores : Type 0 where
+  pub instructions : List ℕ
+  pub log : List ℕ
+  pub strings : List ℕ
+  pub types : List ℕ
+
+-- the records of the instructions kept
+unfoldable pub storesOf : Outcome → Stores
+storesOf x =
+    record {
+      instructions = recordsFrom 0 (x .kept);
+      log = logFrom 0 (x .kept);
+      strings = stringStore (x .kept);
+      types = joined entryWords (x .types);
+    }
+
+-- a store after a load: the records from its start on, and past them what was there
+unfoldable pub laidOver : List ℕ → List ℕ → List ℕ
+laidOver store bs = sets store 0 bs

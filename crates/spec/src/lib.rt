@@ -1,0 +1,108 @@
+// The answers that several crates share. Declarations alone: what they mean is said in specs/.
+
+// How many words may still be read: any number, or so many.
+pub enum Limit {
+    Unlimited,
+    Words(usize),
+}
+
+// A position in some bytes, and a limit.
+pub struct Decoder {
+    pub offset: usize,
+    pub limit: Limit,
+}
+
+// A refusal: its number in the table of refusals (0 for none), its place and its value.
+pub struct Refusal {
+    pub number: u32,
+    pub place: usize,
+    pub value: u32,
+}
+
+// A word, or a refusal; each with the decoder after it.
+pub enum WordRead {
+    Got(u32, Decoder),
+    Refused(Refusal, Decoder),
+}
+
+// A 64-bit literal, or a refusal; each with the decoder after it.
+pub enum LongRead {
+    Got(u64, Decoder),
+    Refused(Refusal, Decoder),
+}
+
+// A string: where its bytes start, how many there are, and the decoder after it.
+pub struct Text {
+    pub start: usize,
+    pub length: usize,
+    pub next: Decoder,
+}
+
+// A string, or a refusal with the decoder after it.
+pub enum TextRead {
+    Got(Text),
+    Refused(Refusal, Decoder),
+}
+
+// The five header words, and a refusal's number and place; the words are 0 where the number is not.
+pub struct HeaderRead {
+    pub refusal: Refusal,
+    pub words: [u32; 5],
+}
+
+// Outside functions; in a function, outside its blocks; in a block.
+pub enum State {
+    Outside,
+    Function,
+    Block,
+}
+
+// A cell of the layout table: the tag and the state after it, or the number of a refusal.
+pub enum Cell {
+    Tagged(u8, State),
+    Refuses(u8),
+}
+
+// The eight words of an instruction record.
+pub struct Fields {
+    pub head: u32,
+    pub tag: u32,
+    pub offset: u32,
+    pub rtype: u32,
+    pub rid: u32,
+    pub start: u32,
+    pub count: u32,
+    pub words: u32,
+}
+
+// How many instruction records, log bytes, string bytes and type entries: those kept, or those that there is room for.
+pub struct Counts {
+    pub instructions: usize,
+    pub log: usize,
+    pub strings: usize,
+    pub types: usize,
+}
+
+// What a load answers: the number (0 accepted), its byte offset, its instruction index, its value; the header words; the counts.
+pub struct Loaded {
+    pub number: u32,
+    pub offset: usize,
+    pub index: usize,
+    pub value: u32,
+    pub header: [u32; 5],
+    pub counts: Counts,
+}
+
+// What a writer answers: the number (0 written), the index of the first bad record or 0, the bytes written.
+pub struct Written {
+    pub number: u32,
+    pub index: usize,
+    pub bytes: usize,
+}
+
+// Whether a module is standing: the number (0 or 30), the index of the first bad record or 0, yes or no.
+pub struct Stands {
+    pub number: u32,
+    pub index: usize,
+    pub yes: bool,
+}
