@@ -11,8 +11,8 @@ use Rattle.spec.specs.Words
 use Rattle.spec.specs.Words.{bytesOf}
 use Rattle.spec.specs.Text
 use Rattle.spec.specs.Reader
-use Rattle.spec.specs.Decoder
-use Rattle.spec.specs.Decoder.{noWords}
+use Rattle.spec.specs.Header
+use Rattle.spec.specs.Header.{noWords}
 use Rattle.spec.specs.Grammar
 use Rattle.spec.specs.Grammar.{Item, Grammar, grammarBy, grammarOf, items}
 use Rattle.spec.specs.Table.{table}
@@ -140,7 +140,7 @@ by-items [] = refl
 by-items (fitting s x ∷ fs) = cc (load-builtin (roomFor s) s, by-items fs)
 
 computed : found (λ s. loadWith (grammarBy table) (roomFor s) s) fittings ≡ claimed fittings
-unfolding found claimed fittings shown storesOf table bytesOf Words.frontOf Words.wordsOf Words.bitsFrom Words.bitsOf Text.untilZero Text.leadOf Text.dueAfter Text.utf8From Text.isUtf8 Reader.wordAt Reader.readLong Reader.readText Decoder.headerFrom grammarBy Grammar.slotsOf Grammar.parametersOf Grammar.rowsOf Grammar.enumerantsOf Grammar.rowOf Grammar.listed Grammar.bitsListed Grammar.parametersFor Records.operandSize Records.operandLog Records.operandString Records.operandsLog Records.operandsStrings Records.stringStore Records.logFrom Records.fieldsOf Records.fieldWords Records.recordsFrom Layout.kindFrom Layout.opcodeKind Layout.layoutAt Layout.layoutOf Types.entryOf Types.define Types.track Match.readEnumerant Match.readOne Match.readEach Match.readOperand Match.readLiteralAs Match.readLiteral Match.readOnce Match.readEmbedded Match.readPair Match.readKind Match.readSlot Match.readRow Match.allRead Match.readInstr enough Load.roomFault Load.loadFrom loadWith Plain.plainOperand Plain.plainOperands Plain.plainInstr plainBy
+unfolding found claimed fittings shown storesOf table bytesOf Words.frontOf Words.wordsOf Words.bitsFrom Words.bitsOf Text.untilZero Text.leadOf Text.dueAfter Text.utf8From Text.isUtf8 Reader.wordAt Reader.readLong Reader.readText Header.headerFrom grammarBy Grammar.slotsOf Grammar.parametersOf Grammar.rowsOf Grammar.enumerantsOf Grammar.rowOf Grammar.listed Grammar.bitsListed Grammar.parametersFor Records.operandSize Records.operandLog Records.operandString Records.operandsLog Records.operandsStrings Records.stringStore Records.logFrom Records.fieldsOf Records.fieldWords Records.recordsFrom Layout.kindFrom Layout.opcodeKind Layout.layoutAt Layout.layoutOf Types.entryOf Types.define Types.track Match.readEnumerant Match.readOne Match.readEach Match.readOperand Match.readLiteralAs Match.readLiteral Match.readOnce Match.readEmbedded Match.readPair Match.readKind Match.readSlot Match.readRow Match.allRead Match.readInstr enough Load.roomFault Load.loadFrom loadWith Plain.plainOperand Plain.plainOperands Plain.plainInstr plainBy
 computed = refl
 
 -- the fourteen fittings hold

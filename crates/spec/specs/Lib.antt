@@ -2,7 +2,7 @@ pub mod Base
 pub mod Words
 pub mod Text
 pub mod Reader
-pub mod Decoder
+pub mod Header
 pub mod Kinds
 pub mod Grammar
 pub mod Table

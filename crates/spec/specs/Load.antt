@@ -16,7 +16,7 @@ use Rattle.spec.specs.declared.Loaded.{Loaded}
 use Rattle.spec.specs.Base.{if_then_else_, has, joined}
 use Rattle.spec.specs.Records.{Instr, Placed, Entry, operandsLog, operandsStrings, recordSize, recordsFrom, logFrom, stringStore, entrySize, entryWords}
 use Rattle.spec.specs.Reader.{Reader, reader, Read, got, refused}
-use Rattle.spec.specs.Decoder.{noWords, headerFrom}
+use Rattle.spec.specs.Header.{noWords, headerFrom}
 use Rattle.spec.specs.Grammar.{Grammar, grammarOf, wellFormed}
 use Rattle.spec.specs.Layout.{layoutOf, endNumber}
 use Rattle.spec.specs.Types.{track}

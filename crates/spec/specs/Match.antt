@@ -5,14 +5,10 @@ use mathlib.Core.List.{List, [], _∷_, _++_}
 use mathlib.Core.Option.{Option, none, some}
 use lib.Dec.{eqb}
 use Rattle.spec.specs.declared.Limit.the-variants.{Unlimited, Words}
-use Rattle.spec.specs.declared.Decoder.{Decoder}
-use Rattle.spec.specs.declared.WordRead.{WordRead}
-use Rattle.spec.specs.declared.WordRead.the-variants.{Got as Word, Refused as NoWord}
 use Rattle.spec.specs.Base.{if_then_else_, isIn, every}
 use Rattle.spec.specs.Kinds.{isEnum, isResult, mayEmbed, isLong, isText}
-use Rattle.spec.specs.Reader.{Reader, Read, got, refused, Parse, after, _>>=_, _into_, give, refusal, refuse, refuseWith, here, spent, withLimit, readWord, readLong, readText}
-use Rattle.spec.specs.Decoder.{readerOf, wordAnswer}
-use Rattle.spec.specs.Grammar.{Slot, slot, Grammar, wellFormed, grammarOf, rowOf, parametersFor}
+use Rattle.spec.specs.Reader.{Parse, _>>=_, _into_, give, refuse, refuseWith, here, spent, withLimit, readWord, readLong, readText}
+use Rattle.spec.specs.Grammar.{Slot, slot, Grammar, rowOf, parametersFor}
 use Rattle.spec.specs.Records.{Operand, narrow, wide, text, Instr, Entry, entry}
 use Rattle.spec.specs.Types.{entryOf}
 
@@ -39,11 +35,6 @@ readEnumerant g k = do
 -- the value alone
 abbrev pub valueOf : Known → ℕ
 valueOf (known v ps) = v
-
--- the decoder's enumerant read, of any kind and over any grammar: 24 where that is not well-formed
-unfoldable pub enumerantFrom : List ℕ → List ℕ → ℕ → Decoder → WordRead
-enumerantFrom g s k d =
-    if wellFormed g then wordAnswer ((readEnumerant (grammarOf g) k into valueOf) (readerOf s d)) else NoWord (refusal 24 0 0) d
 
 -- OPERANDS
 

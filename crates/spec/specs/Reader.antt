@@ -139,3 +139,13 @@ unfoldable pub readText : Parse (List ℕ)
 readText r =
     if limitPast (r .limit) (r .rest) then refuse 9 (r .at) r
     else textFound (untilZero (searched (r .limit) (r .rest))) r
+
+-- FROM ANY POSITION: the decoder's calls, for any position and limit
+
+-- the reader at a position of some bytes, with a limit
+unfoldable pub readerAt : List ℕ → ℕ → Limit → Reader
+readerAt s at l = reader at l (drop at s)
+
+-- a string; "or a string read from beyond them; the port gives 9 at the string's start"
+unfoldable pub readTextAt : List ℕ → ℕ → Limit → Read (List ℕ)
+readTextAt s at l = if ltb (length s) at then refuse 9 at (readerAt s at l) else readText (readerAt s at l)

@@ -6,12 +6,6 @@ pub enum Limit {
     Words(usize),
 }
 
-// A position in some bytes, and a limit.
-pub struct Decoder {
-    pub offset: usize,
-    pub limit: Limit,
-}
-
 // A refusal: its number in the table of refusals (0 for none), its place and its value.
 pub struct Refusal {
     pub number: u32,
@@ -19,29 +13,10 @@ pub struct Refusal {
     pub value: u32,
 }
 
-// A word, or a refusal; each with the decoder after it.
-pub enum WordRead {
-    Got(u32, Decoder),
-    Refused(Refusal, Decoder),
-}
-
-// A 64-bit literal, or a refusal; each with the decoder after it.
-pub enum LongRead {
-    Got(u64, Decoder),
-    Refused(Refusal, Decoder),
-}
-
-// A string: where its bytes start, how many there are, and the decoder after it.
-pub struct Text {
-    pub start: usize,
-    pub length: usize,
-    pub next: Decoder,
-}
-
-// A string, or a refusal with the decoder after it.
-pub enum TextRead {
-    Got(Text),
-    Refused(Refusal, Decoder),
+// Where a byte was found, or nowhere.
+pub enum Found {
+    At(usize),
+    Nothing,
 }
 
 // The five header words, and a refusal's number and place; the words are 0 where the number is not.
