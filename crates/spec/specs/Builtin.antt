@@ -2,7 +2,7 @@
 use Prim.Native.Nat.{ℕ, _/_, _%_}
 use mathlib.Core.Path.{_≡_, refl}
 use mathlib.Core.Bool.{true}
-use mathlib.Core.List.{List, [], _∷_, _++_}
+use mathlib.Core.List.{List, [], _∷_}
 use Rattle.spec.specs.Base.{joined}
 use Rattle.spec.specs.Words.{bytesOf, bitsFrom, bitsOf}
 use Rattle.spec.specs.Grammar.{Item, row, operand, enumerant, parameter, broken, items, itemsFrom, rule, next, rulesFrom, parametersOf, enumerantsOf, parameterless, allFlat, wellFormed, wellFormedItems}

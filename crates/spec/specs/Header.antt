@@ -1,6 +1,5 @@
 -- The header: "magic 07230203, version, generator, bound, reserved. The five header words come back together, by value."
 use Prim.Native.Nat.{ℕ, _*_, _/_}
-use mathlib.Core.Bool.{Bool, true, false}
 use mathlib.Core.List.{List, [], _∷_}
 use lib.Dec.{ltb, eqb}
 use lib.ListN.{length, take}

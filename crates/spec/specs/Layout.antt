@@ -1,6 +1,6 @@
 -- The layout: "a fixed table of nineteen kinds against three states" (the standard, 2.4, as reflect.rs and loader.rs read it).
 use Prim.Native.Nat.{ℕ, suc, _-_}
-use mathlib.Core.Bool.{Bool, true, false}
+use mathlib.Core.Bool.{Bool}
 use mathlib.Core.List.{List, [], _∷_, _++_}
 use lib.ListN.{getD}
 use Rattle.spec.specs.declared.State.{State}

@@ -1,12 +1,12 @@
 -- Plain form: nothing in the bytes that the header words and records do not say.
 use Prim.Native.Nat.{ℕ, _+_, _*_, _%_}
-use mathlib.Core.Bool.{Bool, true, false, _&&_}
+use mathlib.Core.Bool.{Bool, true, _&&_}
 use mathlib.Core.List.{List, [], _∷_}
 use lib.Dec.{eqb}
 use lib.ListN.{length, take, drop}
 use Rattle.spec.specs.declared.Counts.{Counts}
 use Rattle.spec.specs.Base.{implies, every}
-use Rattle.spec.specs.Records.{Operand, narrow, wide, text, Instr, Placed, operandSize, idSize}
+use Rattle.spec.specs.Records.{Operand, narrow, wide, text, Instr, operandSize, idSize}
 use Rattle.spec.specs.Load.{Outcome, load}
 
 -- is each byte zero

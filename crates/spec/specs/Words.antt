@@ -1,6 +1,5 @@
 -- Words: four bytes, low byte first (the standard, 3.1: the magic number tells the order of bytes; here it is low byte first).
 use Prim.Native.Nat.{ℕ, zero, suc, _+_, _*_, _/_, _%_}
-use mathlib.Core.Bool.{Bool, true, false}
 use mathlib.Core.List.{List, [], _∷_}
 use lib.Dec.{eqb}
 use lib.ListN.{getD}

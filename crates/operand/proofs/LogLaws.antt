@@ -1,0 +1,158 @@
+-- Laws of an operand's record in the log, and of what is kept in a store.
+use Prim.Native.Nat.{ℕ, _+_, _*_, _/_, _%_, _<_, _≤_}
+use mathlib.Core.Path.{_≡_, refl, ap, sym, _∙_}
+use mathlib.Core.Bool.{Bool, true, false}
+use mathlib.Core.List.{List, [], _∷_, _++_}
+use native.Mathlib.Omega.{arith}
+use native.Mathlib.Numerals.{add-one}
+use lib.ListN.{length, getD, take, set}
+use lib.Seq.{sets, length-sets, take-suc, take-length}
+use Rattle.spec.specs.Words.{bytesOf}
+use Rattle.spec.proofs.Store.{sets-append}
+use Rattle.operand.specs.declared.Parts.{Parts}
+use Rattle.operand.specs.Parts.{isTwo}
+use Rattle.operand.specs.Log.{recordBy, recordOf, lengthBy, recordLength, kept}
+
+-- THE RECORD'S LENGTH
+
+-- a record of two words
+pub length-two : (p : Parts) → isTwo (p .kind) ≡ true → 9 ≡ recordLength p
+unfolding recordLength lengthBy
+length-two p e = simp e
+
+-- a record of one word
+pub length-one : (p : Parts) → isTwo (p .kind) ≡ false → 5 ≡ recordLength p
+unfolding recordLength lengthBy
+length-one p e = simp e
+
+-- one word or two
+length-cases : (b : Bool) → (5 ≤ lengthBy b) × (lengthBy b ≤ 9)
+unfolding lengthBy
+length-cases true = (omega arith, omega arith)
+length-cases false = (omega arith, omega arith)
+
+-- a record has five bytes at least and nine at most
+pub length-range : (p : Parts) → (5 ≤ recordLength p) × (recordLength p ≤ 9)
+unfolding recordLength
+length-range p = length-cases (isTwo (p .kind))
+
+length-by : (b : Bool) (k v : ℕ) → length (recordBy b k v) ≡ lengthBy b
+unfolding recordBy lengthBy bytesOf
+length-by true k v = refl
+length-by false k v = refl
+
+-- so long is the record
+pub length-record : (p : Parts) → length (recordOf p) ≡ recordLength p
+unfolding recordOf recordLength
+length-record p = length-by (isTwo (p .kind)) (p .kind) (p .value)
+
+-- THE RECORD STORED
+
+-- a multiple of 256 more changes no byte
+more-of : (q x : ℕ) → (256 * q + x) % 256 ≡ x % 256
+more-of q x = omega arith
+
+-- a word's bytes are those of its low 32 bits
+bytes-low : (v : ℕ) → bytesOf (v % 4294967296) ≡ bytesOf v
+unfolding bytesOf
+bytes-low v =
+    let a : v % 4294967296 % 256 ≡ v % 256 = omega arith in
+    let b : v / 256 ≡ 256 * (65536 * (v / 4294967296)) + v % 4294967296 / 256 = omega arith in
+    let c : v / 65536 ≡ 256 * (256 * (v / 4294967296)) + v % 4294967296 / 65536 = omega arith in
+    let d : v / 16777216 ≡ 256 * (v / 4294967296) + v % 4294967296 / 16777216 = omega arith in
+    simp (a, b, c, d, more-of)
+
+module _ (l l₁ : List ℕ) (at : ℕ) (p : Parts) (e : l₁ ≡ sets (set l at (p .kind)) (at + 1) (bytesOf (p .value % 4294967296))) where
+  -- the kind and the first word
+  first : l₁ ≡ sets l at (p .kind ∷ bytesOf (p .value % 4294967296))
+  first = e ∙ ap (λ (k : ℕ). sets (set l at (p .kind)) k (bytesOf (p .value % 4294967296))) (add-one at)
+
+  -- no byte more or less
+  pub first-length : length l₁ ≡ length l
+  first-length = ap length first ∙ length-sets l at (p .kind ∷ bytesOf (p .value % 4294967296))
+
+  -- there is room for the second word
+  pub second-room : at + recordLength p ≤ length l → isTwo (p .kind) ≡ true → at + 5 + 4 ≤ length l₁
+  second-room h f = omega (arith, first-length, length-two p f)
+
+  -- that is all for one word
+  pub stored-one : isTwo (p .kind) ≡ false → l₁ ≡ sets l at (recordOf p)
+  unfolding recordOf recordBy
+  stored-one f = first ∙ ap (λ (bs : List ℕ). sets l at (p .kind ∷ bs)) (bytes-low (p .value)) ∙ simp f
+
+  -- no byte more or less after the second word
+  pub second-length : (l₂ : List ℕ) → l₂ ≡ sets l₁ (at + 5) (bytesOf (p .value / 4294967296)) → length l₂ ≡ length l
+  second-length l₂ g = ap length g ∙ length-sets l₁ (at + 5) (bytesOf (p .value / 4294967296)) ∙ first-length
+
+  -- the second word follows
+  pub stored-two : (l₂ : List ℕ) → l₂ ≡ sets l₁ (at + 5) (bytesOf (p .value / 4294967296)) → isTwo (p .kind) ≡ true → l₂ ≡ sets l at (recordOf p)
+  unfolding recordOf recordBy bytesOf
+  stored-two l₂ g f =
+      g ∙ ap (λ (z : List ℕ). sets z (at + 5) (bytesOf (p .value / 4294967296))) first
+      ∙ sets-append (p .kind ∷ bytesOf (p .value % 4294967296)) (bytesOf (p .value / 4294967296)) l at
+      ∙ simp f
+
+-- WHAT IS KEPT
+
+-- bytes that are kept
+pub kept-yes : (k : Bool) (l : List ℕ) (at : ℕ) (bs x : List ℕ) → k ≡ true → x ≡ sets l at bs → x ≡ kept k l at bs
+unfolding kept
+kept-yes k l at bs x e h = rw e h
+
+-- bytes that are not
+pub kept-no : (k : Bool) (l : List ℕ) (at : ℕ) (bs : List ℕ) → k ≡ false → l ≡ kept k l at bs
+unfolding kept
+kept-no k l at bs e = rw e
+
+-- no bytes
+pub kept-nil : (k : Bool) (l : List ℕ) (at : ℕ) → l ≡ kept k l at []
+unfolding kept
+kept-nil true l at = refl
+kept-nil false l at = refl
+
+-- the store keeps its length
+pub length-kept : (k : Bool) (l : List ℕ) (at : ℕ) (bs : List ℕ) → length (kept k l at bs) ≡ length l
+unfolding kept
+length-kept true l at bs = length-sets l at bs
+length-kept false l at bs = refl
+
+-- bytes after bytes
+pub kept-append : (k : Bool) (l : List ℕ) (at : ℕ) (a b : List ℕ) → kept k (kept k l at a) (at + length a) b ≡ kept k l at (a ++ b)
+unfolding kept
+kept-append true l at a b = sets-append a b l at
+kept-append false l at a b = refl
+
+-- COPYING
+
+-- what a copying loop has done: so many bytes
+pub record Copied (l₀ l s : List ℕ) (at i : ℕ) : Type 0 where
+  pub stored : l ≡ sets l₀ at (take i s)
+  pub within : i ≤ length s
+
+-- none at first
+pub copy-start : (l s : List ℕ) (at : ℕ) → Copied l l s at 0
+copy-start l s at = record { stored = refl; within = omega arith }
+
+module _ {l₀ l s : List ℕ} {at i : ℕ} (r : Copied l₀ l s at i) where
+  -- no byte more or less
+  pub copy-length : length l ≡ length l₀
+  copy-length = ap length (r .stored) ∙ length-sets l₀ at (take i s)
+
+  -- one byte further
+  pub copy-turn : i < length s → Copied l₀ (set l (at + i) (getD s i 0)) s at (i + 1)
+  copy-turn h =
+      let size : length (take i s) ≡ i = lib.Seq.length-take-le i s (omega arith) in
+      record {
+        stored =
+            ap (λ (x : List ℕ). sets x (at + i) (getD s i 0 ∷ [])) (r .stored)
+            ∙ ap (λ (k : ℕ). sets (sets l₀ at (take i s)) (at + k) (getD s i 0 ∷ [])) (sym size)
+            ∙ sets-append (take i s) (getD s i 0 ∷ []) l₀ at
+            ∙ ap (λ (bs : List ℕ). sets l₀ at bs) (sym (take-suc s i 0 h) ∙ ap (λ (k : ℕ). take k s) (sym (add-one i)));
+        within = omega arith;
+      }
+
+  -- all of them
+  pub copy-end : length s ≤ i → l ≡ sets l₀ at s
+  copy-end h =
+      let e : i ≡ length s = omega (arith, r .within) in
+      r .stored ∙ ap (λ (k : ℕ). sets l₀ at (take k s)) e ∙ ap (λ (bs : List ℕ). sets l₀ at bs) (take-length s)
