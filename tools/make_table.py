@@ -3,6 +3,7 @@
 
     tools/make_table.py SRC                  write Table.antt to standard output
     tools/make_table.py SRC --bytes          write the raw grammar bytes instead
+    tools/make_table.py SRC --code           write the function that holds them, run.rt, instead
     tools/make_table.py SRC --check FILE     compare FILE with what would be written
 
 SRC is the folder with the crate's sources. Four files of it are read:
@@ -61,6 +62,22 @@ use Rattle.spec.specs.Grammar.{Item, row, operand, enumerant, parameter}
 -- the built-in grammar's items
 unfoldable pub table : List Item
 table =
+"""
+
+
+CODE = """\
+// The built-in grammar's bytes. Made by tools/make_table.py from the files of the crate rspirv 0.11.0+1.5.4. Not to be
+// changed by hand.
+ghost use mathlib.Core.Path.{_≡_};
+ghost use Rattle.spec.specs.Builtin.{builtin};
+
+// The built-in grammar as one run of bytes.
+pub fn table() -> [u8; %d]
+    ensures { λ r. ⌜ r ≡ builtin ⌝ }
+{
+    *b"\\
+%s"
+}
 """
 
 
@@ -166,16 +183,24 @@ def make_text(lines):
     return (made + "    []\n").encode("utf-8")
 
 
+def make_code(raw):
+    """The file run.rt, with 24 bytes to a line."""
+    shown = ["".join(f"\\x{byte:02x}" for byte in raw[at : at + 24]) for at in range(0, len(raw), 24)]
+    return (CODE % (len(raw), "\\\n".join(shown))).encode("utf-8")
+
+
 def main():
     usage = argparse.ArgumentParser(description=__doc__, formatter_class=argparse.RawDescriptionHelpFormatter)
     usage.add_argument("src", metavar="SRC", type=pathlib.Path)
-    usage.add_argument("--bytes", action="store_true")
+    form = usage.add_mutually_exclusive_group()
+    form.add_argument("--bytes", action="store_true")
+    form.add_argument("--code", action="store_true")
     usage.add_argument("--check", metavar="FILE", type=pathlib.Path)
     asked = usage.parse_args()
     try:
         lines = make_lines(asked.src)
         raw = make_bytes(lines)
-        made = raw if asked.bytes else make_text(lines)
+        made = raw if asked.bytes else make_code(raw) if asked.code else make_text(lines)
         if asked.check is None:
             sys.stdout.buffer.write(made)
         elif asked.check.read_bytes() == made:
