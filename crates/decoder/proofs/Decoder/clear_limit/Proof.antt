@@ -1,0 +1,13 @@
+-- `Decoder::clear_limit` meets its contract: the definition opened.
+-- Assumes nothing.
+use mathlib.Core.Path.{refl}
+use Rattle.decoder.specs.Answer.{clearLimit}
+use Rattle.decoder.proofs.Decoder.clear_limit.Statement.{statement}
+use Rattle.decoder.proofs.Decoder.clear_limit.Tie as tie
+
+returns : tie.Need-returns
+unfolding clearLimit
+returns c = refl
+
+pub clear-limit-spec : {M : Type 1} → statement M
+clear-limit-spec = tie.close (tie.spec returns)

@@ -1,0 +1,4 @@
+pub mod Front
+pub mod Laws
+pub mod Steps
+pub mod Heading

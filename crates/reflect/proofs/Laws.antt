@@ -1,0 +1,96 @@
+-- The laws of opcode kinds and of the layout table.
+use Prim.Native.Nat.{ℕ, zero, suc, _+_, _-_, _<_, _≤_}
+use mathlib.Core.Path.{_≡_, refl, ap, sym, _∙_}
+use mathlib.Core.Bool.{Bool, true, false}
+use mathlib.Core.List.{List, [], _∷_}
+use native.Mathlib.Omega.{arith}
+use native.Mathlib.Nat.{add-zero, add-suc, suc-add}
+use lib.Dec.{T, eqb, eqb→eq}
+use lib.ListN.{length, getD}
+use mir.Facts.{and-yes}
+use Rattle.spec.specs.Base.{if_then_else_, isIn, every}
+use Rattle.spec.specs.declared.State.{State}
+use Rattle.spec.specs.declared.State.the-variants.{Outside, Function, Block}
+use Rattle.spec.specs.declared.Cell.{Cell}
+use Rattle.spec.specs.Layout.{opcodesByKind, opcodeKind, kindFrom, layoutAt, layoutOf}
+use Rattle.reflect.specs.Column.{columnOf}
+use Rattle.reflect.proofs.Arms.{NoneOf, pass, passed, clear, absent}
+
+-- OPCODE KINDS
+
+-- an opcode that equals another has the other's kind
+pub kind-of : {x y : ℕ} → x ≡ y → opcodeKind y ≡ opcodeKind x
+kind-of e = sym (ap opcodeKind e)
+
+module _ (arms : List (List ℕ)) {a b x : ℕ} (none : NoneOf arms x) (low : a ≤ x) (high : x < b) where
+  -- an opcode of a range whose opcodes, but for the keys, are all of one kind
+  pub run-kind : {k : ℕ} → T (pass arms a b (λ y. eqb k (opcodeKind y))) → k ≡ opcodeKind x
+  run-kind {k} t = eqb→eq k (opcodeKind x) (passed arms none low high (λ y. eqb k (opcodeKind y)) t)
+
+  -- an opcode that is in none of the lists is of the kind after them
+  past : (n : ℕ) (ls : List (List ℕ)) → T (every (clear arms a b) ls) → kindFrom x n ls ≡ n + length ls
+  unfolding kindFrom
+  past n [] t = sym (add-zero n)
+  past n (l ∷ ls) t =
+      let u = and-yes (clear arms a b l) (every (clear arms a b) ls) t in
+      rw (absent arms none low high l (u .0)) (past (suc n) ls (u .1) ∙ suc-add n (length ls) ∙ sym (add-suc n (length ls)))
+
+  -- "every other opcode is of kind 19"
+  pub other-kind : T (every (clear arms a b) opcodesByKind) → 19 ≡ opcodeKind x
+  unfolding opcodeKind
+  other-kind t = sym (past 1 opcodesByKind t)
+
+-- of a number and one after it, either keeps the bounds
+either : (t : Bool) (n later most : ℕ) → suc n ≤ later → later ≤ most → (n ≤ (if t then n else later)) × ((if t then n else later) ≤ most)
+either true n later most h g = ((omega arith), (omega arith))
+either false n later most h g = ((omega arith), g)
+
+-- a kind that is counted from n is n at least, and at most the one after the lists
+kind-counted : (x n : ℕ) (ls : List (List ℕ)) → (n ≤ kindFrom x n ls) × (kindFrom x n ls ≤ n + length ls)
+unfolding kindFrom
+kind-counted x n [] = ((omega arith), (omega arith))
+kind-counted x n (l ∷ ls) =
+    let c = kind-counted x (suc n) ls in either (isIn x l) n (kindFrom x (suc n) ls) (n + suc (length ls)) (c .0) (omega (arith, c .1))
+
+-- "the kind of an opcode, 1 to 19"
+pub kind-within : (opcode : ℕ) → (1 ≤ opcodeKind opcode) × (opcodeKind opcode ≤ 19)
+unfolding opcodeKind
+kind-within opcode = kind-counted opcode 1 opcodesByKind
+
+-- so is what a call answers for it
+pub kind-given : (opcode kind : ℕ) → kind ≡ opcodeKind opcode → (1 ≤ kind) × (kind ≤ 19)
+kind-given opcode kind e = rw e (kind-within opcode)
+
+-- THE TABLE
+
+-- the cells of a kind, in the order of the columns
+abbrev pub lineOf : ℕ → List Cell
+lineOf kind = layoutAt kind Outside ∷ layoutAt kind Function ∷ layoutAt kind Block ∷ []
+
+-- the lines of n kinds, from kind a on
+abbrev pub linesFrom : ℕ → ℕ → List (List Cell)
+linesFrom a zero = []
+linesFrom a (suc n) = lineOf a ∷ linesFrom (suc a) n
+
+-- each of them is the line of its kind
+line-at : (n a i : ℕ) → i < n → getD (linesFrom a n) i [] ≡ lineOf (a + i)
+line-at zero a i h = absurd (omega arith)
+line-at (suc n) a zero h = ap lineOf (sym (add-zero a))
+line-at (suc n) a (suc i) h = line-at n (suc a) i (omega arith) ∙ ap lineOf (suc-add a i ∙ sym (add-suc a i))
+
+-- and has in each column the cell of its state
+cell-at : (d : Cell) (kind : ℕ) (s : State) → getD (lineOf kind) (columnOf s) d ≡ layoutAt kind s
+cell-at d kind Outside = refl
+cell-at d kind Function = refl
+cell-at d kind Block = refl
+
+-- the nineteen lines have every cell of the layout
+pub cell-is : (d : Cell) (kind c : ℕ) (s : State) → (1 ≤ kind) × (kind ≤ 19) → c ≡ columnOf s → getD (getD (linesFrom 1 19) (kind - 1) []) c d ≡ layoutAt kind s
+cell-is d kind c s h e =
+    let k : 1 + (kind - 1) ≡ kind = omega arith in
+    rw e (ap (λ (l : List Cell). getD l (columnOf s) d) (line-at 19 1 (kind - 1) (omega arith) ∙ ap lineOf k) ∙ cell-at d kind s)
+
+-- what the table says of an opcode's kind it says of the opcode
+pub place-is : (opcode kind : ℕ) (s : State) (r : Cell) → r ≡ layoutAt kind s → kind ≡ opcodeKind opcode → r ≡ layoutOf opcode s
+unfolding layoutOf
+place-is opcode kind s r e f = e ∙ ap (λ (k : ℕ). layoutAt k s) f
