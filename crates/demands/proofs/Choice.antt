@@ -1,0 +1,41 @@
+-- Tests and what is chosen by them.
+use mathlib.Core.Path.{_≡_, refl}
+use mathlib.Core.Bool.{Bool, true, false, _&&_, _||_, and-eq-true-iff, true≢false, false≢true}
+use Rattle.spec.specs.Base.{if_then_else_, implies}
+
+-- the first of two tests that both hold
+pub left : (a b : Bool) → (a && b) ≡ true → a ≡ true
+left a b e = and-eq-true-iff a b .0 e .0
+
+-- the second of them
+pub right : (a b : Bool) → (a && b) ≡ true → b ≡ true
+right a b e = and-eq-true-iff a b .0 e .1
+
+-- two tests that hold
+pub both : {a b : Bool} → a ≡ true → b ≡ true → (a && b) ≡ true
+both {a} {b} e f = and-eq-true-iff a b .1 (e, f)
+
+-- what is asked where a test holds
+pub asked : (a b : Bool) → implies a b ≡ true → a ≡ true → b ≡ true
+asked true b e t = e
+asked false b e t = absurd (false≢true t)
+
+-- the second of two tests, of which the first fails
+pub other : (a b : Bool) → (a || b) ≡ true → a ≡ false → b ≡ true
+other true b e f = absurd (true≢false f)
+other false b e f = e
+
+-- a test that cannot hold fails
+pub fails : (a : Bool) → (a ≡ true → ⊥) → a ≡ false
+fails true n = absurd (n refl)
+fails false n = refl
+
+-- one of two values has what both have
+pub either : {A : Type 0} (P : A → Type 0) (c : Bool) (a b : A) → P a → P b → P (if c then a else b)
+either P true a b x y = x
+either P false a b x y = y
+
+-- or what each has where the test chooses it
+pub either-by : {A : Type 0} (P : A → Type 0) (c : Bool) (a b : A) → (c ≡ true → P a) → (c ≡ false → P b) → P (if c then a else b)
+either-by P true a b x y = x refl
+either-by P false a b x y = y refl
