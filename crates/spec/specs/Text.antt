@@ -10,7 +10,7 @@ use Rattle.spec.specs.Base.{if_then_else_, within}
 -- WHERE A STRING ENDS
 
 -- a byte before others, where they are there
-abbrev consIn : ℕ → Option (List ℕ) → Option (List ℕ)
+abbrev pub consIn : ℕ → Option (List ℕ) → Option (List ℕ)
 consIn x none = none
 consIn x (some xs) = some (x ∷ xs)
 
