@@ -4,6 +4,7 @@
     tools/make_table.py SRC                  write Table.antt to standard output
     tools/make_table.py SRC --bytes          write the raw grammar bytes instead
     tools/make_table.py SRC --code           write the function that holds them, run.rt, instead
+    tools/make_table.py SRC --index          write the function that holds its index, index.rt, instead
     tools/make_table.py SRC --check FILE     compare FILE with what would be written
 
 SRC is the folder with the crate's sources. Four files of it are read:
@@ -79,6 +80,27 @@ pub fn table() -> [u8; %d]
 %s"
 }
 """
+
+INDEX = """\
+// The built-in grammar's index, prepared. Made by tools/make_table.py from the files of the crate rspirv 0.11.0+1.5.4. Not to be
+// changed by hand.
+ghost use Rattle.spec.specs.Builtin.{builtin};
+ghost use Rattle.grammar.specs.Index.{Indexed};
+
+const INDEX: [u16; %d] = [
+%s
+];
+
+// The index of the built-in grammar: guesses, the count of rows and enumerants, and their places.
+pub fn index() -> [u16; %d]
+    ensures { λ r. ⌜ Indexed builtin r ⌝ }
+{
+    INDEX
+}
+"""
+
+# How many guesses an index begins with: one for each opcode below 512 and each kind below 64.
+OPCODES, KINDS = 512, 64
 
 
 def fail(message):
@@ -189,18 +211,42 @@ def make_code(raw):
     return (CODE % (len(raw), "\\\n".join(shown))).encode("utf-8")
 
 
+def make_index(lines):
+    """The file index.rt: for each opcode and kind the rank to look at first, then the count of marks and their places."""
+    guesses, places, at = [0] * (OPCODES + KINDS), [], 0
+    for name, *numbers in (item for line, _ in lines for item in line):
+        if name == "row" and numbers[0] < OPCODES:
+            guesses[numbers[0]] = len(places)
+        if name == "enumerant" and numbers[1] == 0:
+            guesses[OPCODES + numbers[0]] = len(places)
+        if name in ("row", "enumerant"):
+            places.append(at)
+        at += struct.calcsize(LAYOUT[name][1])
+    made = guesses + [len(places)] + places
+    shown = [", ".join(map(str, made[at : at + 16])) for at in range(0, len(made), 16)]
+    return (INDEX % (len(made), "\n".join(f"    {line}," for line in shown), len(made))).encode("utf-8")
+
+
 def main():
     usage = argparse.ArgumentParser(description=__doc__, formatter_class=argparse.RawDescriptionHelpFormatter)
     usage.add_argument("src", metavar="SRC", type=pathlib.Path)
     form = usage.add_mutually_exclusive_group()
     form.add_argument("--bytes", action="store_true")
     form.add_argument("--code", action="store_true")
+    form.add_argument("--index", action="store_true")
     usage.add_argument("--check", metavar="FILE", type=pathlib.Path)
     asked = usage.parse_args()
     try:
         lines = make_lines(asked.src)
         raw = make_bytes(lines)
-        made = raw if asked.bytes else make_code(raw) if asked.code else make_text(lines)
+        if asked.bytes:
+            made = raw
+        elif asked.code:
+            made = make_code(raw)
+        elif asked.index:
+            made = make_index(lines)
+        else:
+            made = make_text(lines)
         if asked.check is None:
             sys.stdout.buffer.write(made)
         elif asked.check.read_bytes() == made:

@@ -1,0 +1,3 @@
+pub mod FlatLaws
+pub mod ItemLaws
+pub mod RuleLaws
