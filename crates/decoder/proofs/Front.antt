@@ -42,12 +42,14 @@ few-short (a ∷ b ∷ c ∷ d ∷ r) h = absurd (omega arith)
 pub front-short : (s : List ℕ) (at : ℕ) → length s < at + 4 → frontOf (drop at s) ≡ short
 front-short s at h = few-short (drop at s) (simp length-drop (omega arith))
 
--- what holds of a word that is there, and of too few bytes, holds of the first word of the rest
+-- What holds of a word that is there, and of too few bytes, holds of the first word of the rest.
 module _ (s : List ℕ) (at : ℕ) (P : Front → Type 0)
     (there : at + 4 ≤ length s → P (front (fourAt at s) (drop (at + 4) s))) (few : length s < at + 4 → P short) where
+  -- by the test for four bytes
   by-test : (t : Bool) → leb (at + 4) (length s) ≡ t → P (frontOf (drop at s))
   by-test true e = let h : at + 4 ≤ length s = leb-true (at + 4) (length s) e in rw front-got (there h)
   by-test false e = let h : length s < at + 4 = leb-false (at + 4) (length s) e in rw front-short (few h)
 
+  -- so of the first word
   pub by-front : P (frontOf (drop at s))
   by-front = by-test (leb (at + 4) (length s)) refl

@@ -18,9 +18,10 @@ unfolding wordsOf
 words-more s n at h = ap (λ (l : List ℕ). wordsOf (take (suc (suc (suc (suc n)))) l)) (drop-four s at h)
 
 -- the five words of a header
-abbrev pub five : List ℕ → List ℕ
+abbrev five : List ℕ → List ℕ
 five s = fourAt 0 s ∷ fourAt 4 s ∷ fourAt 8 s ∷ fourAt 12 s ∷ fourAt 16 s ∷ []
 
+-- are the whole words of its bytes
 five-words : (s : List ℕ) → 20 ≤ length s → wordsOf (take 20 s) ≡ five s
 unfolding wordsOf
 five-words s h =
@@ -36,6 +37,7 @@ unfolding headerFrom
 header-short s x e h = simp (lt-ltb (length s) 20 h) e
 
 module _ (s : List ℕ) (h : 20 ≤ length s) where
+  -- twenty bytes or more: the header goes by those words
   header-is : headerFrom s ≡ headerBy (five s)
   unfolding headerFrom
   header-is = simp (le-ltb (length s) 20 h) (ap headerBy (five-words s h))

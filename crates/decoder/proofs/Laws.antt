@@ -14,7 +14,7 @@ use Rattle.spec.specs.declared.Limit.the-variants.{Unlimited, Words}
 use Rattle.spec.specs.declared.Refusal.{Refusal}
 use Rattle.spec.specs.Words.{frontOf, fourAt, long}
 use Rattle.spec.specs.Text.{untilZero, textWords, isUtf8}
-use Rattle.spec.specs.Reader.{reader, Read, got, refused, after, give, refusal, streamWord, wordAt, readWord, readLong, readerAt, less, searched, noZero, textFound, limitPast, readText, readTextAt}
+use Rattle.spec.specs.Reader.{reader, Read, got, refused, Parse, after, give, refusal, streamWord, wordAt, readWord, readLong, readerAt, less, searched, noZero, textFound, limitPast, readText, readTextAt}
 use Rattle.text.specs.Zero.{zeroAfter, zeroIn}
 use Rattle.text.proofs.Laws.{zero-at}
 use Rattle.decoder.specs.declared.Decoder.{Decoder}
@@ -66,13 +66,15 @@ took-two a b = record {
 
 -- WORDS
 
--- what holds of each refusal, and of the word at the position where it was taken, holds of the word that is read
+-- What holds of each refusal, and of the word at the position where it was taken, holds of the word that is read.
 module _ (s : List ℕ) (P : Read ℕ → Type 0) (bad : (x : Refusal) (e : Decoder) → P (refused x (readerOf s e))) where
+  -- a word of the stream
   by-stream : (at : ℕ) (l : Limit) → (at + 4 ≤ length s → P (got (fourAt at s) (readerOf s (decoder (at + 4) l))))
       → P (streamWord at l (drop at s) (frontOf (drop at s)))
   unfolding readerOf readerAt
   by-stream at l good = by-front s at (λ f. P (streamWord at l (drop at s) f)) good (λ h. bad (refusal 9 at 0) (decoder at l))
 
+  -- a word, by the limit
   by-limit : (at : ℕ) (l : Limit)
       → ((e : Decoder) → at + 4 ≤ length s → Took (decoder at l) e 1 → P (got (fourAt at s) (readerOf s e)))
       → P (readWord (readerOf s (decoder at l)))
@@ -84,6 +86,7 @@ module _ (s : List ℕ) (P : Read ℕ → Type 0) (bad : (x : Refusal) (e : Deco
       let t : Took (decoder at (Words (suc n))) (decoder (at + 4) (Words n)) 1 = rw p at (took-words at 1 (suc n) (omega arith)) in
       by-stream at (Words n) (λ h. good (decoder (at + 4) (Words n)) h t)
 
+  -- a word
   by-word : (d : Decoder)
       → ((e : Decoder) → d .offset + 4 ≤ length s → Took d e 1 → P (got (fourAt (d .offset) s) (readerOf s e)))
       → P (readWord (readerOf s d))
@@ -96,6 +99,7 @@ pub record WordGot (s : List ℕ) (d e : Decoder) (w : ℕ) (y : Read ℕ) : Typ
   pub inside : d .offset + 4 ≤ length s
   pub took : Took d e 1
 
+-- from a word's answer
 pub word-got : (s : List ℕ) (d e : Decoder) (w : ℕ) → Word w e ≡ wordFrom s d → WordGot s d e w (readWord (readerOf s d))
 unfolding wordFrom wordAnswer readerOf readerAt
 word-got s d e w =
@@ -121,13 +125,17 @@ word-refused s d e x =
 
 -- 64-BIT LITERALS
 
+-- what is read after a literal's low word
+abbrev pub highAfter : ℕ → Parse ℕ
+highAfter low r = after (readWord r) (λ high. give (long low high))
+
 -- what holds of each refusal, and of the two words at the position where they were taken, holds of the literal that is read
 by-long : (s : List ℕ) (P : Read ℕ → Type 0) → ((x : Refusal) (e : Decoder) → P (refused x (readerOf s e))) → (d : Decoder)
     → ((e : Decoder) → d .offset + 8 ≤ length s → Took d e 2 → P (got (long (fourAt (d .offset) s) (fourAt (d .offset + 4) s)) (readerOf s e)))
     → P (readLong (readerOf s d))
 unfolding readLong
 by-long s P bad d good =
-    by-word s (λ y. P (after y (λ low r. after (readWord r) (λ high. give (long low high))))) bad d
+    by-word s (λ y. P (after y highAfter)) bad d
     (λ e i t.
     by-word s (λ y. P (after y (λ high. give (long (fourAt (d .offset) s) high)))) bad e
     (λ f j u.
@@ -142,6 +150,7 @@ pub record LongGot (s : List ℕ) (d e : Decoder) (v : ℕ) (y : Read ℕ) : Typ
   pub inside : d .offset + 8 ≤ length s
   pub took : Took d e 2
 
+-- from a literal's answer
 pub long-got : (s : List ℕ) (d e : Decoder) (v : ℕ) → Long v e ≡ longFrom s d → LongGot s d e v (readLong (readerOf s d))
 unfolding longFrom longAnswer readerOf readerAt
 long-got s d e v =
@@ -201,9 +210,10 @@ unfolding readerAt
 by-none s P at Unlimited bad = bad (refusal 9 at 0)
 by-none s P at (Words n) bad = bad (refusal 8 (at + 4 * n) 0)
 
--- what holds of each refusal, and of the bytes at the position where they were taken, holds of the string that is read
+-- What holds of each refusal, and of the bytes at the position where they were taken, holds of the string that is read.
 module _ (s : List ℕ) (P : Read (List ℕ) → Type 0) (at : ℕ) (l : Limit) (bad : (x : Refusal) → P (refused x (readerAt s at l)))
     (good : (n : ℕ) (e : Decoder) → at + n < length s → Took (decoder at l) e (textWords n) → P (got (slice at (at + n) s) (readerOf s e))) where
+  -- a string that ends, UTF-8 or not
   by-utf8 : (bs : List ℕ) (t : Bool) → isUtf8 bs ≡ t → at ≤ length s → untilZero (searched l (drop at s)) ≡ some bs
       → P (textFound (some bs) (readerAt s at l))
   unfolding readerOf readerAt
@@ -217,17 +227,20 @@ module _ (s : List ℕ) (P : Read (List ℕ) → Type 0) (at : ℕ) (l : Limit) 
       rw (g, p) (good (length bs) (decoder (at + 4 * k) (less l k)) (omega (arith, z .0, length-drop at s)) (ends-took at l (drop at s) bs e))
   by-utf8 bs false g h e = rw g (bad (refusal 11 at 0))
 
+  -- a string that ends or not
   by-end : (o : Option (List ℕ)) → at ≤ length s → untilZero (searched l (drop at s)) ≡ o → P (textFound o (readerAt s at l))
   unfolding readerAt
   by-end none h e = by-none s P at l bad
   by-end (some bs) h e = by-utf8 bs (isUtf8 bs) refl h e
 
+  -- by the tests of the position and of the limit
   by-tests : (t u : Bool) → ltb (length s) at ≡ t → limitPast l (drop at s) ≡ u → P (readTextAt s at l)
   unfolding readTextAt readText readerAt
   by-tests true u e f = rw e (bad (refusal 9 at 0))
   by-tests false true e f = rw (e, f) (bad (refusal 9 at 0))
   by-tests false false e f = rw (e, f) (by-end (untilZero (searched l (drop at s))) (ltb-false (length s) at e) refl)
 
+  -- a string
   by-text : P (readTextAt s at l)
   by-text = by-tests (ltb (length s) at) (limitPast l (drop at s)) refl refl
 
@@ -238,6 +251,7 @@ pub record TextGot (s : List ℕ) (d : Decoder) (t : Text) (y : Read (List ℕ))
   pub inside : t .start + t .length < length s
   pub took : Took d (t .next) (textWords (t .length))
 
+-- from a string's answer
 pub text-got : (s : List ℕ) (d : Decoder) (t : Text) → GotText t ≡ textFrom s d → TextGot s d t (readTextAt s (d .offset) (d .limit))
 unfolding textFrom textAnswer readerOf readerAt
 text-got s d t =

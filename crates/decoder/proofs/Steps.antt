@@ -6,8 +6,8 @@ use mathlib.Core.List.{List}
 use mathlib.Core.Option.{Option, none, some}
 use native.Mathlib.Omega.{arith}
 use borrow.Author.Tests.{lt-ltb, le-ltb, ltb-true, ltb-false, eqb-true, eqb-false}
-use lib.Dec.{ltb, eqb}
 use borrow.Rule.Slice.PartMut.{mid-len}
+use lib.Dec.{ltb, eqb}
 use lib.ListN.{length, take, drop, length-drop}
 use lib.Seq.{take-all, length-take-le}
 use Rattle.spec.specs.declared.Limit.{Limit}
@@ -31,7 +31,7 @@ use Rattle.decoder.specs.declared.End.the-variants.{After, NoZero, NotUt
 use Rattle.decoder.specs.Answer.{decoder, readerOf, limitReached, wordAnswer, wordFrom, longAnswer, longFrom, textAnswer, textFrom}
 use Rattle.decoder.specs.Steps.{takeOne, endBy, endIn}
 use Rattle.decoder.proofs.Front.{front-got, front-short}
-use Rattle.decoder.proofs.Laws.{word-got, word-refused, ends-in}
+use Rattle.decoder.proofs.Laws.{word-got, word-refused, highAfter, ends-in}
 
 -- WORDS
 
@@ -39,19 +39,21 @@ use Rattle.decoder.proofs.Laws.{word-got, word-refused, ends-in}
 pub ends-short : (n at : ℕ) → n < 4 → true ≡ ltb n (at + 4)
 ends-short n at h = sym (lt-ltb n (at + 4) (omega arith))
 
--- of four bytes or more the test is on the bytes before the last word
+-- of four bytes or more the test goes by where the last word could start
 ends-by : (n at : ℕ) (t : Bool) → 4 ≤ n → ltb (n - 4) at ≡ t → ltb (n - 4) at ≡ ltb n (at + 4)
 ends-by n at true h e = e ∙ sym (lt-ltb n (at + 4) (omega (arith, ltb-true (n - 4) at e)))
 ends-by n at false h e = e ∙ sym (le-ltb n (at + 4) (omega (arith, ltb-false (n - 4) at e)))
 
+-- whichever way it comes out
 pub ends-long : (n at : ℕ) → 4 ≤ n → ltb (n - 4) at ≡ ltb n (at + 4)
 ends-long n at h = ends-by n at (ltb (n - 4) at) h refl
 
--- one word less in a limit that has one, and no less in none
+-- one word less in a limit
 pub one-less : (at : ℕ) (l : Limit) (n : ℕ) → l ≡ Words n → decoder at (Words (n - 1)) ≡ takeOne (decoder at l)
 unfolding takeOne
 one-less at l n e = rw e
 
+-- no less where there is none
 pub none-less : (at : ℕ) (l : Limit) → l ≡ Unlimited → decoder at l ≡ takeOne (decoder at l)
 unfolding takeOne
 none-less at l e = ap (decoder at) (rw e)
@@ -106,7 +108,7 @@ module _ (s : List ℕ) (d e : Decoder) (x : WordRead) (h : limitReached d ≡ f
 pub long-none : (s : List ℕ) (d e : Decoder) (x : Refusal) → NoWord x e ≡ wordFrom s d → NoLong x e ≡ longFrom s d
 unfolding longFrom longAnswer readLong readerOf readerAt
 long-none s d e x h =
-    ap (λ (y : Read ℕ). longAnswer (after y (λ low r. after (readWord r) (λ high. give (long low high))))) (sym (word-refused s d e x h))
+    ap (λ (y : Read ℕ). longAnswer (after y highAfter)) (sym (word-refused s d e x h))
 
 module _ (s : List ℕ) (d e : Decoder) (low : ℕ) (h : Word low e ≡ wordFrom s d) where
   -- the second word decides
@@ -114,7 +116,7 @@ module _ (s : List ℕ) (d e : Decoder) (low : ℕ) (h : Word low e ≡ wordFrom
   unfolding longFrom readLong
   long-then y g =
       ap (λ (z : Read ℕ). longAnswer (after z (λ high. give (long low high)))) (sym g)
-      ∙ ap (λ (z : Read ℕ). longAnswer (after z (λ low r. after (readWord r) (λ high. give (long low high))))) (sym (word-got s d e low h .reads))
+      ∙ ap (λ (z : Read ℕ). longAnswer (after z highAfter)) (sym (word-got s d e low h .reads))
 
   -- the second word is refused
   pub long-half : (f : Decoder) (x : Refusal) → NoWord x f ≡ wordFrom s e → NoLong x f ≡ longFrom s d
@@ -142,11 +144,12 @@ pub end-found : (l : List ℕ) (n : ℕ) (t : Bool) → At n ≡ zeroIn l → is
 unfolding endIn endBy
 end-found l n t h e = sym (ap endBy (zero-at l n h .1) ∙ simp (e, ← end-size l n h))
 
--- a string that ends is shorter than the bytes
+-- a string that ends, by whether it is UTF-8, is shorter than the bytes
 after-if : (l : List ℕ) (n : ℕ) (bs : List ℕ) (t : Bool) → untilZero l ≡ some bs → After n ≡ (if t then After (length bs) else NotUtf8) → n < length l
 after-if l n bs true e h = let q : n ≡ length bs = cc in omega (arith, ends-in l bs e .0)
 after-if l n bs false e h = let z : _≡_ {A = ℕ} 0 1 = cc in absurd (omega arith)
 
+-- by the bytes before the first zero byte
 after-by : (l : List ℕ) (n : ℕ) (o : Option (List ℕ)) → untilZero l ≡ o → After n ≡ endBy o → n < length l
 unfolding endBy
 after-by l n none e h = let z : _≡_ {A = ℕ} 0 1 = cc in absurd (omega arith)
@@ -200,24 +203,26 @@ endAnswer at l left x NoZero = NoText x (decoder at l)
 endAnswer at l left x NotUtf8 = NoText (refusal 11 at 0) (decoder at l)
 
 module _ {s : List ℕ} {at : ℕ} {l : Limit} {end : ℕ} {left : ℕ → Limit} {x : Refusal} (r : Sought s at l end left x) where
-  by-utf8 : (bs : List ℕ) (t : Bool) → isUtf8 bs ≡ t
+  -- a string that ends, UTF-8 or not, has that answer
+  answer-utf8 : (bs : List ℕ) (t : Bool) → isUtf8 bs ≡ t
       → endAnswer at l left x (endBy (some bs)) ≡ textAnswer at (textFound (some bs) (readerAt s at l))
   unfolding endAnswer endBy textAnswer readerAt
-  by-utf8 bs true e =
+  answer-utf8 bs true e =
       simp e
       (ap (λ (m : Limit). GotText (record { start = at; length = length bs; next = decoder (at + 4 * textWords (length bs)) m })) (r .takes (textWords (length bs))))
-  by-utf8 bs false e = simp e
+  answer-utf8 bs false e = simp e
 
-  by-end : (o : Option (List ℕ)) → endAnswer at l left x (endBy o) ≡ textAnswer at (textFound o (readerAt s at l))
+  -- a string that ends or not has it
+  answer-end : (o : Option (List ℕ)) → endAnswer at l left x (endBy o) ≡ textAnswer at (textFound o (readerAt s at l))
   unfolding endAnswer endBy textAnswer readerAt
-  by-end none = sym (ap (textAnswer at) (r .none))
-  by-end (some bs) = by-utf8 bs (isUtf8 bs) refl
+  answer-end none = sym (ap (textAnswer at) (r .none))
+  answer-end (some bs) = answer-utf8 bs (isUtf8 bs) refl
 
   -- a string, by where it ends
   pub text-by : (v : End) (y : TextRead) → v ≡ endIn (take (end - at) (drop at s)) → y ≡ endAnswer at l left x v → y ≡ textFrom s (decoder at l)
   unfolding endIn textFrom readTextAt readText readerAt
   text-by v y e h =
-      h ∙ ap (endAnswer at l left x) (e ∙ ap endIn (r .bytes)) ∙ by-end (untilZero (searched l (drop at s)))
+      h ∙ ap (endAnswer at l left x) (e ∙ ap endIn (r .bytes)) ∙ answer-end (untilZero (searched l (drop at s)))
       ∙ sym (ap (textAnswer at) (simp (le-ltb (length s) at (r .from), r .unpassed)))
 
   -- its end lies within the bytes that are searched

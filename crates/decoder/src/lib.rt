@@ -53,7 +53,7 @@ fn quad(a: u8, b: u8, c: u8, d: u8) -> u32
     (a as u32) + 256 * (b as u32) + 65536 * (c as u32) + 16777216 * (d as u32)
 }
 
-// The word at a place.
+// The word at a place, for the crates above.
 pub fn word_at(s: &[u8], at: usize) -> u32
     requires { ⌜ at + 4 ≤ length (now s) ⌝ }
     ensures { λ r. ⌜ r ≡ fourAt at (now (s .entry)) ⌝ }
@@ -128,7 +128,7 @@ pub fn header(s: &[u8]) -> HeaderRead
     }
 }
 
-// Where a string at the start of some bytes ends: after so many bytes, at no zero byte, or after bytes that are not UTF-8.
+// How a string at the start of some bytes ends: after so many bytes, at no zero byte, or after bytes that are not UTF-8.
 enum End {
     After(usize),
     NoZero,
@@ -242,7 +242,7 @@ impl Decoder {
         self
     }
 
-    // A word: the limit is tested first, then the stream, which has taken one from the limit by then.
+    // A word: the limit is tested first, then the stream; a stream refusal has taken one from the limit.
     pub fn word(mut self, s: &[u8]) -> WordRead
         ensures { λ r. ⌜ r ≡ wordFrom (now (s .entry)) self ⌝ }
     {
@@ -280,7 +280,7 @@ impl Decoder {
         }
     }
 
-    // A string that is refused, which moves nothing.
+    // A string that is refused: nothing moves.
     fn no_text(self, number: u32, place: usize) -> TextRead
         ensures { λ r. ⌜ r ≡ TextRead.Refused (refusal number place 0) self ⌝ }
     {
