@@ -92,7 +92,7 @@ const INDEX: [u16; %d] = [
 ];
 
 // The index of the built-in grammar: guesses, the count of rows and enumerants, and their places.
-pub fn index() -> [u16; %d]
+pub fn prepared() -> [u16; %d]
     ensures { λ r. ⌜ Indexed builtin r ⌝ }
 {
     INDEX
@@ -223,8 +223,8 @@ def make_index(lines):
             places.append(at)
         at += struct.calcsize(LAYOUT[name][1])
     made = guesses + [len(places)] + places
-    shown = [", ".join(map(str, made[at : at + 16])) for at in range(0, len(made), 16)]
-    return (INDEX % (len(made), "\n".join(f"    {line}," for line in shown), len(made))).encode("utf-8")
+    shown = "\n".join(f"    {number}," for number in made)
+    return (INDEX % (len(made), shown, len(made))).encode("utf-8")
 
 
 def main():

@@ -1,2 +1,4 @@
+pub mod Find
+pub mod Index
 pub mod Items
 pub mod Rules

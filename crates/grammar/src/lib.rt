@@ -1,8 +1,19 @@
-// A grammar as bytes: its items, the tests on operand kinds, and the check that it is well-formed.
+// A grammar as bytes: its items, the tests on operand kinds, the check that it is well-formed, its index and the look-ups.
+mod find;
+mod index;
 mod items;
 mod kinds;
 mod rules;
 
+pub use find::ParameterAt;
+pub use find::SlotAt;
+pub use find::find_enumerant;
+pub use find::find_row;
+pub use find::is_known;
+pub use find::parameter_at;
+pub use find::slot_at;
+pub use index::SIZE;
+pub use index::fill_index;
 pub use items::Item;
 pub use items::item_at;
 pub use items::item_length;
