@@ -1,0 +1,6 @@
+pub mod Laws
+pub mod Search
+pub mod Literal
+pub mod Changes
+pub mod Growth
+pub mod Instruction

@@ -1,0 +1,54 @@
+-- Tracking over what an instruction is handed on as: ids, how many operands, and the literal numbers of the first two.
+use Prim.Native.Nat.{ℕ}
+use mathlib.Core.Path.{_≡_}
+use mathlib.Core.List.{List, [], _∷_}
+use mathlib.Core.Option.{Option, none, some}
+use lib.Dec.{leb, eqb}
+use Rattle.spec.specs.Base.{if_then_else_}
+use Rattle.spec.specs.Records as records
+use Rattle.spec.specs.Records.{Entry}
+use Rattle.spec.specs.Layout.{isType}
+use Rattle.spec.specs.Types.{define, literalInt, defineInt, defineFloat, trackValue}
+use Rattle.operand.specs.declared.Operand.{Operand}
+use Rattle.operand.specs.Parts.{partsOf}
+use Rattle.tracker.specs.declared.Id.{Id}
+use Rattle.tracker.specs.declared.Id.the-variants.{Absent, Is}
+use Rattle.tracker.specs.declared.Change.{Change}
+use Rattle.tracker.specs.declared.Change.the-variants.{Define, Nothing}
+
+-- the id that is there, or none
+unfoldable pub idIs : Id → Option ℕ
+idIs Absent = none
+idIs (Is i) = some i
+
+-- the number of an operand that is a LiteralInt32, the arm of kind 34
+unfoldable pub literalOf : Operand → Option ℕ
+literalOf o = if eqb (partsOf o .kind) 34 then some (partsOf o .value) else none
+
+-- OpTypeInt: with fewer than two operands nothing is tracked
+unfoldable pub intOf : ℕ → ℕ → Option ℕ → Option ℕ → List Entry → List Entry
+intOf i count w sign es = if leb 2 count then defineInt i w sign es else es
+
+-- OpTypeFloat: with no operand nothing is tracked
+unfoldable pub floatOf : ℕ → ℕ → Option ℕ → List Entry → List Entry
+floatOf i count w es = if leb 1 count then defineFloat i w es else es
+
+-- a result that is a type: integers and floats alone are tracked
+unfoldable pub typeOf : ℕ → ℕ → ℕ → Option ℕ → Option ℕ → List Entry → List Entry
+typeOf op i count a b es = if eqb op 21 then intOf i count a b es else if eqb op 22 then floatOf i count a es else es
+
+-- the entries after an instruction: its opcode, result type and result id, how many operands it has, and the numbers of the first two
+unfoldable pub trackOf : ℕ → Option ℕ → Option ℕ → ℕ → Option ℕ → Option ℕ → List Entry → List Entry
+trackOf op t none count a b es = es
+trackOf op t (some i) count a b es = if isType op then typeOf op i count a b es else trackValue i t es
+
+-- the first two of some operands have these literal numbers, where they are there
+unfoldable pub Literals : List records.Operand → Option ℕ → Option ℕ → Type 0
+Literals [] a b = Unit
+Literals (x ∷ []) a b = literalInt x ≡ a
+Literals (x ∷ y ∷ os) a b = (literalInt x ≡ a) × (literalInt y ≡ b)
+
+-- the entries after a change
+unfoldable pub changed : Change → List Entry → List Entry
+changed (Define i w s) es = define i w s es
+changed Nothing es = es

@@ -1,0 +1,252 @@
+// Type tracking: ids and their types, kept as entries of three words in a lent store.
+ghost use mathlib.Core.Path.{_≡_};
+ghost use mathlib.Core.List.{List, _∷_, []};
+ghost use Prim.Native.Nat.{_+_, _*_, _≤_};
+ghost use lib.ListN.{length};
+ghost use lib.Seq.{sets};
+ghost use Rattle.spec.specs.Records.{Entry};
+ghost use Rattle.spec.specs.Types.{entryOf, define, trackValue};
+ghost use Rattle.tracker.specs.Entries.{entriesOf, stored, placeOf, typeAt, resolvedIs};
+ghost use Rattle.tracker.specs.Track.{idIs, literalOf, intOf, floatOf, typeOf, trackOf, changed};
+use operand::Operand;
+use spec::Found;
+
+// An id that is there or not: a result type or a result id.
+pub enum Id {
+    Absent,
+    Is(u32),
+}
+
+// What is known of an id: its width, and its sort: 1 unsigned, 2 signed, 3 float.
+pub enum Resolved {
+    Type { width: u32, sort: u32 },
+    Unknown,
+}
+
+// What an instruction does to the entries: it defines the type of an id, or leaves them alone.
+enum Change {
+    Define { id: u32, width: u32, sort: u32 },
+    Nothing,
+}
+
+// How many entries there are in the store, which is lent to each call.
+pub struct TypeTracker {
+    pub count: usize,
+}
+
+// Where an id's entry stands among the first `count`.
+fn find(types: &[u32], count: usize, id: u32) -> Found
+    requires { ⌜ 3 * count ≤ length (now types) ⌝ }
+    ensures { λ r. ⌜ r ≡ placeOf id (entriesOf count (now (types .entry))) ⌝ }
+{
+    let mut i = 0;
+    while i < count {
+        if types[3 * i] == id {
+            return Found::At(i);
+        }
+        i += 1;
+    }
+    Found::Nothing
+}
+
+// The type that the entry at an index says.
+fn type_at(types: &[u32], index: usize) -> Resolved
+    requires { ⌜ 3 * index + 3 ≤ length (now types) ⌝ }
+    ensures { λ r. ⌜ r ≡ typeAt (now (types .entry)) index ⌝ }
+{
+    let at = 3 * index;
+    let width = types[at + 1];
+    let sort = types[at + 2];
+    Resolved::Type { width, sort }
+}
+
+// An entry, stored at an index.
+fn put_entry(types: &mut [u32], index: usize, id: u32, width: u32, sort: u32)
+    requires { ⌜ 3 * index + 3 ≤ length (now types) ⌝ }
+    ensures { λ _. ⌜ now (types .exit) ≡ sets (now (types .entry)) (3 * index) (id ∷ width ∷ sort ∷ []) ⌝ }
+{
+    let at = 3 * index;
+    types[at] = id;
+    types[at + 1] = width;
+    types[at + 2] = sort;
+}
+
+// OpTypeInt: "an operand record that is no LiteralInt32 sets no width".
+fn track_int(id: u32, count: usize, first: Operand, second: Operand) -> Change
+    ensures { λ r. ⌜ ((es : List Entry) → changed r es ≡ intOf id count (literalOf first) (literalOf second) es) ⌝ }
+{
+    if count < 2 {
+        return Change::Nothing;
+    }
+    let Operand::LiteralInt32(width) = first else {
+        return Change::Nothing;
+    };
+    let Operand::LiteralInt32(sign) = second else {
+        return Change::Nothing;
+    };
+    if sign == 1 {
+        return Change::Define { id, width, sort: 2 };
+    }
+    Change::Define { id, width, sort: 1 }
+}
+
+// OpTypeFloat: the same, with a width alone.
+fn track_float(id: u32, count: usize, only: Operand) -> Change
+    ensures { λ r. ⌜ ((es : List Entry) → changed r es ≡ floatOf id count (literalOf only) es) ⌝ }
+{
+    if count < 1 {
+        return Change::Nothing;
+    }
+    let Operand::LiteralInt32(width) = only else {
+        return Change::Nothing;
+    };
+    Change::Define { id, width, sort: 3 }
+}
+
+// A result that is a type: integers and floats alone are tracked.
+fn track_type(opcode: u16, id: u32, count: usize, first: Operand, second: Operand) -> Change
+    ensures { λ r. ⌜ ((es : List Entry) → changed r es ≡ typeOf opcode id count (literalOf first) (literalOf second) es) ⌝ }
+{
+    match opcode {
+        21 => track_int(id, count, first, second),
+        22 => track_float(id, count, first),
+        _ => Change::Nothing,
+    }
+}
+
+impl TypeTracker {
+    // No entries.
+    pub fn new() -> TypeTracker
+        ensures { λ r. ⌜ r .count ≡ 0 ⌝ }
+    {
+        TypeTracker { count: 0 }
+    }
+
+    // The type of an id.
+    pub fn resolve(self, types: &[u32], id: u32) -> Resolved
+        requires { ⌜ 3 * self .count ≤ length (now types) ⌝ }
+        ensures { λ r. ⌜ resolvedIs id r ≡ entryOf id (entriesOf (self .count) (now (types .entry))) ⌝ }
+    {
+        let found = find(types, self.count, id);
+        let Found::At(i) = found else {
+            return Resolved::Unknown;
+        };
+        type_at(types, i)
+    }
+
+    // A result that is no type: it has the type of its result type, where that is known.
+    fn track_value(self, types: &[u32], id: u32, rtype: Id) -> Change
+        requires { ⌜ 3 * self .count ≤ length (now types) ⌝ }
+        ensures { λ r. ⌜ changed r (entriesOf (self .count) (now (types .entry)))
+            ≡ trackValue id (idIs rtype) (entriesOf (self .count) (now (types .entry))) ⌝ }
+    {
+        let Id::Is(t) = rtype else {
+            return Change::Nothing;
+        };
+        let resolved = self.resolve(types, t);
+        let Resolved::Type { width, sort } = resolved else {
+            return Change::Nothing;
+        };
+        Change::Define { id, width, sort }
+    }
+
+    // What an instruction does to the entries.
+    fn change(
+        self,
+        types: &[u32],
+        opcode: u16,
+        rtype: Id,
+        rid: Id,
+        count: usize,
+        first: Operand,
+        second: Operand,
+    ) -> Change
+        requires { ⌜ 3 * self .count ≤ length (now types) ⌝ }
+        ensures { λ r. ⌜ changed r (entriesOf (self .count) (now (types .entry)))
+            ≡ trackOf opcode (idIs rtype) (idIs rid) count (literalOf first) (literalOf second)
+            (entriesOf (self .count) (now (types .entry))) ⌝ }
+    {
+        let Id::Is(id) = rid else {
+            return Change::Nothing;
+        };
+        if reflect::is_type(opcode) {
+            return track_type(opcode, id, count, first, second);
+        }
+        self.track_value(types, id, rtype)
+    }
+
+    // How many entries there are after an instruction, before anything is stored.
+    pub fn after(
+        self,
+        types: &[u32],
+        opcode: u16,
+        rtype: Id,
+        rid: Id,
+        count: usize,
+        first: Operand,
+        second: Operand,
+    ) -> usize
+        requires { ⌜ 3 * self .count ≤ length (now types) ⌝ }
+        ensures { λ r. ⌜ r ≡ length (trackOf opcode (idIs rtype) (idIs rid) count (literalOf first) (literalOf second)
+            (entriesOf (self .count) (now (types .entry)))) ⌝ }
+    {
+        let entries = self.count;
+        let change = self.change(types, opcode, rtype, rid, count, first, second);
+        let Change::Define {
+            id,
+            width: _,
+            sort: _,
+        } = change
+        else {
+            return entries;
+        };
+        let found = find(types, entries, id);
+        let Found::At(_) = found else {
+            return entries + 1;
+        };
+        entries
+    }
+
+    // "The last definition of an id holds, in the same entry"; a new id's entry comes last.
+    fn define(mut self, types: &mut [u32], id: u32, width: u32, sort: u32) -> TypeTracker
+        requires { ⌜ 3 * self .count ≤ length (now types) ⌝ }
+        requires { ⌜ 3 * length (define id width sort (entriesOf (self .count) (now types))) ≤ length (now types) ⌝ }
+        ensures { λ r. ⌜ r .count ≡ length (define id width sort (entriesOf (self .count) (now (types .entry)))) ⌝ }
+        ensures { λ _. ⌜ now (types .exit) ≡ stored (now (types .entry)) (define id width sort (entriesOf (self .count) (now (types .entry)))) ⌝ }
+    {
+        let count = self.count;
+        let found = find(types, count, id);
+        let Found::At(i) = found else {
+            put_entry(types, count, id, width, sort);
+            self.count = count + 1;
+            return self;
+        };
+        put_entry(types, i, id, width, sort);
+        self
+    }
+
+    // Tracks an instruction: the entries after it, where there is room for them.
+    pub fn track(
+        self,
+        types: &mut [u32],
+        opcode: u16,
+        rtype: Id,
+        rid: Id,
+        count: usize,
+        first: Operand,
+        second: Operand,
+    ) -> TypeTracker
+        requires { ⌜ 3 * length (trackOf opcode (idIs rtype) (idIs rid) count (literalOf first) (literalOf second)
+            (entriesOf (self .count) (now types))) ≤ length (now types) ⌝ }
+        ensures { λ r. ⌜ r .count ≡ length (trackOf opcode (idIs rtype) (idIs rid) count (literalOf first) (literalOf second)
+            (entriesOf (self .count) (now (types .entry)))) ⌝ }
+        ensures { λ _. ⌜ now (types .exit) ≡ stored (now (types .entry)) (trackOf opcode (idIs rtype) (idIs rid) count (literalOf first) (literalOf second)
+            (entriesOf (self .count) (now (types .entry)))) ⌝ }
+    {
+        let change = self.change(types, opcode, rtype, rid, count, first, second);
+        let Change::Define { id, width, sort } = change else {
+            return self;
+        };
+        self.define(types, id, width, sort)
+    }
+}
