@@ -1,58 +1,95 @@
--- Bytes and words: the word of four bytes, the bytes of a word, and the bytes left after some.
-use Prim.Native.Nat.{ℕ, zero, suc, _+_, _*_, _/_, _%_, _<_, _≤_}
+-- Bytes: lists of them, and the bytes of words.
+use Prim.Native.Nat.{ℕ, zero, suc, _+_, _*_, _/_, _%_, _<_}
 use mathlib.Core.Path.{_≡_, refl, ap, sym, _∙_}
-use mathlib.Core.List.{List, [], _∷_}
+use mathlib.Core.List.{List, [], _∷_, _++_}
 use native.Mathlib.Omega.{arith}
 use native.Mathlib.Nat.{div-add-mod', div-div-eq-div-mul}
-use lib.ListN.{length, drop, getD}
-use Rattle.spec.specs.Words.{four, Front, short, front, frontOf}
+use lib.ListN.{length, take, drop, replicate, take-append-drop}
+use Rattle.spec.specs.Base.{joined}
+use Rattle.spec.specs.Words.{four, bytesOf, wordsOf}
+
+-- LISTS OF BYTES
 
 -- each number is a byte
 abbrev pub AllBytes : List ℕ → Type 0
 AllBytes [] = Unit
 AllBytes (b ∷ bs) = (b < 256) × AllBytes bs
 
--- numbers that are bytes place by place
-pub bytes-by : (l : List ℕ) → ((i : ℕ) → i < length l → getD l i 0 < 256) → AllBytes l
-bytes-by [] h = tt
-bytes-by (b ∷ bs) h = (h 0 (omega arith), bytes-by bs (λ i l. h (suc i) (omega arith)))
+-- bytes before bytes are bytes
+pub all-append : (x y : List ℕ) → AllBytes x → AllBytes y → AllBytes (x ++ y)
+all-append [] y a b = b
+all-append (c ∷ x) y a b = (a .0, all-append x y (a .1) b)
 
--- bytes after some are bytes
+-- the first part of bytes is bytes
+pub all-left : (x y : List ℕ) → AllBytes (x ++ y) → AllBytes x
+all-left [] y a = tt
+all-left (c ∷ x) y a = (a .0, all-left x y (a .1))
+
+-- and so is the last
+pub all-right : (x y : List ℕ) → AllBytes (x ++ y) → AllBytes y
+all-right [] y a = a
+all-right (c ∷ x) y a = all-right x y (a .1)
+
+-- the first bytes of some are bytes
+pub all-take : (n : ℕ) (l : List ℕ) → AllBytes l → AllBytes (take n l)
+all-take n l a = all-left (take n l) (drop n l) (rw take-append-drop a)
+
+-- and so are the others
 pub all-drop : (n : ℕ) (l : List ℕ) → AllBytes l → AllBytes (drop n l)
-all-drop zero l x = x
-all-drop (suc n) [] x = tt
-all-drop (suc n) (b ∷ bs) x = all-drop n bs (x .1)
+all-drop n l a = all-right (take n l) (drop n l) (rw take-append-drop a)
+
+-- zeros are bytes
+pub all-zeros : (n : ℕ) → AllBytes (replicate n 0)
+all-zeros zero = tt
+all-zeros (suc n) = (omega arith, all-zeros n)
+
+-- WORDS
+
+-- a word's bytes are bytes
+pub word-bytes : (w : ℕ) → AllBytes (bytesOf w)
+unfolding bytesOf
+word-bytes w = (omega arith, (omega arith, (omega arith, (omega arith, tt))))
 
 -- a number by four digits of 256
-digits : (w q1 q2 q3 r0 r1 r2 : ℕ) → q1 * 256 + r0 ≡ w → q2 * 256 + r1 ≡ q1 → q3 * 256 + r2 ≡ q2
-    → r0 + 256 * r1 + 65536 * r2 + 16777216 * q3 ≡ w
+digits : (w q1 q2 q3 r0 r1 r2 : ℕ) → q1 * 256 + r0 ≡ w → q2 * 256 + r1 ≡ q1 → q3 * 256 + r2 ≡ q2 → four r0 r1 r2 q3 ≡ w
 digits w q1 q2 q3 r0 r1 r2 e1 e2 e3 = omega arith
 
 -- the word of the four bytes of a word is the word
 pub four-bytes : (w : ℕ) → w < 4294967296 → four (w % 256) (w / 256 % 256) (w / 65536 % 256) (w / 16777216 % 256) ≡ w
 four-bytes w h =
     let e2 : w / 65536 ≡ w / 256 / 256 = sym (div-div-eq-div-mul w 256 256) in
-    let e3 : w / 16777216 ≡ w / 256 / 256 / 256 = sym (ap (λ (x : ℕ). x / 256) (div-div-eq-div-mul w 256 256) ∙ div-div-eq-div-mul w 65536 256) in
+    let e3 : w / 16777216 ≡ w / 256 / 256 / 256 =
+    sym (ap (λ (x : ℕ). x / 256) (div-div-eq-div-mul w 256 256) ∙ div-div-eq-div-mul w 65536 256) in
     let e4 : w / 16777216 % 256 ≡ w / 16777216 = omega arith in
     rw (e4, e2, e3)
     (digits w (w / 256) (w / 256 / 256) (w / 256 / 256 / 256) (w % 256) (w / 256 % 256) (w / 256 / 256 % 256)
     (div-add-mod' w 256) (div-add-mod' (w / 256) 256) (div-add-mod' (w / 256 / 256) 256))
 
--- the first word of bytes is a word, and what is after it is what four bytes leave
-abbrev pub FrontGood : List ℕ → Front → Type 0
-FrontGood s short = Unit
-FrontGood s (front w r) = (w < 4294967296) × (4 ≤ length s) × (r ≡ drop 4 s)
+-- four bytes make a word, whose bytes they are
+pub four-word : (a b c d : ℕ) → AllBytes (a ∷ b ∷ c ∷ d ∷ [])
+    → (four a b c d < 4294967296) × (bytesOf (four a b c d) ≡ a ∷ b ∷ c ∷ d ∷ [])
+unfolding bytesOf
+four-word a b c d by =
+    let ha : a < 256 = by .0 in
+    let hb : b < 256 = by .1 .0 in
+    let hc : c < 256 = by .1 .1 .0 in
+    let hd : d < 256 = by .1 .1 .1 .0 in
+    let q1 : four a b c d / 256 ≡ b + 256 * c + 65536 * d = omega arith in
+    let q2 : four a b c d / 65536 ≡ c + 256 * d = omega arith in
+    let q3 : four a b c d / 16777216 ≡ d = omega arith in
+    let e0 : four a b c d % 256 ≡ a = omega arith in
+    let e1 : (b + 256 * c + 65536 * d) % 256 ≡ b = omega arith in
+    let e2 : (c + 256 * d) % 256 ≡ c = omega arith in
+    let e3 : d % 256 ≡ d = omega arith in
+    (omega arith, (cc))
 
--- the first word of any bytes
-pub front-good : (s : List ℕ) → AllBytes s → FrontGood s (frontOf s)
-unfolding frontOf
-front-good [] b = tt
-front-good (a ∷ []) b = tt
-front-good (a ∷ c ∷ []) b = tt
-front-good (a ∷ c ∷ d ∷ []) b = tt
-front-good (a ∷ c ∷ d ∷ e ∷ r) b =
-    let h0 : a < 256 = b .0 in
-    let h1 : c < 256 = b .1 .0 in
-    let h2 : d < 256 = b .1 .1 .0 in
-    let h3 : e < 256 = b .1 .1 .1 .0 in
-    (omega arith, omega arith, refl)
+-- the bytes of the words of whole words are those bytes
+pub bytes-words : (l : List ℕ) (k : ℕ) → AllBytes l → length l ≡ 4 * k → joined bytesOf (wordsOf l) ≡ l
+unfolding wordsOf
+bytes-words [] k by e = refl
+bytes-words (a ∷ []) k by e = absurd (omega arith)
+bytes-words (a ∷ b ∷ []) k by e = absurd (omega arith)
+bytes-words (a ∷ b ∷ c ∷ []) k by e = absurd (omega arith)
+bytes-words (a ∷ b ∷ c ∷ d ∷ r) zero by e = absurd (omega arith)
+bytes-words (a ∷ b ∷ c ∷ d ∷ r) (suc k) by e =
+    cc (four-word a b c d (all-left (a ∷ b ∷ c ∷ d ∷ []) r by) .1, bytes-words r k (by .1 .1 .1 .1) (omega arith))

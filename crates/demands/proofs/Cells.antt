@@ -1,17 +1,17 @@
--- What the layout table can give: tags and states that may follow a state, and refusals that are not 0.
-use Prim.Native.Nat.{ℕ, zero, suc, _-_}
+-- What the layout table can give: tags and states that may follow a state, and refusals 15 to 23.
+use Prim.Native.Nat.{ℕ, _-_, _≤_}
 use mathlib.Core.Path.{_≡_, refl}
-use mathlib.Core.Bool.{Bool, true, false, not, _&&_, _||_}
-use mathlib.Core.List.{List, [], _∷_}
+use mathlib.Core.Bool.{Bool, true, false, _&&_, _||_}
 use lib.Dec.{eqb}
 use lib.ListN.{getD}
 use Rattle.spec.specs.declared.State.{State}
 use Rattle.spec.specs.declared.State.the-variants.{Outside, Function, Block}
 use Rattle.spec.specs.declared.Cell.{Cell}
 use Rattle.spec.specs.declared.Cell.the-variants.{Tagged, Refuses}
-use Rattle.spec.specs.Base.{within, every}
+use Rattle.spec.specs.Base.{within}
 use Rattle.spec.specs.Layout.{lines, otherLine, layoutAt, opcodeKind, layoutOf}
-use Rattle.demands.proofs.Choice.{left, right}
+use Rattle.demands.proofs.Choice.{left, right, in-range}
+use Rattle.demands.proofs.Lists.{every-at}
 
 -- the tags that lead from a state to another
 abbrev pub leads : State → ℕ → State → Bool
@@ -28,17 +28,11 @@ leads Block tag Block = within 1 tag 11 || (eqb tag 13 || eqb tag 15)
 -- a cell that may stand in the column of a state
 abbrev mayStand : State → Cell → Bool
 mayStand s (Tagged tag t) = leads s tag t
-mayStand s (Refuses n) = not (eqb n 0)
+mayStand s (Refuses n) = within 15 n 23
 
 -- a line whose three cells may stand
 abbrev lineStands : (State → Cell) → Bool
 lineStands l = mayStand Outside (l Outside) && mayStand Function (l Function) && mayStand Block (l Block)
-
--- a place of a list, or past it, passes what each element and the one past it pass
-every-at : {A : Type 0} (f : A → Bool) (xs : List A) (d : A) (j : ℕ) → every f xs ≡ true → f d ≡ true → f (getD xs j d) ≡ true
-every-at f [] d j e h = h
-every-at f (x ∷ xs) d zero e h = left (f x) (every f xs) e
-every-at f (x ∷ xs) d (suc j) e h = every-at f xs d j (right (f x) (every f xs) e) h
 
 -- the cell of a line that stands, by its state
 line-cell : (l : State → Cell) (s : State) → lineStands l ≡ true → mayStand s (l s) ≡ true
@@ -56,6 +50,6 @@ layout-stands op s =
 pub tag-leads : (op : ℕ) (s t : State) (tag : ℕ) → layoutOf op s ≡ Tagged tag t → leads s tag t ≡ true
 tag-leads op s t tag e = rw e at (layout-stands op s)
 
--- a refusal of the table is not 0
-pub refuses-not : (op n : ℕ) (s : State) → layoutOf op s ≡ Refuses n → not (eqb n 0) ≡ true
-refuses-not op n s e = rw e at (layout-stands op s)
+-- the table refuses with 15 to 23
+pub layout-refuses : (op n : ℕ) (s : State) → layoutOf op s ≡ Refuses n → (15 ≤ n) × (n ≤ 23)
+layout-refuses op n s e = in-range 15 n 23 (rw e at (layout-stands op s))

@@ -1,5 +1,5 @@
 -- The stores of instructions that follow on, given to the check, are those instructions again.
-use Prim.Native.Nat.{ℕ, suc, _+_, _*_, _/_, _%_, _<_, _≤_}
+use Prim.Native.Nat.{ℕ, suc, _+_, _*_, _/_, _%_, _<_}
 use mathlib.Core.Path.{_≡_, refl, ap}
 use mathlib.Core.Bool.{Bool, true, not, _&&_, _||_}
 use mathlib.Core.List.{List, [], _∷_, _++_, append-assoc}
@@ -22,10 +22,12 @@ use Rattle.spec.specs.Records.{Operand, narrow, wide, text, Placed, operandSize
 use Rattle.spec.specs.Check.{Given, recordsOf, bitsIn, fieldsGood, fieldsFault, Left, took, takeText, takeOperand, taken, takeOperands, fieldIn, placedOf, wordsGood, addScan, scanFrom, tagsFault, faultOf, missing, good, check}
 use Rattle.demands.proofs.Choice.{left, right, both}
 use Rattle.demands.proofs.Bytes.{four-bytes}
-use Rattle.demands.proofs.Stores.{operands-log-length, log-length}
+use Rattle.demands.proofs.Stores.{operands-log-length, log-length, string-short, strings-short}
 use Rattle.demands.proofs.OperandKinds.{long-logged}
-use Rattle.demands.proofs.Sound.{noZeros, Holds, AllHold, InstrGood}
-use Rattle.demands.proofs.Kept.{Follow, ended, leading, wordsIn}
+use Rattle.demands.proofs.Strings.{noZeros}
+use Rattle.demands.proofs.Told.{Holds, AllHold}
+use Rattle.demands.proofs.Instructions.{InstrGood}
+use Rattle.demands.proofs.Kept.{Follow, last, leading, wordsIn}
 
 -- THE RECORDS
 
@@ -77,7 +79,7 @@ fields-good start at p x e =
 -- so no record has bad fields
 no-fields-fault : {at : ℕ} {s e : State} {is : List Placed} → Follow at s is e → (index start : ℕ) → fieldsFault index at (fieldsFrom start is) ≡ none
 unfolding fieldsFault fieldsFrom fieldsOf
-no-fields-fault ended index start = refl
+no-fields-fault last index start = refl
 no-fields-fault (leading {at = at} {p = p} x e placed more) index start =
     rw (fields-good start at p x e) (no-fields-fault more (suc index) (start + length (operandsLog 0 (p .instr .operands))))
 
@@ -111,13 +113,6 @@ one-taken (wide k v) a b log strings h u =
     rw (long-logged k (h .0), h .0, four-bytes (v % 4294967296) low, four-bytes (v / 4294967296) high, whole)
 one-taken (text s) a b log strings h u =
     rw (four-bytes b (omega arith), four-bytes (length s) (omega arith)) (text-taken s a b (operandLog b (text s) ++ log) strings (h .0) (h .1))
-
--- a string is no longer than its words
-string-short : (o : Operand) → length (operandString o) ≤ 4 * operandSize o
-unfolding operandString operandSize
-string-short (narrow k v) = omega arith
-string-short (wide k v) = omega arith
-string-short (text s) = omega arith
 
 -- operands that log and strings begin with
 operands-taken : (os : List Operand) (a b : ℕ) (log strings : List ℕ) → AllHold os → b + 4 * operandsSize os < 4294967296
@@ -164,18 +159,12 @@ words-good : (p : Placed) → InstrGood (p .instr) → wordsGood p ≡ true
 unfolding wordsGood
 words-good p x = eq-eqb _ _ (x .count)
 
--- strings are no longer than their words
-strings-short : (os : List Operand) → length (operandsStrings os) ≤ 4 * operandsSize os
-unfolding operandsStrings operandsSize
-strings-short [] = omega arith
-strings-short (o ∷ os) = omega (arith, length-append (operandString o) (joined operandString os), string-short o, strings-short os)
-
 -- the operands of all records, up to the counts of log and strings
 scan-back : {at : ℕ} {s e : State} {is : List Placed} → Follow at s is e → (logCount stringCount index start b : ℕ) → b + 4 * wordsIn is < 4294967296
     → start + length (logFrom 0 is) ≡ logCount → b + length (stringStore is) ≡ stringCount
     → scanFrom logCount stringCount index (remains start (logFrom b is) b (stringStore is)) (fieldsFrom start is) ≡ record { instrs = is; fault = none }
 unfolding scanFrom fieldsFrom logFrom stringStore wordsIn fieldsOf
-scan-back ended logCount stringCount index start b u el es = rw (eq-eqb start logCount (omega arith), eq-eqb b stringCount (omega arith))
+scan-back last logCount stringCount index start b u el es = rw (eq-eqb start logCount (omega arith), eq-eqb b stringCount (omega arith))
 scan-back (leading {p = p} {ps = ps} x e placed more) logCount stringCount index start b u el es =
     let os : List Operand = p .instr .operands in
     let n : ℕ = length (operandsStrings os) in
@@ -192,7 +181,7 @@ scan-back (leading {p = p} {ps = ps} x e placed more) logCount stringCount index
 no-tags-fault : {at : ℕ} {s e : State} {is : List Placed} → Follow at s is e → (whole : Bool) → implies whole (eqb (endNumber e) 0) ≡ true
     → (index start : ℕ) → tagsFault whole index s (fieldsFrom start is) ≡ none
 unfolding tagsFault fieldsFrom fieldsOf
-no-tags-fault ended whole w index start = rw w
+no-tags-fault last whole w index start = rw w
 no-tags-fault (leading {p = p} x e placed more) whole w index start =
     rw (opcode-back start p (x .opcode), placed, eq-eqb (p .tag) (p .tag) refl)
     (no-tags-fault more whole w (suc index) (start + length (operandsLog 0 (p .instr .operands))))

@@ -1,7 +1,11 @@
--- Tests and what is chosen by them.
+-- Tests, and what is chosen by them.
+use Prim.Native.Nat.{ℕ, _≤_}
 use mathlib.Core.Path.{_≡_, refl}
 use mathlib.Core.Bool.{Bool, true, false, _&&_, _||_, and-eq-true-iff, true≢false, false≢true}
-use Rattle.spec.specs.Base.{if_then_else_, implies}
+use mathlib.Core.Option.{Option, none, some}
+use borrow.Author.Tests.{leb-true}
+use lib.Dec.{leb}
+use Rattle.spec.specs.Base.{if_then_else_, implies, within}
 
 -- the first of two tests that both hold
 pub left : (a b : Bool) → (a && b) ≡ true → a ≡ true
@@ -30,12 +34,21 @@ pub fails : (a : Bool) → (a ≡ true → ⊥) → a ≡ false
 fails true n = absurd (n refl)
 fails false n = refl
 
--- one of two values has what both have
-pub either : {A : Type 0} (P : A → Type 0) (c : Bool) (a b : A) → P a → P b → P (if c then a else b)
-either P true a b x y = x
-either P false a b x y = y
+-- what follows both where a test holds and where it fails
+pub cases : {A : Type 0} (c : Bool) → (c ≡ true → A) → (c ≡ false → A) → A
+cases true x y = x refl
+cases false x y = y refl
 
--- or what each has where the test chooses it
-pub either-by : {A : Type 0} (P : A → Type 0) (c : Bool) (a b : A) → (c ≡ true → P a) → (c ≡ false → P b) → P (if c then a else b)
-either-by P true a b x y = x refl
-either-by P false a b x y = y refl
+-- one of two values has what each has where the test chooses it
+pub either : {A : Type 0} (P : A → Type 0) (c : Bool) (a b : A) → (c ≡ true → P a) → (c ≡ false → P b) → P (if c then a else b)
+either P true a b x y = x refl
+either P false a b x y = y refl
+
+-- a property of what is there
+abbrev pub IfSome : {A : Type 0} → (A → Type 0) → Option A → Type 0
+IfSome P none = Unit
+IfSome P (some a) = P a
+
+-- a number in a range
+pub in-range : (a k b : ℕ) → within a k b ≡ true → (a ≤ k) × (k ≤ b)
+in-range a k b e = (leb-true a k (left (leb a k) (leb k b) e), leb-true k b (right (leb a k) (leb k b) e))

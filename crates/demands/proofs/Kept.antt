@@ -1,31 +1,39 @@
--- What a load keeps: instructions as records can hold them, each at the offset where the one before it ends, with the tags of the table.
-use Prim.Native.Nat.{ℕ, _+_, _*_, _-_, _≤_}
+-- What a run keeps, and what it reads that from: the bytes in front, from which alone it comes to the same book and ends there. Where these
+-- are bytes, the instructions follow on as records can hold them, and the run comes to the same book from the bytes written for them too.
+use Prim.Native.Nat.{ℕ, _+_, _*_, _≤_, _<_}
 use mathlib.Core.Path.{_≡_, refl, ap, sym, _∙_, subst}
-use mathlib.Core.Bool.{false, true≢false}
+use mathlib.Core.Bool.{Bool, true}
 use mathlib.Core.List.{List, [], _∷_, _++_, append-assoc, append-nil}
 use native.Mathlib.Omega.{arith}
-use lib.Dec.{eqb}
-use lib.ListN.{length, length-drop}
-use Rattle.spec.specs.declared.Limit.{Limit}
+use native.Mathlib.Nat.{add-zero}
+use borrow.Author.Tests.{leb-false, le-leb, eqb-false}
+use lib.ListN.{length, length-append}
 use Rattle.spec.specs.declared.Limit.the-variants.{Unlimited}
 use Rattle.spec.specs.declared.State.{State}
 use Rattle.spec.specs.declared.State.the-variants.{Outside, Function, Block}
 use Rattle.spec.specs.declared.Cell.the-variants.{Tagged}
 use Rattle.spec.specs.declared.Counts.{Counts}
-use Rattle.spec.specs.Reader.{Reader, reader, got}
-use Rattle.spec.specs.Grammar.{Grammar, grammarOf}
+use Rattle.spec.specs.Base.{every}
+use Rattle.spec.specs.Grammar.{Grammar}
+use Rattle.spec.specs.Reader.{Reader, reader}
 use Rattle.spec.specs.Layout.{layoutOf, endNumber}
-use Rattle.spec.specs.Match.{readInstr}
-use Rattle.spec.specs.Records.{Instr, Placed, Entry}
-use Rattle.spec.specs.Load.{Book, entered, Outcome, load}
-use Rattle.demands.proofs.Bytes.{AllBytes, all-drop}
-use Rattle.demands.proofs.Formed.{GrammarGood, well-formed-good}
-use Rattle.demands.proofs.Sound.{InstrGood, InstrReads, instr-reads}
-use Rattle.demands.proofs.Book.{Steps, none-more, one-more, Ends, unread, turned-down, at-end, ends-at, Comes, at-once, by-steps, load-comes}
+use Rattle.spec.specs.Records.{Placed, instrBytes}
+use Rattle.spec.specs.Load.{Book, Outcome, stop}
+use Rattle.spec.specs.Plain.{plainInstr}
+use Rattle.spec.specs.Write.{bytesOfAll}
+use Rattle.demands.proofs.Choice.{left, right, both}
+use Rattle.demands.proofs.Lists.{has-leb}
+use Rattle.demands.proofs.Bytes.{AllBytes, all-append, all-left, all-right}
+use Rattle.demands.proofs.Cells.{layout-refuses}
+use Rattle.demands.proofs.Formed.{GrammarGood}
+use Rattle.demands.proofs.Instructions.{InstrGood, ReadFrom, InstrSure, InstrRead, Frames, instr-read}
+use Rattle.demands.proofs.Runs.{Enters, next, placedOf, with, Fits, Stops, ends, unread, misplaced, crowded, Run, stops, keeps, entered-read}
+
+-- INSTRUCTIONS THAT FOLLOW ON
 
 -- instructions that follow on from an offset and a state, and the state after them
 pub data Follow : ℕ → State → List Placed → State → Type 0 where
-  ended : {at : ℕ} {s : State} → Follow at s [] s
+  last : {at : ℕ} {s : State} → Follow at s [] s
   leading : {at : ℕ} {s t e : State} {p : Placed} {ps : List Placed}
       → InstrGood (p .instr)
       → p .instr .offset ≡ at
@@ -38,84 +46,165 @@ unfoldable pub wordsIn : List Placed → ℕ
 wordsIn [] = 0
 wordsIn (p ∷ ps) = p .instr .words + wordsIn ps
 
--- what steps keep: instructions that follow on, in the bytes that there were; the reader after them has bytes left, and no limit
-record Went (b : Book) (r : Reader) (c : Book) (u : Reader) : Type 0 where
-  new : List Placed
-  kept : c .kept ≡ b .kept ++ new
-  follow : Follow (r .at) (b .state) new (c .state)
-  few : 4 * wordsIn new ≤ length (r .rest)
-  limit : u .limit ≡ Unlimited
-  bytes : AllBytes (u .rest)
+-- each instruction is plain in the bytes of a module
+abbrev pub allPlain : List ℕ → List Placed → Bool
+allPlain s ps = every (λ p. plainInstr s (p .instr)) ps
 
--- one instruction before those of other steps
-went-more : (b c : Book) (r t u : Reader) (i : Instr) (tag : ℕ) (s : State) → InstrReads (r .at) (r .rest) (got i t)
-    → layoutOf (i .opcode) (b .state) ≡ Tagged tag s → Went (entered b i tag s) t c u → Went b r c u
-unfolding wordsIn
-went-more b c r t u i tag s x placed on =
-    let p : Placed = record { instr = i; tag = tag } in
-    let place : t .at ≡ r .at + 4 * i .words = ap (λ (y : Reader). y .at) (x .3) in
-    let rest : length (t .rest) ≡ length (r .rest) - 4 * i .words = ap (λ (y : Reader). length (y .rest)) (x .3) ∙ length-drop (4 * i .words) (r .rest) in
+-- WHAT A RUN READS
+
+-- the end of a load there
+abbrev pub endAt : List ℕ → Book → ℕ → Outcome
+endAt h b at = stop h b (endNumber (b .state)) at 0
+
+-- instructions that were kept from the bytes x, where these are bytes, and y, the bytes written for them
+pub record RunSure (g : Grammar) (room : Counts) (h : List ℕ) (b : Book) (at : ℕ) (new : List Placed) (c : Book) (x y : List ℕ) : Type 0 where
+  pub follow : Follow at (b .state) new (c .state)
+  pub long : length y ≡ 4 * wordsIn new
+  pub bytes : AllBytes y
+  pub back : Run g room h b at y (endAt h c (at + 4 * wordsIn new))
+  pub plain : (pre : List ℕ) → length pre ≡ at → allPlain (pre ++ y) new ≡ true
+  pub exact : (pre t : List ℕ) → length pre ≡ at → allPlain (pre ++ (x ++ t)) new ≡ true → x ≡ y
+
+-- a run keeps new instructions from the bytes in front, and stops with a book; an accepted one stops at the end
+pub record RunRead (g : Grammar) (room : Counts) (h : List ℕ) (b : Book) (at : ℕ) (rest : List ℕ) (o : Outcome) : Type 0 where
+  pub book : Book
+  pub new : List Placed
+  pub from : List ℕ
+  pub behind : List ℕ
+  pub takes : rest ≡ from ++ behind
+  pub whole : length from ≡ 4 * wordsIn new
+  pub kept : book .kept ≡ b .kept ++ new
+  pub stopped : o ≡ stop h book (o .said .number) (o .said .offset) (o .said .value)
+  pub accepted : o .said .number ≡ 0 → (length behind < 4) × (book .state ≡ Outside) × (o ≡ endAt h book (at + 4 * wordsIn new))
+  pub again : Run g room h b at from (endAt h book (at + 4 * wordsIn new))
+  pub sure : AllBytes from → RunSure g room h b at new book from (bytesOfAll new)
+
+-- an instruction that is kept is kept from other bytes that it is read from
+abbrev pub enters-from : {g : Grammar} {b : Book} {at : ℕ} {rest : List ℕ} (z : Enters g b at rest) (y t : List ℕ)
+    → ReadFrom g (b .types) at (z .instr) y → 4 ≤ length y → Enters g b at (y ++ t)
+enters-from z y t read h =
     record {
-      new = p ∷ on .new;
-      kept = on .kept ∙ append-assoc (b .kept) (p ∷ []) (on .new);
-      follow = leading (x .0) (x .1) placed (subst (λ (at : ℕ). Follow at s (on .new) (c .state)) place (on .follow));
-      few = omega (arith, x .2, on .few);
-      limit = on .limit;
-      bytes = on .bytes;
+      instr = z .instr;
+      behind = t;
+      tag = z .tag;
+      state = z .state;
+      whole = has-leb 4 (y ++ t) ∙ le-leb 4 (length (y ++ t)) (omega (arith, length-append y t));
+      read = read t;
+      placed = z .placed;
     }
 
-module _ {g : Grammar} (good : GrammarGood g) where
-  -- reading without a limit
-  open-reads : (types : List Entry) (r : Reader) → r .limit ≡ Unlimited → AllBytes (r .rest) → InstrReads (r .at) (r .rest) (readInstr g types r)
-  open-reads types r e by =
-      subst (λ (l : Limit). InstrReads (r .at) (r .rest) (readInstr g types (reader (r .at) l (r .rest)))) (sym e) (instr-reads g good types (r .at) (r .rest) by)
-
-  -- along all steps
-  steps-went : {room : Counts} {b c : Book} {r u : Reader} → Steps g room b r c u → r .limit ≡ Unlimited → AllBytes (r .rest) → Went b r c u
-  steps-went {b = b} none-more l by =
-      record { new = []; kept = sym (append-nil (b .kept)); follow = ended; few = unfold wordsIn in (omega arith); limit = l; bytes = by }
-  steps-went {c = c} {u = u} (one-more {b = b} {r = r} {t = t} i tag s read placed fits more) l by =
-      let x : InstrReads (r .at) (r .rest) (got i t) = rw read at (open-reads (b .types) r l by) in
-      let bytes : AllBytes (t .rest) = subst AllBytes (sym (ap (λ (y : Reader). y .rest) (x .3))) (all-drop (4 * i .words) (r .rest) by) in
-      went-more b c r t u i tag s x placed (steps-went more (ap (λ (y : Reader). y .limit) (x .3)) bytes)
-
-  -- an end with number 0 is outside functions
-  ends-outside : {h : List ℕ} {b : Book} {r : Reader} {x : Outcome} → Ends g h b r x → r .limit ≡ Unlimited → AllBytes (r .rest) → x .said .number ≡ 0
-      → b .state ≡ Outside
-  ends-outside {b = b} {r = r} (unread y t read) l by z =
-      let f : eqb (y .number) 0 ≡ false = rw read at (open-reads (b .types) r l by) in
-      absurd (true≢false (rw z at f))
-  ends-outside (turned-down n at f) l by z = absurd (true≢false (rw z at f))
-  ends-outside {b = b} at-end l by z = outside (b .state) z
+module _ (g : Grammar) (good : GrammarGood g) (room : Counts) (h : List ℕ) where
+  -- a load that stops with 0 is at the end, outside functions
+  stop-accepted : {b : Book} {at : ℕ} {rest : List ℕ} {n place v : ℕ} → Stops g room b at rest n place v → n ≡ 0
+      → (length rest < 4) × (b .state ≡ Outside) × (stop h b n place v ≡ endAt h b at)
+  stop-accepted {b} {at} {rest} (ends p) e = (leb-false 4 (length rest) (sym (has-leb 4 rest) ∙ p), outside (b .state) e, refl)
     where
       outside : (s : State) → endNumber s ≡ 0 → s ≡ Outside
       outside Outside e = refl
       outside Function e = absurd (omega arith)
       outside Block e = absurd (omega arith)
+  stop-accepted {b} {at} {rest} (unread x t p r) e =
+      let z = subst (Frames g (b .types) at rest) r (instr-read g good (b .types) at rest) in
+      absurd (omega arith)
+  stop-accepted {b} (misplaced i t n p r f) e = let z = layout-refuses (i .opcode) n (b .state) f in absurd (omega arith)
+  stop-accepted (crowded z f) e = absurd (eqb-false _ 0 f e)
 
--- what a load keeps: instructions that follow on from the header, no more of them than the module's bytes; outside functions where
--- the load is accepted
-pub record Kept (x : Outcome) : Type 0 where
-  pub state : State
-  pub follow : Follow 20 Outside (x .kept) state
-  pub few : 4 * wordsIn (x .kept) ≤ 67108864
-  pub whole : x .said .number ≡ 0 → state ≡ Outside
+  -- nothing is kept
+  read-none : {b : Book} {at : ℕ} {rest : List ℕ} {n place v : ℕ} → Stops g room b at rest n place v
+      → RunRead g room h b at rest (stop h b n place v)
+  unfolding wordsIn bytesOfAll
+  read-none {b} {at} {rest} x =
+      let here : Run g room h b at [] (endAt h b (at + 0)) = rw add-zero (stops _ _ _ (ends refl)) in
+      record {
+        book = b;
+        new = [];
+        from = [];
+        behind = rest;
+        takes = refl;
+        whole = refl;
+        kept = sym (append-nil (b .kept));
+        stopped = refl;
+        accepted = λ e. rw add-zero (stop-accepted x e);
+        again = here;
+        sure = λ by.
+            record {
+              follow = last;
+              long = refl;
+              bytes = tt;
+              back = here;
+              plain = λ pre e. refl;
+              exact = λ pre t e p. refl;
+            };
+      }
 
--- what a load comes to keeps that
-comes-kept : {g : List ℕ} {room : Counts} {s : List ℕ} {x : Outcome} → AllBytes s → Comes g room s x → Kept x
-comes-kept by (at-once n at f) =
-    record { state = Outside; follow = ended; few = unfold wordsIn in (omega arith); whole = λ e. refl }
-comes-kept {g} {s = s} by (by-steps h x w l to) =
-    let good : GrammarGood (grammarOf g) = well-formed-good g w in
-    let on = steps-went good (to .steps) refl (all-drop 20 s by) in
-    let same : on .new ≡ x .kept = ends-at (to .ends) (λ is es n. on .new ≡ is) (sym (on .kept)) in
-    record {
-      state = to .book .state;
-      follow = rw same at (on .follow);
-      few = omega (arith, ap wordsIn same, on .few, length-drop 20 s);
-      whole = ends-outside good (to .ends) (on .limit) (on .bytes);
-    }
+  -- one instruction before others
+  module _ {b : Book} {at : ℕ} {rest : List ℕ} {o : Outcome} (z : Enters g b at rest) (fits : Fits room z true)
+      (m : RunRead g room h (with z) (next z) (z .behind) o) where
+    -- as it was read
+    abbrev x : InstrRead g (b .types) at rest (z .instr) (reader (next z) Unlimited (z .behind))
+    x = entered-read g good z
 
--- so for every load, accepted or refused
-pub load-kept : (g : List ℕ) (room : Counts) (s : List ℕ) → AllBytes s → Kept (load g room s)
-load-kept g room s by = comes-kept by (load-comes g room s)
+    -- where all end
+    end-is : (b : Book) → endAt h b (next z + 4 * wordsIn (m .new)) ≡ endAt h b (at + 4 * wordsIn (placedOf z ∷ m .new))
+    unfolding wordsIn
+    end-is b = ap (endAt h b) (omega arith)
+
+    -- they are kept from bytes that it is read from, and others that those after it are
+    keeps-from : (y t : List ℕ) → length y ≡ 4 * z .instr .words → ReadFrom g (b .types) at (z .instr) y
+        → Run g room h (with z) (next z) t (endAt h (m .book) (next z + 4 * wordsIn (m .new)))
+        → Run g room h b at (y ++ t) (endAt h (m .book) (at + 4 * wordsIn (placedOf z ∷ m .new)))
+    keeps-from y t e read run =
+        rw (← end-is (m .book)) (keeps (enters-from z y t read (omega (arith, x .some-word))) fits run)
+
+    -- what is sure of them
+    more-sure : AllBytes (x .from ++ m .from)
+        → RunSure g room h b at (placedOf z ∷ m .new) (m .book) (x .from ++ m .from) (bytesOfAll (placedOf z ∷ m .new))
+    unfolding wordsIn bytesOfAll
+    more-sure by =
+        let y : List ℕ = instrBytes (z .instr) in
+        let ys : List ℕ = bytesOfAll (m .new) in
+        let u : InstrSure g (b .types) at (z .instr) (x .from) y = x .sure (all-left (x .from) (m .from) by) in
+        let v : RunSure g room h (with z) (next z) (m .new) (m .book) (m .from) ys = m .sure (all-right (x .from) (m .from) by) in
+        record {
+          follow = leading (u .good) (x .offset) (z .placed) (v .follow);
+          long = length-append y ys ∙ omega (arith, u .long, v .long);
+          bytes = all-append y ys (u .bytes) (v .bytes);
+          back = keeps-from y ys (u .long) (u .back) (v .back);
+          plain = λ pre e.
+              both (u .plain pre ys e)
+              (subst (λ (l : List ℕ). allPlain l (m .new) ≡ true) (append-assoc pre y ys) (v .plain (pre ++ y) (length-append pre y ∙ omega (arith, u .long))));
+          exact = λ pre t e p.
+              let all : List ℕ = pre ++ (x .from ++ m .from ++ t) in
+              let one : all ≡ pre ++ (x .from ++ (m .from ++ t)) = ap (λ (l : List ℕ). pre ++ l) (append-assoc (x .from) (m .from) t) in
+              let others : all ≡ pre ++ x .from ++ (m .from ++ t) = one ∙ sym (append-assoc pre (x .from) (m .from ++ t)) in
+              cc (
+                u .exact pre (m .from ++ t) e (rw one at (left (plainInstr all (z .instr)) (allPlain all (m .new)) p)),
+                v .exact (pre ++ x .from) t (length-append pre (x .from) ∙ omega (arith, x .whole))
+                    (rw others at (right (plainInstr all (z .instr)) (allPlain all (m .new)) p)),
+              );
+        }
+
+    -- all of it
+    read-more : RunRead g room h b at rest o
+    unfolding wordsIn
+    read-more =
+        let behind : z .behind ≡ x .behind = ap (λ (t : Reader). t .rest) (x .to) in
+        record {
+          book = m .book;
+          new = placedOf z ∷ m .new;
+          from = x .from ++ m .from;
+          behind = m .behind;
+          takes =
+              x .takes ∙ ap (λ (l : List ℕ). x .from ++ l) (sym behind ∙ m .takes) ∙ sym (append-assoc (x .from) (m .from) (m .behind));
+          whole = length-append (x .from) (m .from) ∙ omega (arith, x .whole, m .whole);
+          kept = m .kept ∙ append-assoc (b .kept) (placedOf z ∷ []) (m .new);
+          stopped = m .stopped;
+          accepted = λ e. let a = m .accepted e in (a .0, a .1, a .2 ∙ end-is (m .book));
+          again = keeps-from (x .from) (m .from) (x .whole) (x .again) (m .again);
+          sure = more-sure;
+        }
+
+  -- every run is so
+  pub run-read : {b : Book} {at : ℕ} {rest : List ℕ} {o : Outcome} → Run g room h b at rest o → RunRead g room h b at rest o
+  run-read (stops n place v x) = read-none x
+  run-read (keeps z e run) = read-more z e (run-read run)

@@ -5,13 +5,13 @@ use mathlib.Core.Bool.{Bool, true, false, not, _&&_, _||_}
 use mathlib.Core.List.{[], _∷_}
 use mathlib.Core.Option.{Option, none, some}
 use native.Mathlib.Omega.{arith}
-use borrow.Author.Tests.{eqb-true, leb-true, ltb-true, ltb-false, not-true}
-use lib.Dec.{leb, ltb, eqb}
+use borrow.Author.Tests.{eqb-true, ltb-true, ltb-false, not-true}
+use lib.Dec.{ltb, eqb}
 use Rattle.spec.specs.Base.{within, isIn, implies, every}
 use Rattle.spec.specs.Kinds.{isEnum, isResult, mayBeOperand, mayBeParameter, mayEmbed, isLogged, isLong, isText}
 use Rattle.spec.specs.Records.{Entry, entry}
 use Rattle.spec.specs.Match.{partsOf, literalKindOf}
-use Rattle.demands.proofs.Choice.{left, right, both, asked, other, either}
+use Rattle.demands.proofs.Choice.{left, right, both, asked, other, cases, either, IfSome, in-range}
 
 -- A TEST OF EVERY KIND
 
@@ -23,13 +23,9 @@ below f (suc n) = f n && below f n
 -- it holds of each
 below-at : (f : ℕ → Bool) (n k : ℕ) → below f n ≡ true → k < n → f k ≡ true
 below-at f zero k e h = absurd (omega arith)
-below-at f (suc n) k e h = go (ltb k n) refl (below-at f n k (right (f n) (below f n) e))
-  where
-    go : (c : Bool) → ltb k n ≡ c → (k < n → f k ≡ true) → f k ≡ true
-    go true l more = more (ltb-true k n l)
-    go false l more =
-        let n-is : n ≡ k = omega (arith, ltb-false k n l) in
-        rw n-is at (left (f n) (below f n) e)
+below-at f (suc n) k e h =
+    cases (ltb k n) (λ l. below-at f n k (right (f n) (below f n) e) (ltb-true k n l))
+    (λ l. let n-is : n ≡ k = omega (arith, ltb-false k n l) in rw n-is at (left (f n) (below f n) e))
 
 -- KINDS
 
@@ -37,36 +33,34 @@ below-at f (suc n) k e h = go (ltb k n) refl (below-at f n k (right (f n) (below
 abbrev pub isNarrow : ℕ → Bool
 isNarrow k = isLogged k && not (isLong k || isText k)
 
+-- a kind whose operand is a whole word: of one word, and no embedded opcode
+abbrev pub isWhole : ℕ → Bool
+isWhole k = isNarrow k && not (eqb k 39)
+
 -- a kind in one of two ranges is at most the end of the later
 in-ranges : (a b c d k : ℕ) → (within a k b || within c k d) ≡ true → b ≤ d → k ≤ d
-in-ranges a b c d k e h = go (within a k b) refl
-  where
-    go : (t : Bool) → within a k b ≡ t → k ≤ d
-    go true l = omega (arith, leb-true k b (right (leb a k) (leb k b) l))
-    go false l = leb-true k d (right (leb c k) (leb k d) (rw l at e))
+in-ranges a b c d k e h =
+    cases (within a k b) (λ l. omega (arith, in-range a k b l .1)) (λ l. in-range c k d (other (within a k b) (within c k d) e l) .1)
 
 -- a row's operand is of a kind that there is
 operand-kind : (k : ℕ) → mayBeOperand k ≡ true → k < 52
-operand-kind k e = omega (arith, leb-true k 51 (right (leb 1 k) (leb k 51) (left (within 1 k 51) (not (within 36 k 38)) e)))
+operand-kind k e = omega (arith, in-range 1 k 51 (left (within 1 k 51) (not (within 36 k 38)) e) .1)
 
 -- a literal of two words is of a kind of the log
 pub long-logged : (k : ℕ) → isLong k ≡ true → isLogged k ≡ true
-long-logged k e = go (eqb k 36) refl
-  where
-    go : (c : Bool) → eqb k 36 ≡ c → isLogged k ≡ true
-    go true f = rw (eqb-true k 36 f)
-    go false f = rw (eqb-true k 38 (other (eqb k 36) (eqb k 38) e f))
+long-logged k e =
+    cases (eqb k 36) (λ f. rw (eqb-true k 36 f)) (λ f. rw (eqb-true k 38 (other (eqb k 36) (eqb k 38) e f)))
 
--- an enumerant is one word
-pub enum-narrow : (k : ℕ) → isEnum k ≡ true → isNarrow k ≡ true
-enum-narrow k e =
-    asked (isEnum k) (isNarrow k) (below-at (λ j. implies (isEnum j) (isNarrow j)) 46 k refl (omega (arith, in-ranges 1 30 41 45 k e (omega arith)))) e
+-- an enumerant is a whole word
+pub enum-whole : (k : ℕ) → isEnum k ≡ true → isWhole k ≡ true
+enum-whole k e =
+    asked (isEnum k) (isWhole k) (below-at (λ j. implies (isEnum j) (isWhole j)) 46 k refl (omega (arith, in-ranges 1 30 41 45 k e (omega arith)))) e
 
--- a parameter that is no string is one word
-pub parameter-narrow : (k : ℕ) → mayBeParameter k ≡ true → isText k ≡ false → isNarrow k ≡ true
-parameter-narrow k e f =
-    asked (mayBeParameter k && not (isText k)) (isNarrow k)
-    (below-at (λ j. implies (mayBeParameter j && not (isText j)) (isNarrow j)) 46 k refl (omega (arith, in-ranges 1 35 40 45 k e (omega arith))))
+-- a parameter that is no string is a whole word
+pub parameter-whole : (k : ℕ) → mayBeParameter k ≡ true → isText k ≡ false → isWhole k ≡ true
+parameter-whole k e f =
+    asked (mayBeParameter k && not (isText k)) (isWhole k)
+    (below-at (λ j. implies (mayBeParameter j && not (isText j)) (isWhole j)) 46 k refl (omega (arith, in-ranges 1 35 40 45 k e (omega arith))))
     (both e (ap not f))
 
 -- a row's operand that is neither 46 nor 47 is no result
@@ -84,14 +78,14 @@ parts-parameters k e r m =
     (below-at (λ j. implies (mayBeOperand j && not (isResult j) && mayEmbed j) (every mayBeParameter (partsOf j))) 52 k refl (operand-kind k e))
     (both (both e (ap not r)) m)
 
--- the kind of a literal, where there is one, is of one word or of two
+-- the kind of a literal, where there is one, is of two words or a whole word
 abbrev pub LiteralKind : Option ℕ → Type 0
-LiteralKind none = Unit
-LiteralKind (some k) = (isLong k || isNarrow k) ≡ true
+LiteralKind o = IfSome (λ k. (isLong k || isWhole k) ≡ true) o
 
 -- by any type
 pub literal-kind : (x : Option Entry) → LiteralKind (literalKindOf x)
 literal-kind none = refl
 literal-kind (some (entry id width sort)) =
-    either LiteralKind (eqb sort 3) _ _ (either LiteralKind (isIn width (16 ∷ 32 ∷ [])) _ _ refl (either LiteralKind (eqb width 64) _ _ refl tt))
-    (either LiteralKind (isIn width (8 ∷ 16 ∷ 32 ∷ [])) _ _ refl (either LiteralKind (eqb width 64) _ _ refl tt))
+    either LiteralKind (eqb sort 3) _ _
+    (λ e. either LiteralKind (isIn width (16 ∷ 32 ∷ [])) _ _ (λ e. refl) (λ e. either LiteralKind (eqb width 64) _ _ (λ e. refl) (λ e. tt)))
+    (λ e. either LiteralKind (isIn width (8 ∷ 16 ∷ 32 ∷ [])) _ _ (λ e. refl) (λ e. either LiteralKind (eqb width 64) _ _ (λ e. refl) (λ e. tt)))

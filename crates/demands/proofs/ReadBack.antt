@@ -1,36 +1,63 @@
--- The records that a load leaves in stores pass the check and are what it keeps; so they tell one load from another.
+-- The records that a load leaves pass the check and are what it keeps; so they tell one load from another.
 use Prim.Native.Nat.{ℕ, _+_, _*_, _≤_}
 use mathlib.Core.Path.{_≡_, refl, ap, ap₂, sym, _∙_}
 use mathlib.Core.Bool.{Bool, true, false}
-use mathlib.Core.List.{List, [], _∷_, _++_, append-nil, nil≢cons, cons≢nil, tail-eq-of-cons-eq}
+use mathlib.Core.List.{List, [], _∷_, append-nil, nil≢cons, cons≢nil, tail-eq-of-cons-eq}
 use native.Mathlib.Omega.{arith}
 use lib.Dec.{eqb}
-use lib.ListN.{length, drop}
-use lib.Seq.{sets-eq}
+use lib.ListN.{length, drop, length-append, length-drop}
+use Rattle.spec.specs.declared.State.{State}
+use Rattle.spec.specs.declared.State.the-variants.{Outside}
 use Rattle.spec.specs.declared.Counts.{Counts}
 use Rattle.spec.specs.Base.{joined, implies}
+use Rattle.spec.specs.Header.{headerFrom}
+use Rattle.spec.specs.Grammar.{grammarOf}
 use Rattle.spec.specs.Layout.{endNumber}
 use Rattle.spec.specs.Records.{Placed, Entry, entry, entryWords, stringStore, logFrom}
-use Rattle.spec.specs.Load.{roomOf, Outcome, load, Stores, storesOf, laidOver}
+use Rattle.spec.specs.Load.{Outcome, nothing, load, Stores, storesOf}
 use Rattle.spec.specs.Check.{Given, good, check}
-use Rattle.demands.proofs.Bytes.{AllBytes}
-use Rattle.demands.proofs.Stores.{records-length}
-use Rattle.demands.proofs.Book.{takenBy, load-counts, InRoom, load-in-room}
-use Rattle.demands.proofs.Kept.{Kept, load-kept}
+use Rattle.demands.proofs.Bytes.{AllBytes, all-left, all-drop}
+use Rattle.demands.proofs.Stores.{BeginWith, records-length, entries-length}
+use Rattle.demands.proofs.Starts.{Loads, unformed, overlong, headless, opens, opens-good, load-is}
+use Rattle.demands.proofs.Kept.{Follow, last, wordsIn, run-read}
+use Rattle.demands.proofs.KeptSays.{takenBy, load-says}
 use Rattle.demands.proofs.CheckBack.{check-back}
 
--- THE STORES AFTER A LOAD
+-- WHAT A LOAD KEEPS
 
--- a list begins with another
-abbrev pub Begins : List ℕ → List ℕ → Type 0
-Begins l p = (more : List ℕ) × (l ≡ p ++ more)
+-- instructions that follow on from the header, no more of them than the module's bytes; outside functions where the load is accepted
+record Kept (o : Outcome) : Type 0 where
+  state : State
+  follow : Follow 20 Outside (o .kept) state
+  few : 4 * wordsIn (o .kept) ≤ 67108864
+  whole : o .said .number ≡ 0 → state ≡ Outside
 
--- stores that begin with others
-pub record BeginWith (t u : Stores) : Type 0 where
-  pub instructions : Begins (t .instructions) (u .instructions)
-  pub log : Begins (t .log) (u .log)
-  pub strings : Begins (t .strings) (u .strings)
-  pub types : Begins (t .types) (u .types)
+-- nothing is kept before the instructions
+none-kept : (n at : ℕ) → Kept (nothing n at)
+unfolding wordsIn
+none-kept n at = record { state = Outside; follow = last; few = omega arith; whole = λ e. refl }
+
+-- every load, accepted or refused, keeps that
+load-kept : (g : List ℕ) (room : Counts) (s : List ℕ) → AllBytes s → Kept (load g room s)
+load-kept g room s by = of (load-is g room s)
+  where
+    of : {o : Outcome} → Loads g room s o → Kept o
+    of (unformed e) = none-kept 24 0
+    of (overlong e) = none-kept 31 0
+    of (headless n at e f) = none-kept n at
+    of {o} (opens b run) =
+        let r = run-read (grammarOf g) (opens-good b) room (headerFrom s .words) run in
+        let same : r .new ≡ o .kept = sym (r .kept) ∙ ap (λ (x : Outcome). x .kept) (sym (r .stopped)) in
+        let u = r .sure (all-left (r .from) (r .behind) (rw (r .takes) at (all-drop 20 s by))) in
+        let all : length (drop 20 s) ≡ length (r .from) + length (r .behind) = ap length (r .takes) ∙ length-append (r .from) (r .behind) in
+        record {
+          state = r .book .state;
+          follow = rw same at (u .follow);
+          few = omega (arith, ap wordsIn same, r .whole, length-drop 20 s, b .short);
+          whole = λ z. r .accepted z .1;
+        }
+
+-- READ BACK
 
 -- stores and counts, as they are given to a call over records
 unfoldable pub givenBy : Stores → Counts → Given
@@ -56,16 +83,18 @@ kept-back whole x k w n t b =
 module _ (g : List ℕ) (room : Counts) (s : List ℕ) (by : AllBytes s) (t : Stores) (b : BeginWith t (storesOf (load g room s))) where
   -- the records of a load, accepted or refused, wherever stores begin with them, pass the check, and say what the load keeps
   pub reads-back : check false (givenBy t (load g room s .said .counts)) ≡ good (load g room s .kept)
-  reads-back = kept-back false (load g room s) (load-kept g room s by) refl (load-counts g room s) t b
+  reads-back = kept-back false (load g room s) (load-kept g room s by) refl (load-says g room s .counts) t b
 
   -- the records of an accepted load pass the check for module order too
   pub reads-back-whole : load g room s .said .number ≡ 0 → check true (givenBy t (load g room s .said .counts)) ≡ good (load g room s .kept)
   reads-back-whole z =
       let k : Kept (load g room s) = load-kept g room s by in
-      kept-back true (load g room s) k (rw (k .whole z)) (load-counts g room s) t b
+      kept-back true (load g room s) k (rw (k .whole z)) (load-says g room s .counts) t b
+
+-- STORES TELL
 
 -- the records alone begin with themselves
-pub records-begin : (u : Stores) → BeginWith u u
+records-begin : (u : Stores) → BeginWith u u
 records-begin u =
     record {
       instructions = ([], sym (append-nil (u .instructions)));
@@ -73,51 +102,6 @@ records-begin u =
       strings = ([], sym (append-nil (u .strings)));
       types = ([], sym (append-nil (u .types)));
     }
-
--- LENT STORES
-
--- the room in stores
-unfoldable pub roomIn : Stores → Counts
-roomIn t = roomOf (length (t .instructions)) (length (t .log)) (length (t .strings)) (length (t .types))
-
--- stores after records were laid over them
-unfoldable pub laidOn : Stores → Stores → Stores
-laidOn t u =
-    record {
-      instructions = laidOver (t .instructions) (u .instructions);
-      log = laidOver (t .log) (u .log);
-      strings = laidOver (t .strings) (u .strings);
-      types = laidOver (t .types) (u .types);
-    }
-
--- a store begins with what was laid over it
-laid-begins : (store bs : List ℕ) → length bs ≤ length store → Begins (laidOver store bs) bs
-unfolding laidOver
-laid-begins store bs h = (drop (0 + length bs) store, sets-eq bs store 0 (omega arith))
-
--- an entry is three words
-entries-length : (es : List Entry) → length (joined entryWords es) ≡ 3 * length es
-entries-length [] = refl
-entries-length (entry id w s ∷ es) = omega (arith, entries-length es)
-
--- stores with room for an outcome begin with its records
-room-begins : (x : Outcome) (t : Stores) → x .said .counts ≡ takenBy (x .kept) (x .types) → InRoom (roomIn t) (x .said .counts)
-    → BeginWith (laidOn t (storesOf x)) (storesOf x)
-unfolding roomIn roomOf laidOn storesOf takenBy
-room-begins x t n h =
-    let r : InRoom (roomIn t) (takenBy (x .kept) (x .types)) = rw n at h in
-    record {
-      instructions = laid-begins (t .instructions) _ (omega (arith, r .instructions, records-length 0 (x .kept)));
-      log = laid-begins (t .log) _ (r .log);
-      strings = laid-begins (t .strings) _ (r .strings);
-      types = laid-begins (t .types) _ (omega (arith, r .types, entries-length (x .types)));
-    }
-
--- lent stores, after a load that had their room, begin with its records
-pub laid-begin : (g : List ℕ) (s : List ℕ) (t : Stores) → let u = storesOf (load g (roomIn t) s) in BeginWith (laidOn t u) u
-laid-begin g s t = room-begins (load g (roomIn t) s) t (load-counts g (roomIn t) s) (load-in-room g (roomIn t) s)
-
--- STORES TELL
 
 -- type entries by their words
 entries-tell : (a b : List Entry) → joined entryWords a ≡ joined entryWords b → a ≡ b
@@ -149,7 +133,7 @@ pub stores-tell : (g h : List ℕ) (room other : Counts) (s u : List ℕ) → Al
 stores-tell g h room other s u bs bu e =
     let x : Outcome = load g room s in
     let y : Outcome = load h other u in
-    let n : x .said .counts ≡ y .said .counts = same-counts x y (load-counts g room s) (load-counts h other u) e in (
+    let n : x .said .counts ≡ y .said .counts = same-counts x y (load-says g room s .counts) (load-says h other u .counts) e in (
       same-good (x .kept) (y .kept)
           (sym (reads-back g room s bs (storesOf x) (records-begin (storesOf x))) ∙ ap₂ (λ (t : Stores) (n : Counts). check false (givenBy t n)) e n
           ∙ reads-back h other u bu (storesOf y) (records-begin (storesOf y))),

@@ -1,27 +1,79 @@
 -- The room that always suffices: "With W whole words after the header, W instruction records, 9W log bytes, 4W string bytes and W
--- type entries".
-use Prim.Native.Nat.{ℕ, _+_, _-_, _*_, _/_, _≤_}
+-- type entries"; and what is kept never goes past the room.
+use Prim.Native.Nat.{ℕ, suc, _+_, _-_, _*_, _/_, _≤_}
 use native.Mathlib.Omega.{arith}
-use mathlib.Core.Path.{_≡_, sym, _∙_}
-use mathlib.Core.Bool.{Bool, true, false, false≢true}
+use mathlib.Core.Path.{_≡_, refl}
+use mathlib.Core.Bool.{Bool, true, false}
 use mathlib.Core.List.{List, [], _∷_}
 use mathlib.Core.Option.{Option, none, some}
-use borrow.Author.Tests.{eqb-false, lt-leb, le-ltb}
-use lib.Dec.{eqb}
-use lib.ListN.{length, length-drop, length-append}
+use borrow.Author.Tests.{eqb-true, eqb-false, ltb-false, lt-leb, le-ltb}
+use lib.Dec.{ltb, eqb}
+use lib.ListN.{length, drop, length-drop, length-append}
 use Rattle.spec.specs.declared.Counts.{Counts}
 use Rattle.spec.specs.Base.{if_then_else_, within}
 use Rattle.spec.specs.Words.{bytesOf}
-use Rattle.spec.specs.Records.{Operand, narrow, wide, text, Instr, Entry, entry, operandSize, operandsSize, operandLog, operandString, operandsLog, operandsStrings}
-use Rattle.spec.specs.Grammar.{Grammar, wellFormed}
+use Rattle.spec.specs.Records.{Operand, narrow, wide, text, Instr, Entry, entry, operandSize, operandsSize, operandLog, operandString, operandsLog}
+use Rattle.spec.specs.Grammar.{Grammar}
 use Rattle.spec.specs.Layout.{isType}
 use Rattle.spec.specs.Types.{define, entryOf, literalInt, defineInt, defineFloat, trackInt, trackFloat, inherit, trackValue, trackResult, track}
-use Rattle.spec.specs.Reader.{Reader}
-use Rattle.spec.specs.Load.{roomOf, enough, roomFault, Book, emptyBook, load}
-use Rattle.demands.proofs.MovesInstructions.{framed, instr-left, instr-size}
-use Rattle.demands.proofs.LoadRuns.{Enters, with}
-use Rattle.demands.proofs.LoadStarts.{instructionsOf, load-is}
+use Rattle.spec.specs.Load.{enough, roomFault, Book, emptyBook, Outcome, load}
+use Rattle.demands.proofs.Choice.{either}
+use Rattle.demands.proofs.Stores.{strings-short}
+use Rattle.demands.proofs.Formed.{GrammarGood}
+use Rattle.demands.proofs.Runs.{Enters, with, Run, stops, keeps, entered-read, left-behind}
+use Rattle.demands.proofs.Starts.{Loads, unformed, overlong, headless, opens, load-is}
 use Rattle.demands.proofs.Numbers.{Source, theGrammar, theLength, theHeader, instructions, run-source, load-source, run-bound}
+
+-- ROOM
+
+-- each store of the one is at least that of the other
+pub record Covers (room need : Counts) : Type 0 where
+  pub instructions : need .instructions ≤ room .instructions
+  pub log : need .log ≤ room .log
+  pub strings : need .strings ≤ room .strings
+  pub types : need .types ≤ room .types
+
+-- then no store lacks room
+covers-fits : (room need : Counts) → Covers room need → roomFault room need ≡ 0
+unfolding roomFault
+covers-fits room need c =
+    rw (
+      le-ltb (room .instructions) (need .instructions) (c .instructions),
+      le-ltb (room .log) (need .log) (c .log),
+      le-ltb (room .strings) (need .strings) (c .strings),
+      le-ltb (room .types) (need .types) (c .types),
+    )
+
+-- a number chosen by a test is 0 only where the test fails
+chosen-zero : (c : Bool) (n m : ℕ) → (if c then suc n else m) ≡ 0 → (c ≡ false) × (m ≡ 0)
+chosen-zero true n m e = absurd (omega arith)
+chosen-zero false n m e = (refl, e)
+
+-- and only then
+fits-covers : (room need : Counts) → roomFault room need ≡ 0 → Covers room need
+unfolding roomFault
+fits-covers room need e =
+    let a = chosen-zero (ltb (room .instructions) (need .instructions)) 24 _ e in
+    let b = chosen-zero (ltb (room .log) (need .log)) 25 _ (a .1) in
+    let c = chosen-zero (ltb (room .strings) (need .strings)) 26 _ (b .1) in
+    let d = chosen-zero (ltb (room .types) (need .types)) 27 _ (c .1) in
+    record { instructions = ltb-false _ _ (a .0); log = ltb-false _ _ (b .0); strings = ltb-false _ _ (c .0); types = ltb-false _ _ (d .0) }
+
+-- what a run keeps never goes past the room
+run-covered : {g : Grammar} {room : Counts} {h : List ℕ} {b : Book} {at : ℕ} {rest : List ℕ} {o : Outcome} → Run g room h b at rest o
+    → Covers room (b .used) → Covers room (o .said .counts)
+run-covered (stops n place v x) c = c
+run-covered {room = room} (keeps z e run) c = run-covered run (fits-covers room (with z .used) (eqb-true (roomFault room (with z .used)) 0 e))
+
+-- nor what a load keeps
+pub load-covered : (grammar : List ℕ) (room : Counts) (s : List ℕ) → Covers room (load grammar room s .said .counts)
+load-covered grammar room s = by (load-is grammar room s)
+  where
+    by : {o : Outcome} → Loads grammar room s o → Covers room (o .said .counts)
+    by (unformed e) = omega arith
+    by (overlong e) = omega arith
+    by (headless n at e f) = omega arith
+    by (opens b run) = run-covered run (omega arith)
 
 -- LOG AND STRINGS
 
@@ -41,22 +93,6 @@ log-some a (o ∷ os) =
     let i = log-some (a + length (operandString o)) os in
     simp length-append (omega arith)
 
--- an operand takes at most four bytes of the strings for each of its words
-string-one : (o : Operand) → length (operandString o) ≤ 4 * operandSize o
-unfolding operandString operandSize
-string-one (narrow k v) = omega arith
-string-one (wide k v) = omega arith
-string-one (text s) = omega arith
-
--- so do some operands
-string-some : (os : List Operand) → length (operandsStrings os) ≤ 4 * operandsSize os
-unfolding operandsStrings operandsSize
-string-some [] = omega arith
-string-some (o ∷ os) =
-    let h = string-one o in
-    let i = string-some os in
-    simp length-append (omega arith)
-
 -- TYPES
 
 -- an entry more at most
@@ -71,17 +107,9 @@ same-more es = omega arith
 define-more : (i w s : ℕ) (es : List Entry) → OneMore es (define i w s es)
 unfolding define
 define-more i w s [] = omega arith
-define-more i w s (entry id x y ∷ es) = by (eqb id i) (define-more i w s es .most)
-  where
-    by : (c : Bool) → length (define i w s es) ≤ length es + 1
-        → OneMore (entry id x y ∷ es) (if c then entry i w s ∷ es else entry id x y ∷ define i w s es)
-    by true h = omega arith
-    by false h = omega arith
-
--- one of two, by a test
-if-more : {es a b : List Entry} (c : Bool) → OneMore es a → OneMore es b → OneMore es (if c then a else b)
-if-more true x y = x
-if-more false x y = y
+define-more i w s (entry id x y ∷ es) =
+    let more = define-more i w s es in
+    either (OneMore (entry id x y ∷ es)) (eqb id i) _ _ (λ e. omega arith) (λ e. omega arith)
 
 -- a width and a sign, or one lacks
 int-more : (i : ℕ) (w sign : Option ℕ) (es : List Entry) → OneMore es (defineInt i w sign es)
@@ -119,9 +147,10 @@ value-more i (some t) es = inherit-more i (entryOf t es) es
 result-more : (op : ℕ) (t i : Option ℕ) (os : List Operand) (es : List Entry) → OneMore es (trackResult op t i os es)
 result-more op t none os es = same-more es
 result-more op t (some i) os es =
-    if-more (isType op)
-    (if-more (eqb op 21) (track-int-more i os es) (if-more (eqb op 22) (track-float-more i os es) (same-more es)))
-    (value-more i t es)
+    either (OneMore es) (isType op) _ _
+    (λ e. either (OneMore es) (eqb op 21) _ _ (λ e. track-int-more i os es)
+    (λ e. either (OneMore es) (eqb op 22) _ _ (λ e. track-float-more i os es) (λ e. same-more es)))
+    (λ e. value-more i t es)
 
 -- an instruction adds an entry at most
 track-more : (i : Instr) (es : List Entry) → OneMore es (track i es)
@@ -130,35 +159,17 @@ track-more i es = result-more (i .opcode) (i .resultType) (i .resultId) (i .oper
 
 -- WHAT IS KEPT
 
--- each store of the one is at least that of the other
-pub record Covers (room need : Counts) : Type 0 where
-  pub instructions : need .instructions ≤ room .instructions
-  pub log : need .log ≤ room .log
-  pub strings : need .strings ≤ room .strings
-  pub types : need .types ≤ room .types
-
--- then no store lacks room
-covers-fits : (room need : Counts) → Covers room need → roomFault room need ≡ 0
-unfolding roomFault
-covers-fits room need c =
-    rw (
-      le-ltb (room .instructions) (need .instructions) (c .instructions),
-      le-ltb (room .log) (need .log) (c .log),
-      le-ltb (room .strings) (need .strings) (c .strings),
-      le-ltb (room .types) (need .types) (c .types),
-    )
-
 -- what is kept takes no more than its words may, and they and the words left are w at most
-record Held (w : ℕ) (b : Book) (r : Reader) : Type 0 where
+record Held (w : ℕ) (b : Book) (rest : List ℕ) : Type 0 where
   words : ℕ
-  fits : words + length (r .rest) / 4 ≤ w
+  fits : words + length rest / 4 ≤ w
   instructions : b .used .instructions ≤ words
   log : b .used .log ≤ 9 * words
   strings : b .used .strings ≤ 4 * words
   types : length (b .types) ≤ words
 
 -- nothing is kept
-held-none : (s : List ℕ) → Held (length s / 4 - 5) emptyBook (instructionsOf s)
+held-none : (s : List ℕ) → Held (length s / 4 - 5) emptyBook (drop 20 s)
 held-none s =
     let e = length-drop 20 s in
     record {
@@ -170,17 +181,16 @@ held-none s =
       types = omega arith;
     }
 
-module _ {g : Grammar} {room : Counts} {w : ℕ} (c : Covers room (enough w)) (b : Book) (r : Reader) (z : Enters g b r)
-    (k : Held w b r) where
+module _ {g : Grammar} (good : GrammarGood g) {room : Counts} {w : ℕ} (c : Covers room (enough w)) (b : Book) (at : ℕ) (rest : List ℕ)
+    (z : Enters g b at rest) (k : Held w b rest) where
   -- an instruction more takes no more than its words more
-  held-more : Held w (with z) (z .next)
+  held-more : Held w (with z) (z .behind)
   held-more =
       let i = z .instr in
-      let f = framed (b .types) (z .read) in
-      let left = instr-left f in
-      let size = instr-size f in
+      let size = entered-read g good z .count in
+      let left = left-behind g good z in
       let logged = log-some 0 (i .operands) in
-      let stored = string-some (i .operands) in
+      let stored = strings-short (i .operands) in
       let typed = track-more i (b .types) in
       record {
         words = k .words + i .words;
@@ -199,21 +209,22 @@ module _ {g : Grammar} {room : Counts} {w : ℕ} (c : Covers room (enough w)) (b
 -- THE ROOM THAT SUFFICES
 
 -- no number at all
-abbrev pub Never : ℕ → Type 0
+abbrev Never : ℕ → Type 0
 Never n = ⊥
 
 module _ (grammar : List ℕ) (room : Counts) (s : List ℕ) (c : Covers room (enough (length s / 4 - 5))) where
   -- no number comes from the room
-  pub roomy-source : Source grammar s Never (load grammar room s .said .number)
+  roomy-source : Source grammar s Never (load grammar room s .said .number)
   roomy-source =
       load-source Never
-      (λ run. run-source Never (Held (length s / 4 - 5))
-      (λ b r z k e. absurd (eqb-false (roomFault room (with z .used)) 0 e (held-fits c b r z k))) (held-more c) run (held-none s))
+      (λ good run. run-source good Never (Held (length s / 4 - 5))
+      (λ b at rest z k e. absurd (eqb-false (roomFault room (with z .used)) 0 e (held-fits good c b at rest z k)))
+      (held-more good c) run (held-none s))
       (load-is grammar room s)
 
   -- the number is never 25, 26, 27 or 28
-  pub room-suffices : within 25 (load grammar room s .said .number) 28 ≡ false
-  room-suffices = by roomy-source
+  pub load-roomy : within 25 (load grammar room s .said .number) 28 ≡ false
+  load-roomy = by roomy-source
     where
       below : (n : ℕ) → n ≤ 24 → within 25 n 28 ≡ false
       below n h = rw (lt-leb 25 n (omega arith))
@@ -223,18 +234,3 @@ module _ (grammar : List ℕ) (room : Counts) (s : List ℕ) (c : Covers room (e
       by (theLength e f) = rw f
       by {n} (theHeader e f) = below n (omega arith)
       by {n} (instructions z) = below n (run-bound z (omega arith) (λ x. absurd x))
-
-  -- with a well-formed grammar, and no more bytes than may be, it is in 0 to 23
-  pub roomy-numbers : wellFormed grammar ≡ true → length s ≤ 67108864 → load grammar room s .said .number ≤ 23
-  roomy-numbers formed short = by roomy-source
-    where
-      by : {n : ℕ} → Source grammar s Never n → n ≤ 23
-      by (theGrammar e f) = absurd (false≢true (sym e ∙ formed))
-      by (theLength e f) = absurd (omega arith)
-      by (theHeader e f) = omega arith
-      by (instructions z) = run-bound z (omega arith) (λ x. absurd x)
-
--- the stores that have that room: 8W words, 9W bytes, 4W bytes and 3W words
-pub stores-cover : (w i l t e : ℕ) → 8 * w ≤ i → 9 * w ≤ l → 4 * w ≤ t → 3 * w ≤ e → Covers (roomOf i l t e) (enough w)
-unfolding roomOf enough
-stores-cover w i l t e a b c d = omega arith

@@ -5,7 +5,7 @@ use mathlib.Core.Bool.{Bool, true, false, not, _&&_, _||_, false≢true}
 use mathlib.Core.List.{List, [], _∷_, _++_, reverse}
 use mathlib.Core.Option.{Option, none, some, Option·some-ne-none}
 use native.Mathlib.Omega.{arith}
-use borrow.Author.Tests.{eqb-true, eqb-false, leb-true, lt-leb, ne-eqb}
+use borrow.Author.Tests.{eqb-true, eqb-false, leb-true, le-leb, lt-leb, ne-eqb}
 use lib.Dec.{leb, eqb}
 use lib.ListN.{length, take, drop}
 use lib.Seq.{drop-at}
@@ -20,35 +20,32 @@ use Rattle.spec.specs.Layout.{layoutOf}
 use Rattle.spec.specs.Records.{Operand, Placed}
 use Rattle.spec.specs.Check.{Given, lower, missing, recordsIn, fieldsFault, Left, Taken, short, taken, takeOperands, placedOf, wordsGood, Scan, endScan, addScan, onTaken, scanFrom, scanOf, onTag, tagsFault, faultOf, good, checkedBy, check}
 use Rattle.spec.specs.Write.{hasTag, sectionOf, sections, parametersIn, functions, moduleOrder, neverFalls, parametersFirst, isStanding, bytesOfAll, parseBytes, moduleHeader, moduleBytes}
-use Rattle.demands.proofs.Choice.{left, right, both, other, fails, either, either-by}
+use Rattle.demands.proofs.Choice.{left, right, both, other, fails, cases, either, in-range}
+use Rattle.demands.proofs.Lists.{joined-same}
 use Rattle.demands.proofs.Cells.{leads, tag-leads}
 
 -- TAGS WALK THE TABLE
 
 -- instructions whose tags lead on from a state
-pub data Walks : State → List Placed → Type 0 where
+data Walks : State → List Placed → Type 0 where
   stops : {s : State} → Walks s []
   goes : {s t : State} {p : Placed} {ps : List Placed} → leads s (p .tag) t ≡ true → Walks t ps → Walks s (p ∷ ps)
 
 -- the lower of two faults is none where both are
 none-lower : (a b : Option ℕ) → lower a b ≡ none → (a ≡ none) × (b ≡ none)
 none-lower none b e = (refl, e)
-none-lower (some i) none e = (cc, refl)
-none-lower (some i) (some j) e = go (leb i j) e
-  where
-    go : (c : Bool) → _≡_ {A = Option ℕ} (if c then some i else some j) none → (some i ≡ none) × (some j ≡ none)
-    go true e = (cc, cc)
-    go false e = (cc, cc)
+none-lower (some i) none e = absurd (Option·some-ne-none i e)
+none-lower (some i) (some j) e =
+    absurd
+    (either (λ (o : Option ℕ). o ≡ none → ⊥) (leb i j) (some i) (some j) (λ c. Option·some-ne-none i) (λ c. Option·some-ne-none j) e)
 
 -- a record whose tag is the one that the table gives
 tag-walks : (index tag op : ℕ) (s : State) (z : Cell) (more : State → Option ℕ) → layoutOf op s ≡ z → onTag index tag z more ≡ none
     → (t : State) × (leads s tag t ≡ true) × (more t ≡ none)
 tag-walks index tag op s (Refuses n) more e f = absurd (Option·some-ne-none _ f)
-tag-walks index tag op s (Tagged k t) more e f = go (eqb tag k) refl f
-  where
-    go : (c : Bool) → eqb tag k ≡ c → (if c then more t else some index) ≡ none → (t : State) × (leads s tag t ≡ true) × (more t ≡ none)
-    go true same f = (t, rw (eqb-true tag k same) (tag-leads op s t k e), f)
-    go false same f = absurd (Option·some-ne-none _ f)
+tag-walks index tag op s (Tagged k t) more e f =
+    either (λ (o : Option ℕ). o ≡ none → (t : State) × (leads s tag t ≡ true) × (more t ≡ none)) (eqb tag k) (more t) (some index)
+    (λ same f. (t, rw (eqb-true tag k same) (tag-leads op s t k e), f)) (λ same f. absurd (Option·some-ne-none _ f)) f
 
 module _ (i j : ℕ) (r : Fields) (l : Left) (s : State) (more : Left → Scan) (later : State → Option ℕ)
     (walks : (m : Left) (t : State) → more m .fault ≡ none → later t ≡ none → Walks t (more m .instrs))
@@ -94,7 +91,7 @@ checked-walks whole x is none e f =
     subst (Walks Outside) same (scan-walks (x .logCount) (x .stringCount) whole (recordsIn x) 1 1 _ Outside (tags .0) (tags .1))
 
 -- records that pass the check walk the table
-pub check-walks : (whole : Bool) (x : Given) (is : List Placed) → check whole x ≡ good is → Walks Outside is
+check-walks : (whole : Bool) (x : Given) (is : List Placed) → check whole x ≡ good is → Walks Outside is
 unfolding check
 check-walks whole x is e = checked-walks whole x is (faultOf whole x) refl e
 
@@ -114,15 +111,11 @@ record Stays (is : List Placed) : Type 0 where
 module _ (p : Placed) (ps : List Placed) (late : 12 ≤ p .tag) (on : Stays ps) where
   -- its tag is no section's
   not-early : within 1 (p .tag) 11 ≡ true → ⊥
-  not-early e = omega (arith, leb-true (p .tag) 11 (right (leb 1 (p .tag)) (leb (p .tag) 11) e))
+  not-early e = omega (arith, in-range 1 (p .tag) 11 e .1)
 
   -- what is left of a test, then
   no-section : (c : Bool) → (within 1 (p .tag) 11 || c) ≡ true → c ≡ true
-  no-section c e = go (within 1 (p .tag) 11) refl e
-    where
-      go : (w : Bool) → within 1 (p .tag) 11 ≡ w → (w || c) ≡ true → c ≡ true
-      go true w e = absurd (not-early w)
-      go false w e = e
+  no-section c e = other (within 1 (p .tag) 11) c e (fails (within 1 (p .tag) 11) not-early)
 
   -- it stands first, with a tag that is known, where the rest stays
   first : (k : ℕ) {l m : List Placed} → l ≡ m → record { instr = p .instr; tag = k } ∷ l ≡ record { instr = p .instr; tag = k } ∷ m
@@ -213,11 +206,8 @@ rest-late t p ps e = right (leb 12 (p .tag) || leb t (p .tag)) (neverFalls (afte
 
 -- one of two bounds
 either-least : (a b k : ℕ) → (leb a k || leb b k) ≡ true → (t : ℕ) → t < a → t < b → t < k
-either-least a b k e t ha hb = go (leb a k) refl
-  where
-    go : (c : Bool) → leb a k ≡ c → t < k
-    go true c = omega (arith, leb-true a k c)
-    go false c = omega (arith, leb-true b k (other (leb a k) (leb b k) e c))
+either-least a b k e t ha hb =
+    cases (leb a k) (λ c. omega (arith, leb-true a k c)) (λ c. omega (arith, leb-true b k (other (leb a k) (leb b k) e c)))
 
 -- after the sections each tag is 12 or more
 late-tag : (p : Placed) (ps : List Placed) → neverFalls 12 (p ∷ ps) ≡ true → 12 ≤ p .tag
@@ -239,7 +229,7 @@ only-none : (t k : ℕ) (is : List Placed) → t < k → t < 12 → neverFalls k
 only-none t k [] h l e = refl
 only-none t k (p ∷ ps) h l e =
     let more : t < p .tag = either-least 12 k (p .tag) (first-late k p ps e) t l h in
-    rw (ne-eqb (p .tag) t (λ z. omega arith)) (only-none t (after (p .tag)) ps (either (λ n. t < n) (leb (p .tag) 11) (p .tag) 12 more l) l (rest-late k p ps e))
+    rw (ne-eqb (p .tag) t (λ z. omega arith)) (only-none t (after (p .tag)) ps (either (λ n. t < n) (leb (p .tag) 11) (p .tag) 12 (λ e. more) (λ e. l)) l (rest-late k p ps e))
 
 -- numbers one after the other
 abbrev upFrom : ℕ → ℕ → List ℕ
@@ -265,14 +255,10 @@ module _ (p : Placed) (ps : List Placed) where
   picked-first : neverFalls (p .tag) ps ≡ true → (n m : ℕ) → n ≤ p .tag → p .tag < n + m → n + m ≤ 12
       → picked (upFrom n m) (p ∷ ps) ≡ p ∷ picked (upFrom n m) ps
   picked-first e n zero l h u = absurd (omega arith)
-  picked-first e n (suc m) l h u = go (eqb (p .tag) n) refl (λ l. picked-first e (suc n) m l (omega arith) (omega arith))
-    where
-      go : (c : Bool) → eqb (p .tag) n ≡ c → (suc n ≤ p .tag → picked (upFrom (suc n) m) (p ∷ ps) ≡ p ∷ picked (upFrom (suc n) m) ps)
-          → picked (upFrom n (suc m)) (p ∷ ps) ≡ p ∷ picked (upFrom n (suc m)) ps
-      go true c more = rw (c, picked-past (suc n) m (omega (arith, eqb-true (p .tag) n c)))
-      go false c more =
-          let above : n < p .tag = omega (arith, eqb-false (p .tag) n c) in
-          rw (c, only-none n (p .tag) ps above (omega arith) e) (more above)
+  picked-first e n (suc m) l h u =
+      cases (eqb (p .tag) n) (λ c. rw (c, picked-past (suc n) m (omega (arith, eqb-true (p .tag) n c))))
+      (λ c. let above : n < p .tag = omega (arith, eqb-false (p .tag) n c) in
+      rw (c, only-none n (p .tag) ps above (omega arith) e) (picked-first e (suc n) m above (omega arith) (omega arith)))
 
 -- the last of at most one
 last-one : {A : Type 0} (l : List A) → length l ≤ 1 → take 1 (reverse l) ≡ l
@@ -284,13 +270,8 @@ last-one (x ∷ y ∷ l) h = absurd (omega arith)
 section-picked : (is : List Placed) → length (only (hasTag 4) is) ≤ 1 → (t : ℕ) → sectionOf t is ≡ only (hasTag t) is
 unfolding sectionOf
 section-picked is h t =
-    either-by (λ (l : List Placed). l ≡ only (hasTag t) is) (eqb t 4) (take 1 (reverse (only (hasTag t) is))) (only (hasTag t) is)
+    either (λ (l : List Placed). l ≡ only (hasTag t) is) (eqb t 4) (take 1 (reverse (only (hasTag t) is))) (only (hasTag t) is)
     (λ e. last-one (only (hasTag t) is) (rw (eqb-true t 4 e) h)) (λ e. refl)
-
--- the same lists joined
-joined-same : {A B : Type 0} (f g : A → List B) → ((x : A) → f x ≡ g x) → (xs : List A) → joined f xs ≡ joined g xs
-joined-same f g h [] = refl
-joined-same f g h (x ∷ xs) = rw (h x, joined-same f g h xs)
 
 -- the sections are the instructions with each tag
 sections-picked : (is : List Placed) → length (only (hasTag 4) is) ≤ 1 → sections is ≡ picked (upFrom 1 11) is
@@ -305,10 +286,9 @@ module _ (p : Placed) (ps : List Placed) where
       → picked (upFrom 1 11) (p ∷ ps) ++ functions (p ∷ ps) ≡ p ∷ ps
   unfolding functions
   section-stays h e more =
-      let least : 1 ≤ p .tag = leb-true 1 (p .tag) (left (leb 1 (p .tag)) (leb (p .tag) 11) h) in
-      let small : leb (p .tag) 11 ≡ true = right (leb 1 (p .tag)) (leb (p .tag) 11) h in
-      let most : p .tag ≤ 11 = leb-true (p .tag) 11 small in
-      rw (picked-first p ps (rw small at e) 1 11 least (omega arith) (omega arith), ne-eqb (p .tag) 12 (λ z. omega arith), lt-leb 14 (p .tag) (omega arith))
+      let least : 1 ≤ p .tag = in-range 1 (p .tag) 11 h .0 in
+      let most : p .tag ≤ 11 = in-range 1 (p .tag) 11 h .1 in
+      rw (picked-first p ps (rw (le-leb (p .tag) 11 most) at e) 1 11 least (omega arith) (omega arith), ne-eqb (p .tag) 12 (λ z. omega arith), lt-leb 14 (p .tag) (omega arith))
       (ap (λ (l : List Placed). p ∷ l) more)
 
   -- after a definition no section follows
@@ -354,7 +334,7 @@ words-length [] = refl
 words-length (w ∷ ws) = omega (arith, words-length ws)
 
 -- the instructions of records that pass the check and stand are in module order
-pub standing-order : (whole : Bool) (x : Given) (is : List Placed) → check whole x ≡ good is → isStanding is ≡ true → moduleOrder is ≡ is
+standing-order : (whole : Bool) (x : Given) (is : List Placed) → check whole x ≡ good is → isStanding is ≡ true → moduleOrder is ≡ is
 unfolding isStanding moduleOrder
 standing-order whole x is c e =
     let tags = left (neverFalls 0 is && parametersFirst false is) (leb (length (only (hasTag 4) is)) 1) e in

@@ -1,5 +1,5 @@
--- The stores of some instructions, and of one more: records, operand log and strings.
-use Prim.Native.Nat.{ℕ, _+_, _*_}
+-- The stores of some instructions, and of one more: records, operand log and strings; and stores that begin with others.
+use Prim.Native.Nat.{ℕ, _+_, _*_, _≤_}
 use mathlib.Core.Path.{_≡_, refl, _∙_}
 use mathlib.Core.List.{List, [], _∷_, _++_, append-assoc, append-nil}
 use native.Mathlib.Omega.{arith}
@@ -7,12 +7,9 @@ use native.Mathlib.Nat.{add-assoc, add-zero}
 use lib.ListN.{length, length-append}
 use Rattle.spec.specs.Base.{joined}
 use Rattle.spec.specs.Words.{bytesOf}
-use Rattle.spec.specs.Records.{Operand, narrow, wide, text, Placed, operandLog, operandString, operandsLog, operandsStrings, stringStore, logFrom, fieldsOf, fieldWords, recordsFrom}
-
--- lists joined one after the other
-pub joined-append : {A B : Type 0} (f : A → List B) (xs ys : List A) → joined f (xs ++ ys) ≡ joined f xs ++ joined f ys
-joined-append f [] ys = refl
-joined-append f (x ∷ xs) ys = rw (joined-append f xs ys, append-assoc)
+use Rattle.spec.specs.Records.{Operand, narrow, wide, text, Placed, Entry, entry, entryWords, operandSize, operandsSize, operandLog, operandString, operandsLog, operandsStrings, stringStore, logFrom, fieldWords, recordsFrom}
+use Rattle.spec.specs.Load.{Stores}
+use Rattle.demands.proofs.Lists.{Begins, joined-append}
 
 -- an operand takes as much of the log wherever its string starts
 operand-log-length : (m n : ℕ) (o : Operand) → length (operandLog m o) ≡ length (operandLog n o)
@@ -37,11 +34,29 @@ log-length m n (p ∷ ps) =
     let k : ℕ = length (operandsStrings (p .instr .operands)) in
     simp length-append (omega (arith, operands-log-length m n (p .instr .operands), log-length (m + k) (n + k) ps))
 
+-- a string is no longer than its words
+pub string-short : (o : Operand) → length (operandString o) ≤ 4 * operandSize o
+unfolding operandString operandSize
+string-short (narrow k v) = omega arith
+string-short (wide k v) = omega arith
+string-short (text s) = omega arith
+
+-- nor are strings
+pub strings-short : (os : List Operand) → length (operandsStrings os) ≤ 4 * operandsSize os
+unfolding operandsStrings operandsSize
+strings-short [] = omega arith
+strings-short (o ∷ os) = omega (arith, length-append (operandString o) (joined operandString os), string-short o, strings-short os)
+
 -- a record is eight words
 pub records-length : (start : ℕ) (is : List Placed) → length (recordsFrom start is) ≡ 8 * length is
 unfolding recordsFrom fieldWords
 records-length start [] = refl
 records-length start (p ∷ ps) = omega (arith, records-length (start + length (operandsLog 0 (p .instr .operands))) ps)
+
+-- a type entry is three
+pub entries-length : (es : List Entry) → length (joined entryWords es) ≡ 3 * length es
+entries-length [] = refl
+entries-length (entry id w s ∷ es) = omega (arith, entries-length es)
 
 -- the strings of one more
 pub strings-more : (is : List Placed) (p : Placed) → stringStore (is ++ (p ∷ [])) ≡ stringStore is ++ operandsStrings (p .instr .operands)
@@ -57,12 +72,9 @@ log-more strings (q ∷ qs) p =
     let a : List ℕ = operandsStrings (q .instr .operands) in
     rw (log-more (strings + length a) qs p, length-append, ← add-assoc, append-assoc)
 
--- the records of one more
-pub records-more : (start : ℕ) (is : List Placed) (p : Placed)
-    → recordsFrom start (is ++ (p ∷ [])) ≡ recordsFrom start is ++ fieldWords (fieldsOf (start + length (logFrom 0 is)) p)
-unfolding recordsFrom logFrom
-records-more start [] p = rw (append-nil, add-zero)
-records-more start (q ∷ qs) p =
-    let a : ℕ = length (operandsLog 0 (q .instr .operands)) in
-    let s : ℕ = length (operandsStrings (q .instr .operands)) in
-    rw (records-more (start + a) qs p, length-append, log-length (0 + s) 0 qs, ← add-assoc, append-assoc)
+-- stores that begin with others
+pub record BeginWith (t u : Stores) : Type 0 where
+  pub instructions : Begins (t .instructions) (u .instructions)
+  pub log : Begins (t .log) (u .log)
+  pub strings : Begins (t .strings) (u .strings)
+  pub types : Begins (t .types) (u .types)

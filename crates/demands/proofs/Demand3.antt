@@ -1,0 +1,81 @@
+-- Demand 3: from a module to records and back.
+use Prim.Native.Nat.{ℕ, _*_, _/_, _≤_}
+use mathlib.Core.Path.{_≡_, ap, ap₂, sym, _∙_, subst}
+use mathlib.Core.Bool.{true}
+use mathlib.Core.List.{List}
+use mathlib.Core.Logic.{_↔_}
+use lib.ListN.{length}
+use Rattle.spec.specs.declared.Counts.{Counts}
+use Rattle.spec.specs.Records.{Placed}
+use Rattle.spec.specs.Load.{Outcome, load, Stores, storesOf}
+use Rattle.spec.specs.Check.{good, check}
+use Rattle.spec.specs.Plain.{plainBy, isPlain}
+use Rattle.spec.specs.Write.{parseBytes, writeParse}
+use Rattle.demands.proofs.Bytes.{AllBytes}
+use Rattle.demands.proofs.Stores.{BeginWith}
+use Rattle.demands.proofs.Returns.{plain-parts, Returns, load-returns}
+use Rattle.demands.proofs.ReadBack.{givenBy, reads-back-whole, stores-tell}
+use Rattle.demands.proofs.WriteBack.{written, wrote, load-written}
+
+-- a module s comes back from bytes bs: these load to the very same outcome (the answer with its header words, counts, offset and index,
+-- the instructions kept, the type entries) and so to the same four stores, are plain, are as long as the module's whole words, and are bytes
+pub record ComesBack (g : List ℕ) (room : Counts) (s bs : List ℕ) : Type 0 where
+  pub same : load g room bs ≡ load g room s
+  pub stores : storesOf (load g room bs) ≡ storesOf (load g room s)
+  pub plain : isPlain g room bs ≡ true
+  pub long : length bs ≡ 4 * (length s / 4)
+  pub bytes : AllBytes bs
+
+module _ (g : List ℕ) (room : Counts) (s : List ℕ) (by : AllBytes s) where
+  -- an accepted module comes back from the bytes written for it in parse order
+  pub comes-back : load g room s .said .number ≡ 0 → ComesBack g room s (written (load g room s))
+  unfolding isPlain
+  comes-back accepted =
+      let r : Returns g room s (load g room s) (written (load g room s)) = load-returns g room s by accepted in
+      record {
+        same = r .loads;
+        stores = ap storesOf (r .loads);
+        plain = ap (plainBy (written (load g room s))) (r .loads) ∙ r .plain;
+        long = r .long;
+        bytes = r .bytes;
+      }
+
+  -- a plain module is accepted
+  pub plain-accepted : isPlain g room s ≡ true → load g room s .said .number ≡ 0
+  unfolding isPlain
+  plain-accepted plain = plain-parts s (load g room s) plain .0
+
+  -- and is the bytes written for it
+  pub plain-is-written : isPlain g room s ≡ true → s ≡ written (load g room s)
+  unfolding isPlain
+  plain-is-written plain = load-returns g room s by (plain-accepted plain) .exact plain
+
+  -- only such modules are plain
+  pub plain-exactly : isPlain g room s ≡ true ↔ ((load g room s .said .number ≡ 0) × (s ≡ written (load g room s)))
+  plain-exactly = (
+    λ plain. (plain-accepted plain, plain-is-written plain),
+    λ both. subst (λ (w : List ℕ). isPlain g room w ≡ true) (sym (both .1)) (comes-back (both .0) .plain),
+  )
+
+  -- the records of an accepted module, in any stores that begin with them, pass the check of module order and of standing too
+  pub accepted-whole : load g room s .said .number ≡ 0 → (t : Stores) → BeginWith t (storesOf (load g room s))
+      → let x = load g room s in check true (givenBy t (x .said .counts)) ≡ good (x .kept)
+  accepted-whole accepted t b = reads-back-whole g room s by t b accepted
+
+  -- writing the records of a plain module, from any stores that begin with them, gives its bytes back: the number is 0, and an output with
+  -- room for them begins with them
+  pub writes-back : isPlain g room s ≡ true → (t : Stores) → BeginWith t (storesOf (load g room s)) → (out : List ℕ) → length s ≤ length out
+      → let x = load g room s in writeParse (x .said .header) (givenBy t (x .said .counts)) out ≡ wrote s out
+  writes-back plain t b out h =
+      let x : Outcome = load g room s in
+      let is : s ≡ written x = plain-is-written plain in
+      load-written g room s by t b out (subst (λ (l : List ℕ). length l ≤ length out) is h) ∙ ap (λ (l : List ℕ). wrote l out) (sym is)
+
+-- two plain modules with the same header words and the same four stores are the same bytes, whatever the grammars and the rooms
+pub same-records : (g h : List ℕ) (room other : Counts) (s u : List ℕ) → AllBytes s → AllBytes u → isPlain g room s ≡ true
+    → isPlain h other u ≡ true → load g room s .said .header ≡ load h other u .said .header
+    → storesOf (load g room s) ≡ storesOf (load h other u) → s ≡ u
+same-records g h room other s u bs bu ps pu header stores =
+    let kept = stores-tell g h room other s u bs bu stores .0 in
+    plain-is-written g room s bs ps ∙ ap₂ (λ (ws : List ℕ) (is : List Placed). parseBytes ws is) header kept
+    ∙ sym (plain-is-written h other u bu pu)
