@@ -24,6 +24,8 @@ use Rattle.spec.specs.Types
 use Rattle.spec.specs.Match
 use Rattle.spec.specs.Load
 use Rattle.spec.specs.Load.{counts, enough, Outcome, nothing, loadWith, load, Stores, storesOf}
+use Rattle.spec.specs.Listing
+use Rattle.spec.specs.Listing.{outcomeText, listing}
 use Rattle.spec.specs.Plain
 use Rattle.spec.specs.Plain.{plainBy}
 
@@ -91,6 +93,10 @@ ab w plain =
       plain = plain;
     })
 
+-- the module of fitting 6
+abbrev pub six : List ℕ
+six = module-of (H ++ (0x0003000E ∷ 0 ∷ 1 ∷ []))
+
 -- the fourteen
 unfoldable pub fittings : List Fitting
 fittings =
@@ -99,7 +105,7 @@ fittings =
     ∷ fitting (module-of (0x03022307 ∷ 0x00010000 ∷ 0 ∷ 0 ∷ 0 ∷ [])) (bare 3 0 0 0 noWords false)  -- 3
     ∷ fitting (module-of H) (bare 0 20 1 0 H true)  -- 4
     ∷ fitting (module-of H ++ (1 ∷ 2 ∷ 3 ∷ [])) (bare 0 20 1 0 H false)  -- 5
-    ∷ fitting (module-of (H ++ (0x0003000E ∷ 0 ∷ 1 ∷ [])))  -- 6
+    ∷ fitting six  -- 6
     (record {
       said = answer 0 32 2 0 H (counts 1 10 0 0);
       stores = stores (14 ∷ 4 ∷ 20 ∷ 0 ∷ 0 ∷ 0 ∷ 2 ∷ 3 ∷ []) (0x0B ∷ 0 ∷ 0 ∷ 0 ∷ 0 ∷ 0x0C ∷ 1 ∷ 0 ∷ 0 ∷ 0 ∷ []) [] [];
@@ -146,3 +152,20 @@ computed = refl
 -- the fourteen fittings hold
 pub fittings-hold : found (λ s. load builtin (roomFor s) s) fittings ≡ claimed fittings
 fittings-hold = by-items fittings ∙ computed
+
+-- "Fitting 6 prints, as index, offset, tag, opcode, words", these lines
+unfoldable pub sixListed : List ℕ
+sixListed =
+    109 ∷ 111 ∷ 100 ∷ 117 ∷ 108 ∷ 101 ∷ 32 ∷ 49 ∷ 46 ∷ 48 ∷ 32 ∷ 98 ∷ 111 ∷ 117 ∷ 110 ∷ 100 ∷ 32 ∷ 48 ∷ 10  -- module 1.0 bound 0
+    ∷ 49 ∷ 32 ∷ 50 ∷ 48 ∷ 32 ∷ 52 ∷ 32 ∷ 49 ∷ 52 ∷ 32 ∷ 51 ∷ 10  -- 1 20 4 14 3
+    ∷ 97 ∷ 99 ∷ 99 ∷ 101 ∷ 112 ∷ 116 ∷ 101 ∷ 100 ∷ 32 ∷ 49 ∷ 10  -- accepted 1
+    ∷ []
+
+six-computed : outcomeText (loadWith (grammarBy table) (enough 1019) six) ≡ sixListed
+unfolding sixListed outcomeText Listing.digitsFrom Listing.decimal Listing.numbersLine Listing.moduleLine Listing.recordLines Listing.lastLine table bytesOf Words.frontOf Words.wordsOf Words.bitsFrom Words.bitsOf Reader.wordAt Header.headerFrom grammarBy Grammar.slotsOf Grammar.parametersOf Grammar.rowsOf Grammar.enumerantsOf Grammar.rowOf Grammar.listed Grammar.bitsListed Grammar.parametersFor Records.operandLog Records.operandString Records.operandsLog Records.operandsStrings Layout.kindFrom Layout.opcodeKind Layout.layoutAt Layout.layoutOf Types.entryOf Types.define Types.track Match.readEnumerant Match.readOne Match.readEach Match.readOperand Match.readKind Match.readSlot Match.readRow Match.allRead Match.readInstr enough Load.roomFault Load.loadFrom loadWith
+six-computed = refl
+
+-- the listing of fitting 6
+pub six-listed : listing six ≡ sixListed
+unfolding listing bytesOf
+six-listed = ap outcomeText (load-builtin (enough 1019) six) ∙ six-computed

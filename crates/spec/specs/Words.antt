@@ -42,22 +42,6 @@ wordsOf (a ∷ b ∷ c ∷ []) = []
 abbrev pub long : ℕ → ℕ → ℕ
 long low high = low + 4294967296 * high
 
--- the low word of a 64-bit literal
-abbrev pub lowWord : ℕ → ℕ
-lowWord v = v % 4294967296
-
--- the high word of a 64-bit literal
-abbrev pub highWord : ℕ → ℕ
-highWord v = v / 4294967296
-
--- the low sixteen bits of a word: the opcode (the standard, 2.3)
-abbrev pub lowHalf : ℕ → ℕ
-lowHalf w = w % 65536
-
--- the high sixteen bits of a word: the word count (the standard, 2.3)
-abbrev pub highHalf : ℕ → ℕ
-highHalf w = w / 65536
-
 -- "Major and minor are bits 16 to 23 and 8 to 15 of word 1" (the standard, 2.3)
 abbrev pub major : ℕ → ℕ
 major version = version / 65536 % 256
