@@ -1,0 +1,64 @@
+-- `records::operands_after` meets its contract: by where the operands start, whether they are good, and the word count.
+-- Assumes nothing.
+use Rattle.records.proofs.Operands.{after-elsewhere, after-bad, after-right, after-wrong, passed-few, results-few}
+use native.Mathlib.Omega.{arith}
+use borrow.Author.Needs.{needs}
+use Rattle.records.proofs.operands_after.Statement.{statement}
+use Rattle.records.proofs.operands_after.Tie as tie
+
+cast-if1 : tie.Need-cast-if1
+cast-if1 c = search needs
+
+returns : tie.Need-returns
+returns c = after-elsewhere _ _ _ _ _ (c .if1 .taken)
+
+cast-count : tie.Need-cast-count
+cast-count c = search needs
+
+pass-operands-requires : tie.Need-pass-operands-requires
+pass-operands-requires c κs = search needs
+
+enum-known-passed : tie.Need-enum-known-passed
+enum-known-passed c = search needs
+
+enum-told : tie.Need-enum-told
+enum-told c = search needs
+
+returns-2 : tie.Need-returns-2
+returns-2 c = after-bad _ _ _ _ _ (c .before .before .before .before .if1 .left) _ (c .before .before .pass-operands .ensures) (c .enum-told .given .1)
+
+cast-if2 : tie.Need-cast-if2
+cast-if2 c = search needs
+
+result-words-requires : tie.Need-result-words-requires
+result-words-requires c κs = search needs
+
+add-if2 : tie.Need-add-if2
+add-if2 c = omega (arith, c .result-words .ensures, results-few (c .before .before .before .before .before .before .before .before .before .before .before .args .f))
+
+add-if2-2 : tie.Need-add-if2-2
+add-if2-2 c = omega (arith, c .result-words .ensures, results-few (c .before .before .before .before .before .before .before .before .before .before .before .args .f), passed-few _ _ _ _ _ (c .before .before .before .before .before .before .before .before .before .before .before .pre .0) (c .before .before .before .before .before .before .before .before .before .before .before .pre .1) _ (c .before .before .before .before .before .pass-operands .ensures) _ _ _ (c .before .before .before .passed .given .1))
+
+returns-3 : tie.Need-returns-3
+returns-3 c = after-right _ _ _ _ _ (c .before .before .before .before .before .before .before .before .if1 .left) _ (c .before .before .before .before .before .before .pass-operands .ensures) _ _ _ (c .before .before .before .before .passed .given .1) _ (c .before .result-words .ensures) (c .if2 .taken)
+
+returns-4 : tie.Need-returns-4
+returns-4 c = after-wrong _ _ _ _ _ (c .before .before .before .before .before .before .before .before .if1 .left) _ (c .before .before .before .before .before .before .pass-operands .ensures) _ _ _ (c .before .before .before .before .passed .given .1) _ (c .before .result-words .ensures) (c .if2 .left)
+
+pub operands-after-spec : {M : Type 1} → statement M
+operands-after-spec =
+    tie.close
+    (tie.spec
+    cast-if1
+    returns
+    cast-count
+    pass-operands-requires
+    enum-known-passed
+    enum-told
+    returns-2
+    cast-if2
+    result-words-requires
+    add-if2
+    add-if2-2
+    returns-3
+    returns-4)

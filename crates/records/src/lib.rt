@@ -1,0 +1,377 @@
+// Records in lent stores: the one getter and the one setter of an instruction record, the check behind refusal 30, and the operands
+// of checked records.
+ghost use mathlib.Core.Path.{_≡_};
+ghost use Prim.Native.Nat.{_+_, _*_, _≤_};
+ghost use lib.ListN.{length, drop};
+ghost use lib.Seq.{sets};
+ghost use Rattle.spec.specs.Records.{recordSize, fieldWords, fieldsAt};
+ghost use Rattle.spec.specs.Layout.{layoutOf};
+ghost use Rattle.spec.specs.Check.{takeOperand, takeOperands, faultOf, recordsOf};
+ghost use Rattle.records.specs.Steps.{given, checkedIs, endAnswer, leftAt, fieldsHold, offsetAfter, wordIf, resultWords, isString, textPassed, passedOne, passedAll, operandsAfter, tagAfter, isOutside, atMost, faultsFrom};
+ghost use Rattle.records.specs.Good.{Whole, Logged};
+use operand::Parts;
+use operand::is_two;
+use spec::Cell;
+use spec::Fields;
+use spec::Found;
+use spec::State;
+
+// How many words an instruction record has.
+pub const RECORD: usize = 8;
+
+// The record at a place: what its words mean is said here and in the setter alone.
+pub fn fields_at(instructions: &[u32], at: usize) -> Fields
+    requires { ⌜ at + recordSize ≤ length (now instructions) ⌝ }
+    ensures { λ r. ⌜ r ≡ fieldsAt (drop at (now (instructions .entry))) ⌝ }
+{
+    Fields {
+        head: instructions[at],
+        tag: instructions[at + 1],
+        offset: instructions[at + 2],
+        rtype: instructions[at + 3],
+        rid: instructions[at + 4],
+        start: instructions[at + 5],
+        count: instructions[at + 6],
+        words: instructions[at + 7],
+    }
+}
+
+// The record of an index, the first being 0.
+pub fn record_at(instructions: &[u32], i: usize) -> Fields
+    requires { ⌜ recordSize * i + recordSize ≤ length (now instructions) ⌝ }
+    ensures { λ r. ⌜ r ≡ fieldsAt (drop (recordSize * i) (now (instructions .entry))) ⌝ }
+{
+    fields_at(instructions, RECORD * i)
+}
+
+// A record, stored at a place.
+pub fn put_fields(instructions: &mut [u32], at: usize, f: Fields)
+    requires { ⌜ at + recordSize ≤ length (now instructions) ⌝ }
+    ensures { λ _. ⌜ now (instructions .exit) ≡ sets (now (instructions .entry)) at (fieldWords f) ⌝ }
+{
+    instructions[at] = f.head;
+    instructions[at + 1] = f.tag;
+    instructions[at + 2] = f.offset;
+    instructions[at + 3] = f.rtype;
+    instructions[at + 4] = f.rid;
+    instructions[at + 5] = f.start;
+    instructions[at + 6] = f.count;
+    instructions[at + 7] = f.words;
+}
+
+// THE CHECK
+
+// What the check comes to: good records, or the index of the first that is bad (count + 1 for the end).
+pub enum Checked {
+    Good,
+    Bad(usize),
+}
+
+// 1. FIELDS AND OFFSETS
+
+// A record's fields are bad, or the offset after it.
+enum Offset {
+    Broken,
+    Next(usize),
+}
+
+// Whether the presence bits are known, and no result field is there without its bit.
+fn fields_hold(f: Fields) -> bool
+    ensures { λ r. ⌜ r ≡ fieldsHold f ⌝ }
+{
+    let bits = f.head / 65536;
+    (bits <= 3) & (!(bits % 2 == 0) | (f.rtype == 0)) & (!(bits < 2) | (f.rid == 0))
+}
+
+// A record that should stand at an offset.
+fn offset_after(at: usize, f: Fields) -> Offset
+    ensures { λ r. ⌜ r ≡ offsetAfter at f ⌝ }
+{
+    if !fields_hold(f) {
+        return Offset::Broken;
+    }
+    if (f.offset as usize) != at {
+        return Offset::Broken;
+    }
+    if 65535 < f.words {
+        return Offset::Broken;
+    }
+    Offset::Next(at + 4 * (f.words as usize))
+}
+
+// 2. LOG AND STRINGS
+
+// Operands are bad; or where log and strings go on after them, and how many words they take.
+enum Passed {
+    Broken,
+    Past(usize, usize, usize),
+}
+
+// Whether the bytes may be a string: no zero byte, and UTF-8.
+fn is_string(s: &[u8]) -> bool
+    ensures { λ r. ⌜ r ≡ isString (now (s .entry)) ⌝ }
+{
+    let found = text::zero(s);
+    let Found::Nothing = found else {
+        return false;
+    };
+    text::utf8(s)
+}
+
+// A string of the log: it starts where the strings go on, and lies in them.
+fn pass_text(strings: &[u8], log_at: usize, strings_at: usize, start: u32, size: u32) -> Passed
+    requires { ⌜ «strings_at» ≤ length (now strings) ⌝ }
+    requires { ⌜ «log_at» + 9 ≤ 18446744073709551615 ⌝ }
+    ensures { λ r. ⌜ r ≡ textPassed (now (strings .entry)) «log_at» «strings_at» start size ⌝ }
+{
+    if (start as usize) != strings_at {
+        return Passed::Broken;
+    }
+    let n = size as usize;
+    if strings.len() - strings_at < n {
+        return Passed::Broken;
+    }
+    let end = strings_at + n;
+    if is_string(&strings[strings_at..end]) {
+        return Passed::Past(log_at + 9, end, n / 4 + 1);
+    }
+    Passed::Broken
+}
+
+// The operand at a place of the log.
+fn pass_operand(log: &[u8], strings: &[u8], log_at: usize, strings_at: usize) -> Passed
+    requires { ⌜ («log_at» ≤ length (now log)) × («strings_at» ≤ length (now strings)) ⌝ }
+    ensures { λ r. ⌜ r ≡ passedOne (takeOperand (leftAt (now (log .entry)) (now (strings .entry)) «log_at» «strings_at»)) ⌝ }
+{
+    let left = log.len() - log_at;
+    if left < 5 {
+        return Passed::Broken;
+    }
+    let kind = log[log_at];
+    if kind < 1 {
+        return Passed::Broken;
+    }
+    if 45 < kind {
+        return Passed::Broken;
+    }
+    if !is_two(kind) {
+        return Passed::Past(log_at + 5, strings_at, 1);
+    }
+    if left < 9 {
+        return Passed::Broken;
+    }
+    if kind == 40 {
+        let start = decoder::word_at(log, log_at + 1);
+        let size = decoder::word_at(log, log_at + 5);
+        return pass_text(strings, log_at, strings_at, start, size);
+    }
+    Passed::Past(log_at + 9, strings_at, 2)
+}
+
+// So many operands from a place of the log on.
+fn pass_operands(
+    log: &[u8],
+    strings: &[u8],
+    count: usize,
+    log_at: usize,
+    strings_at: usize,
+) -> Passed
+    requires { ⌜ («log_at» ≤ length (now log)) × («strings_at» ≤ length (now strings)) ⌝ }
+    ensures { λ r. ⌜ r ≡ passedAll 0 (takeOperands count (leftAt (now (log .entry)) (now (strings .entry)) «log_at» «strings_at»)) ⌝ }
+{
+    let mut a = log_at;
+    let mut b = strings_at;
+    let mut words = 0;
+    let mut passed = 0;
+    while passed < count {
+        let step = pass_operand(log, strings, a, b);
+        let Passed::Past(next_a, next_b, more) = step else {
+            return Passed::Broken;
+        };
+        a = next_a;
+        b = next_b;
+        words += more;
+        passed += 1;
+    }
+    Passed::Past(a, b, words)
+}
+
+// One word for what is there.
+fn one_if(there: bool) -> usize
+    ensures { λ r. ⌜ r ≡ wordIf there ⌝ }
+{
+    if there {
+        return 1;
+    }
+    0
+}
+
+// How many words the results of a record take.
+fn result_words(f: Fields) -> usize
+    ensures { λ r. ⌜ r ≡ resultWords f ⌝ }
+{
+    let bits = f.head / 65536;
+    one_if(bits % 2 == 1) + one_if(2 <= bits)
+}
+
+// A record's operands, which start where the log goes on, and its word count.
+fn operands_after(log: &[u8], strings: &[u8], log_at: usize, strings_at: usize, f: Fields) -> Passed
+    requires { ⌜ («log_at» ≤ length (now log)) × («strings_at» ≤ length (now strings)) ⌝ }
+    ensures { λ r. ⌜ r ≡ operandsAfter f (leftAt (now (log .entry)) (now (strings .entry)) «log_at» «strings_at») ⌝ }
+{
+    if (f.start as usize) != log_at {
+        return Passed::Broken;
+    }
+    let count = f.count as usize;
+    let passed = pass_operands(log, strings, count, log_at, strings_at);
+    let Passed::Past(a, b, words) = passed else {
+        return Passed::Broken;
+    };
+    if (f.words as usize) == 1 + result_words(f) + words {
+        return Passed::Past(a, b, words);
+    }
+    Passed::Broken
+}
+
+// 3. TAGS
+
+// A record's tag is bad, or the state after it.
+enum Tagging {
+    Broken,
+    Next(State),
+}
+
+// The tag that the table gives for the record's opcode.
+fn tag_after(s: State, f: Fields) -> Tagging
+    ensures { λ r. ⌜ r ≡ tagAfter s f ⌝ }
+{
+    let cell = reflect::place((f.head % 65536) as u16, s);
+    let Cell::Tagged(tag, next) = cell else {
+        return Tagging::Broken;
+    };
+    if f.tag == (tag as u32) {
+        return Tagging::Next(next);
+    }
+    Tagging::Broken
+}
+
+// THE PASS
+
+// Whether a state is outside functions.
+fn is_outside(s: State) -> bool
+    ensures { λ r. ⌜ r ≡ isOutside s ⌝ }
+{
+    match s {
+        State::Outside => true,
+        State::Function => false,
+        State::Block => false,
+    }
+}
+
+// The answer where all records are passed: the end is good, or bad at an index.
+fn at_end(good: bool, index: usize) -> Checked
+    ensures { λ r. ⌜ r ≡ endAnswer good index ⌝ }
+{
+    if good {
+        return Checked::Good;
+    }
+    Checked::Bad(index)
+}
+
+// One pass over the records: each is held to its fields and offset, its operands and its tag.
+fn check_within(
+    whole: bool,
+    instructions: &[u32],
+    log: &[u8],
+    strings: &[u8],
+    count: usize,
+    log_count: usize,
+    string_count: usize,
+) -> Checked
+    ensures { λ r. ⌜ checkedIs r ≡ faultsFrom whole «log_count» «string_count» 1 count 20 (leftAt (now (log .entry)) (now (strings .entry)) 0 0) State.Outside (recordsOf count (now (instructions .entry))) ⌝ }
+{
+    let mut i = 0;
+    let mut at = 20;
+    let mut a = 0;
+    let mut b = 0;
+    let mut s = State::Outside;
+    while i < count {
+        if instructions.len() / RECORD <= i {
+            return Checked::Bad(i + 1);
+        }
+        let f = record_at(instructions, i);
+        let Offset::Next(next_at) = offset_after(at, f) else {
+            return Checked::Bad(i + 1);
+        };
+        let Passed::Past(next_a, next_b, _) = operands_after(log, strings, a, b, f) else {
+            return Checked::Bad(i + 1);
+        };
+        let Tagging::Next(next_s) = tag_after(s, f) else {
+            return Checked::Bad(i + 1);
+        };
+        at = next_at;
+        a = next_a;
+        b = next_b;
+        s = next_s;
+        i += 1;
+    }
+    let good = (a == log_count) & (b == string_count) & (!whole | is_outside(s));
+    at_end(good, i + 1)
+}
+
+// The lower of two numbers.
+fn at_most(a: usize, b: usize) -> usize
+    ensures { λ r. ⌜ r ≡ atMost a b ⌝ }
+{
+    if a <= b {
+        return a;
+    }
+    b
+}
+
+// Whether given records keep the store layout, and in module order (whole) end outside functions.
+pub fn check(
+    whole: bool,
+    instructions: &[u32],
+    log: &[u8],
+    strings: &[u8],
+    count: usize,
+    log_count: usize,
+    string_count: usize,
+) -> Checked
+    ensures { λ r. ⌜ checkedIs r ≡ faultOf whole (given (now (instructions .entry)) (now (log .entry)) (now (strings .entry)) count «log_count» «string_count») ⌝ }
+{
+    let log_end = at_most(log_count, log.len());
+    let strings_end = at_most(string_count, strings.len());
+    check_within(
+        whole,
+        instructions,
+        &log[..log_end],
+        &strings[..strings_end],
+        count,
+        log_count,
+        string_count,
+    )
+}
+
+// GOOD RECORDS
+
+// The operand at a place of the log: its kind and its value.
+pub fn operand_at(log: &[u8], at: usize) -> Parts
+    requires { ⌜ Whole (now log) at ⌝ }
+    ensures { λ r. ⌜ Logged (now (log .entry)) at r ⌝ }
+{
+    let kind = log[at];
+    let low = decoder::word_at(log, at + 1);
+    if is_two(kind) {
+        let high = decoder::word_at(log, at + 5);
+        return Parts {
+            kind,
+            value: (low as u64) + 4294967296 * (high as u64),
+        };
+    }
+    Parts {
+        kind,
+        value: low as u64,
+    }
+}
