@@ -70,10 +70,6 @@ pub four-word : (a b c d : ℕ) → AllBytes (a ∷ b ∷ c ∷ d ∷ [])
     → (four a b c d < 4294967296) × (bytesOf (four a b c d) ≡ a ∷ b ∷ c ∷ d ∷ [])
 unfolding bytesOf
 four-word a b c d by =
-    let ha : a < 256 = by .0 in
-    let hb : b < 256 = by .1 .0 in
-    let hc : c < 256 = by .1 .1 .0 in
-    let hd : d < 256 = by .1 .1 .1 .0 in
     let q1 : four a b c d / 256 ≡ b + 256 * c + 65536 * d = omega arith in
     let q2 : four a b c d / 65536 ≡ c + 256 * d = omega arith in
     let q3 : four a b c d / 16777216 ≡ d = omega arith in

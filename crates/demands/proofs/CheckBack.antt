@@ -18,7 +18,7 @@ use Rattle.spec.specs.Words.{bytesOf}
 use Rattle.spec.specs.Text.{isUtf8}
 use Rattle.spec.specs.Kinds.{isLogged, isLong, isText}
 use Rattle.spec.specs.Layout.{endNumber}
-use Rattle.spec.specs.Records.{Operand, narrow, wide, text, Placed, operandSize, operandsSize, idSize, operandLog, operandString, operandsLog, operandsStrings, stringStore, logFrom, presence, fieldsOf, fieldWords, fieldsAt, recordsFrom}
+use Rattle.spec.specs.Records.{Operand, narrow, wide, text, Placed, operandSize, operandsSize, operandLog, operandString, operandsLog, operandsStrings, stringStore, logFrom, presence, fieldsOf, fieldWords, fieldsAt, recordsFrom}
 use Rattle.spec.specs.Check.{Given, recordsOf, bitsIn, fieldsGood, fieldsFault, Left, took, takeText, takeOperand, taken, takeOperands, fieldIn, placedOf, wordsGood, addScan, scanFrom, tagsFault, faultOf, missing, good, check}
 use Rattle.demands.proofs.Choice.{left, right, both}
 use Rattle.demands.proofs.Bytes.{four-bytes}
@@ -37,7 +37,8 @@ fieldsFrom start [] = []
 fieldsFrom start (p ∷ ps) = fieldsOf start p ∷ fieldsFrom (start + length (operandsLog 0 (p .instr .operands))) ps
 
 -- they are the records that their words begin with
-records-back : (start : ℕ) (is : List Placed) (more : List ℕ) → recordsOf (length is) (recordsFrom start is ++ more) ≡ fieldsFrom start is
+records-back : (start : ℕ) (is : List Placed) (more : List ℕ)
+    → recordsOf (length is) (recordsFrom start is ++ more) ≡ fieldsFrom start is
 unfolding recordsOf recordsFrom fieldsFrom fieldWords fieldsAt
 records-back start [] more = refl
 records-back start (p ∷ ps) more =
@@ -50,7 +51,8 @@ fields-length start [] = refl
 fields-length start (p ∷ ps) = ap suc (fields-length (start + length (operandsLog 0 (p .instr .operands))) ps)
 
 -- the presence bits of a record
-bits-back : (start : ℕ) (p : Placed) → p .instr .opcode < 65536 → bitsIn (fieldsOf start p) ≡ presence (p .instr .resultType) (p .instr .resultId)
+bits-back : (start : ℕ) (p : Placed) → p .instr .opcode < 65536
+    → bitsIn (fieldsOf start p) ≡ presence (p .instr .resultType) (p .instr .resultId)
 unfolding fieldsOf
 bits-back start p h = omega arith
 
@@ -63,7 +65,8 @@ opcode-back start p h = omega arith
 
 -- presence bits and result fields agree
 presence-good : (t i : Option ℕ)
-    → (leb (presence t i) 3 && implies (eqb (presence t i % 2) 0) (eqb (orZero t) 0) && implies (ltb (presence t i) 2) (eqb (orZero i) 0)) ≡ true
+    → (leb (presence t i) 3 && implies (eqb (presence t i % 2) 0) (eqb (orZero t) 0)
+    && implies (ltb (presence t i) 2) (eqb (orZero i) 0)) ≡ true
 presence-good none none = refl
 presence-good none (some i) = refl
 presence-good (some t) none = refl
@@ -74,10 +77,12 @@ fields-good : (start at : ℕ) (p : Placed) → InstrGood (p .instr) → p .inst
 unfolding fieldsGood
 fields-good start at p x e =
     rw (bits-back start p (x .opcode))
-    (unfold fieldsOf in (both (both (presence-good (p .instr .resultType) (p .instr .resultId)) (eq-eqb _ _ e)) (le-leb _ _ (x .few))))
+    (unfold fieldsOf in
+    (both (both (presence-good (p .instr .resultType) (p .instr .resultId)) (eq-eqb _ _ e)) (le-leb _ _ (x .few))))
 
 -- so no record has bad fields
-no-fields-fault : {at : ℕ} {s e : State} {is : List Placed} → Follow at s is e → (index start : ℕ) → fieldsFault index at (fieldsFrom start is) ≡ none
+no-fields-fault : {at : ℕ} {s e : State} {is : List Placed} → Follow at s is e → (index start : ℕ)
+    → fieldsFault index at (fieldsFrom start is) ≡ none
 unfolding fieldsFault fieldsFrom fieldsOf
 no-fields-fault last index start = refl
 no-fields-fault (leading {at = at} {p = p} x e placed more) index start =
@@ -97,7 +102,8 @@ has-all (b ∷ s) t = has-all s t
 -- a string
 text-taken : (s : List ℕ) (a b : ℕ) (log strings : List ℕ) → noZeros s ≡ true → isUtf8 s ≡ true
     → takeText b (length s) (remains a log b (s ++ strings)) ≡ took (text s) (remains (a + 9) (drop 9 log) (b + length s) strings)
-text-taken s a b log strings z u = rw (eq-eqb b b refl, has-all s strings, take-append-seam s strings, drop-append-seam s strings, z, u)
+text-taken s a b log strings z u =
+    rw (eq-eqb b b refl, has-all s strings, take-append-seam s strings, drop-append-seam s strings, z, u)
 
 -- an operand that they begin with
 one-taken : (o : Operand) (a b : ℕ) (log strings : List ℕ) → Holds o → b + 4 * operandSize o < 4294967296
@@ -105,14 +111,19 @@ one-taken : (o : Operand) (a b : ℕ) (log strings : List ℕ) → Holds o → b
     ≡ took o (remains (a + length (operandLog 0 o)) log (b + length (operandString o)) strings)
 unfolding takeOperand operandLog operandString operandSize bytesOf
 one-taken (narrow k v) a b log strings h u =
-    rw (left (isLogged k) (not (isLong k || isText k)) (h .0), right (isLogged k) (not (isLong k || isText k)) (h .0), four-bytes v (h .1))
+    rw (
+      left (isLogged k) (not (isLong k || isText k)) (h .0),
+      right (isLogged k) (not (isLong k || isText k)) (h .0),
+      four-bytes v (h .1),
+    )
 one-taken (wide k v) a b log strings h u =
     let low : v % 4294967296 < 4294967296 = omega arith in
     let high : v / 4294967296 < 4294967296 = omega (arith, h .1) in
     let whole : v % 4294967296 + 4294967296 * (v / 4294967296) ≡ v = omega arith in
     rw (long-logged k (h .0), h .0, four-bytes (v % 4294967296) low, four-bytes (v / 4294967296) high, whole)
 one-taken (text s) a b log strings h u =
-    rw (four-bytes b (omega arith), four-bytes (length s) (omega arith)) (text-taken s a b (operandLog b (text s) ++ log) strings (h .0) (h .1))
+    rw (four-bytes b (omega arith), four-bytes (length s) (omega arith))
+    (text-taken s a b (operandLog b (text s) ++ log) strings (h .0) (h .1))
 
 -- operands that log and strings begin with
 operands-taken : (os : List Operand) (a b : ℕ) (log strings : List ℕ) → AllHold os → b + 4 * operandsSize os < 4294967296
@@ -140,7 +151,8 @@ placed-back : (start : ℕ) (p : Placed) → p .instr .opcode < 65536 → placed
 unfolding placedOf
 placed-back start p h =
     rw (bits-back start p h, opcode-back start p h)
-    (unfold fieldsOf in rw (type-back (p .instr .resultType) (p .instr .resultId), id-back (p .instr .resultType) (p .instr .resultId)))
+    (unfold fieldsOf in
+    rw (type-back (p .instr .resultType) (p .instr .resultId), id-back (p .instr .resultType) (p .instr .resultId)))
   where
     type-back : (t i : Option ℕ) → fieldIn (eqb (presence t i % 2) 1) (orZero t) ≡ t
     type-back none none = refl
@@ -160,26 +172,35 @@ unfolding wordsGood
 words-good p x = eq-eqb _ _ (x .count)
 
 -- the operands of all records, up to the counts of log and strings
-scan-back : {at : ℕ} {s e : State} {is : List Placed} → Follow at s is e → (logCount stringCount index start b : ℕ) → b + 4 * wordsIn is < 4294967296
-    → start + length (logFrom 0 is) ≡ logCount → b + length (stringStore is) ≡ stringCount
-    → scanFrom logCount stringCount index (remains start (logFrom b is) b (stringStore is)) (fieldsFrom start is) ≡ record { instrs = is; fault = none }
+scan-back : {at : ℕ} {s e : State} {is : List Placed} → Follow at s is e → (logCount stringCount index start b : ℕ)
+    → b + 4 * wordsIn is < 4294967296 → start + length (logFrom 0 is) ≡ logCount → b + length (stringStore is) ≡ stringCount
+    → scanFrom logCount stringCount index (remains start (logFrom b is) b (stringStore is)) (fieldsFrom start is)
+    ≡ record { instrs = is; fault = none }
 unfolding scanFrom fieldsFrom logFrom stringStore wordsIn fieldsOf
-scan-back last logCount stringCount index start b u el es = rw (eq-eqb start logCount (omega arith), eq-eqb b stringCount (omega arith))
+scan-back last logCount stringCount index start b u el es =
+    rw (eq-eqb start logCount (omega arith), eq-eqb b stringCount (omega arith))
 scan-back (leading {p = p} {ps = ps} x e placed more) logCount stringCount index start b u el es =
     let os : List Operand = p .instr .operands in
     let n : ℕ = length (operandsStrings os) in
     let a : ℕ = length (operandsLog 0 os) in
-    let count : p .instr .words ≡ 1 + idSize (p .instr .resultType) + idSize (p .instr .resultId) + operandsSize os = x .count in
-    let log : start + a + length (logFrom 0 ps) ≡ logCount = omega (arith, length-append (operandsLog 0 os) (logFrom (0 + n) ps), log-length (0 + n) 0 ps) in
-    let strings : b + n + length (stringStore ps) ≡ stringCount = omega (arith, length-append (operandsStrings os) (stringStore ps)) in
-    rw (eq-eqb start start refl, operands-taken os start b (logFrom (b + n) ps) (stringStore ps) (x .operands) (omega arith), placed-back start p (x .opcode), words-good p x)
-    (ap (addScan p) (scan-back more logCount stringCount (suc index) (start + a) (b + n) (omega (arith, strings-short os)) log strings))
+    let log : start + a + length (logFrom 0 ps) ≡ logCount =
+    omega (arith, length-append (operandsLog 0 os) (logFrom (0 + n) ps), log-length (0 + n) 0 ps) in
+    let strings : b + n + length (stringStore ps) ≡ stringCount =
+    omega (arith, length-append (operandsStrings os) (stringStore ps)) in
+    rw (
+      eq-eqb start start refl,
+      operands-taken os start b (logFrom (b + n) ps) (stringStore ps) (x .operands) (omega arith),
+      placed-back start p (x .opcode),
+      words-good p x,
+    )
+    (ap (addScan p)
+    (scan-back more logCount stringCount (suc index) (start + a) (b + n) (omega (arith, strings-short os)) log strings))
 
 -- 3. TAGS
 
 -- no record has a bad tag
-no-tags-fault : {at : ℕ} {s e : State} {is : List Placed} → Follow at s is e → (whole : Bool) → implies whole (eqb (endNumber e) 0) ≡ true
-    → (index start : ℕ) → tagsFault whole index s (fieldsFrom start is) ≡ none
+no-tags-fault : {at : ℕ} {s e : State} {is : List Placed} → Follow at s is e → (whole : Bool)
+    → implies whole (eqb (endNumber e) 0) ≡ true → (index start : ℕ) → tagsFault whole index s (fieldsFrom start is) ≡ none
 unfolding tagsFault fieldsFrom fieldsOf
 no-tags-fault last whole w index start = rw w
 no-tags-fault (leading {p = p} x e placed more) whole w index start =

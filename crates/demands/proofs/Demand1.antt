@@ -1,4 +1,5 @@
--- Demand 1: what every load says and leaves, whatever the grammar, the room and the module.
+-- Demand 1: what every load says and leaves, whatever the grammar, the room and the module. The words of the statements: `Source`
+-- (Numbers), `Covers` (Room), `KeptSays`, `endOf` and `ended` (Returns), `roomIn`, `laidOn` and `Leaves` (Leaves).
 use Prim.Native.Nat.{ℕ, _-_, _/_, _≤_}
 use mathlib.Core.Path.{_≡_}
 use mathlib.Core.Bool.{false}
@@ -26,8 +27,8 @@ module _ (grammar : List ℕ) (room : Counts) (s : List ℕ) where
   pub number-bound : load grammar room s .said .number ≤ 31
   number-bound = load-number grammar room s
 
-  -- it comes from the grammar (24), the module's length (31), the header (1 to 3), reading an instruction (4 to 14), the layout (15 to 23),
-  -- room that lacks (25 to 28), or the end (0, 16, 21)
+  -- it comes from the grammar (24), the module's length (31), the header (1 to 3), reading an instruction (4 to 14), the layout (15
+  -- to 23), room that lacks (25 to 28), or the end (0, 16, 21)
   pub number-source : Source grammar s OfRoom (load grammar room s .said .number)
   number-source = load-from grammar room s
 
@@ -41,13 +42,14 @@ module _ (grammar : List ℕ) (room : Counts) (s : List ℕ) where
   pub kept-says : KeptSays (load grammar room s)
   kept-says = load-says grammar room s
 
-  -- "the first fault": a module that came to its instructions, cut where those kept end, loads to the same records and ends there
+  -- a refusal is the first fault: a module that came to its instructions, cut where those kept end, loads to the same records and
+  -- ends there
   pub first-fault : 1 ≤ load grammar room s .said .index
       → (q : State) × (load grammar room (take (endOf (load grammar room s)) s) ≡ ended q (load grammar room s))
   first-fault h = load-cut grammar room s h
 
-  -- nothing before a fault depends on what follows: with bytes behind the module, what is kept of it is kept first, if it still comes to
-  -- its instructions
+  -- nothing before a fault depends on what follows: with bytes behind the module, what is kept of it is kept first, if it still
+  -- comes to its instructions
   pub kept-first : (y : List ℕ) → 1 ≤ load grammar room (s ++ y) .said .index
       → Begins (load grammar room (s ++ y) .kept) (load grammar room s .kept)
   kept-first y h = load-longer grammar room s y h

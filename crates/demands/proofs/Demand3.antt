@@ -1,4 +1,5 @@
--- Demand 3: from a module to records and back.
+-- Demand 3: from a module to records and back. The words of the statements: `written` and `wrote` (WriteBack), `BeginWith` (Stores),
+-- `givenBy` (ReadBack).
 use Prim.Native.Nat.{ℕ, _*_, _/_, _≤_}
 use mathlib.Core.Path.{_≡_, ap, ap₂, sym, _∙_, subst}
 use mathlib.Core.Bool.{true}
@@ -7,7 +8,7 @@ use mathlib.Core.Logic.{_↔_}
 use lib.ListN.{length}
 use Rattle.spec.specs.declared.Counts.{Counts}
 use Rattle.spec.specs.Records.{Placed}
-use Rattle.spec.specs.Load.{Outcome, load, Stores, storesOf}
+use Rattle.spec.specs.Load.{load, Stores, storesOf}
 use Rattle.spec.specs.Check.{good, check}
 use Rattle.spec.specs.Plain.{plainBy, isPlain}
 use Rattle.spec.specs.Write.{parseBytes, writeParse}
@@ -17,8 +18,9 @@ use Rattle.demands.proofs.Returns.{plain-parts, Returns, load-returns}
 use Rattle.demands.proofs.ReadBack.{givenBy, reads-back-whole, stores-tell}
 use Rattle.demands.proofs.WriteBack.{written, wrote, load-written}
 
--- a module s comes back from bytes bs: these load to the very same outcome (the answer with its header words, counts, offset and index,
--- the instructions kept, the type entries) and so to the same four stores, are plain, are as long as the module's whole words, and are bytes
+-- a module s comes back from bytes bs: these load to the very same outcome (the answer with its header words, counts, offset and
+-- index, the instructions kept, the type entries) and so to the same four stores, are plain, are as long as the module's whole
+-- words, and are bytes
 pub record ComesBack (g : List ℕ) (room : Counts) (s bs : List ℕ) : Type 0 where
   pub same : load g room bs ≡ load g room s
   pub stores : storesOf (load g room bs) ≡ storesOf (load g room s)
@@ -27,6 +29,8 @@ pub record ComesBack (g : List ℕ) (room : Counts) (s bs : List ℕ) : Type 0 w
   pub bytes : AllBytes bs
 
 module _ (g : List ℕ) (room : Counts) (s : List ℕ) (by : AllBytes s) where
+  -- FROM BYTES
+
   -- an accepted module comes back from the bytes written for it in parse order
   pub comes-back : load g room s .said .number ≡ 0 → ComesBack g room s (written (load g room s))
   unfolding isPlain
@@ -57,19 +61,26 @@ module _ (g : List ℕ) (room : Counts) (s : List ℕ) (by : AllBytes s) where
     λ both. subst (λ (w : List ℕ). isPlain g room w ≡ true) (sym (both .1)) (comes-back (both .0) .plain),
   )
 
-  -- the records of an accepted module, in any stores that begin with them, pass the check of module order and of standing too
-  pub accepted-whole : load g room s .said .number ≡ 0 → (t : Stores) → BeginWith t (storesOf (load g room s))
-      → let x = load g room s in check true (givenBy t (x .said .counts)) ≡ good (x .kept)
-  accepted-whole accepted t b = reads-back-whole g room s by t b accepted
+  -- FROM RECORDS, in any stores that begin with them
 
-  -- writing the records of a plain module, from any stores that begin with them, gives its bytes back: the number is 0, and an output with
-  -- room for them begins with them
-  pub writes-back : isPlain g room s ≡ true → (t : Stores) → BeginWith t (storesOf (load g room s)) → (out : List ℕ) → length s ≤ length out
-      → let x = load g room s in writeParse (x .said .header) (givenBy t (x .said .counts)) out ≡ wrote s out
-  writes-back plain t b out h =
-      let x : Outcome = load g room s in
-      let is : s ≡ written x = plain-is-written plain in
-      load-written g room s by t b out (subst (λ (l : List ℕ). length l ≤ length out) is h) ∙ ap (λ (l : List ℕ). wrote l out) (sym is)
+  module _ (t : Stores) (b : BeginWith t (storesOf (load g room s))) where
+    -- the records of a load, accepted or refused, are written in parse order as those bytes: the number is 0, and an output with room
+    -- for them begins with them
+    pub writes : (out : List ℕ) → let x = load g room s in length (written x) ≤ length out
+        → writeParse (x .said .header) (givenBy t (x .said .counts)) out ≡ wrote (written x) out
+    writes out h = load-written g room s by t b out h
+
+    -- the records of a plain module are written as the module
+    pub writes-back : isPlain g room s ≡ true → (out : List ℕ) → length s ≤ length out
+        → let x = load g room s in writeParse (x .said .header) (givenBy t (x .said .counts)) out ≡ wrote s out
+    writes-back plain out h =
+        let is : s ≡ written (load g room s) = plain-is-written plain in
+        writes out (subst (λ (l : List ℕ). length l ≤ length out) is h) ∙ ap (λ (l : List ℕ). wrote l out) (sym is)
+
+    -- the records of an accepted module pass the check of module order and of standing too
+    pub accepted-whole : load g room s .said .number ≡ 0
+        → let x = load g room s in check true (givenBy t (x .said .counts)) ≡ good (x .kept)
+    accepted-whole accepted = reads-back-whole g room s by t b accepted
 
 -- two plain modules with the same header words and the same four stores are the same bytes, whatever the grammars and the rooms
 pub same-records : (g h : List ℕ) (room other : Counts) (s u : List ℕ) → AllBytes s → AllBytes u → isPlain g room s ≡ true

@@ -34,7 +34,8 @@ ResultAt result k q free = eqb k result ≡ true → (free ≡ true) × (eqb q 2
 -- after 46, One"
 abbrev pub RowFrom : Bool → Bool → List Slot → Type 0
 RowFrom t i [] = Unit
-RowFrom t i (slot k q ∷ ss) = (mayBeOperand k ≡ true) × ResultAt 46 k q t × ResultAt 47 k q i × RowFrom false (t && isSlot 46 0 (slot k q)) ss
+RowFrom t i (slot k q ∷ ss) =
+    (mayBeOperand k ≡ true) × ResultAt 46 k q t × ResultAt 47 k q i × RowFrom false (t && isSlot 46 0 (slot k q)) ss
 
 -- a result by its rule
 result-at : (result k q : ℕ) (free : Bool) → implies (eqb k result) (free && eqb q 0) ≡ true → ResultAt result k q free
@@ -60,13 +61,16 @@ slots-from (enumerant k v ∷ xs) op before e = tt
 slots-from (parameter k ∷ xs) op before e = tt
 slots-from (broken ∷ xs) op before e = tt
 slots-from (operand k q ∷ xs) op before e =
-    let first = left (mayBeOperand k && leb q 2 && resultRule before k q && literalRule op before k q) _ (first-rule (inRow op before) (operand k q) xs e) in
+    let first =
+    left (mayBeOperand k && leb q 2 && resultRule before k q && literalRule op before k q) _
+    (first-rule (inRow op before) (operand k q) xs e) in
     let results = left (mayBeOperand k && leb q 2 && resultRule before k q) _ first in
     let result = right (mayBeOperand k && leb q 2) _ results in (
       left (mayBeOperand k) (leb q 2) (left _ (resultRule before k q) results),
       result-at 46 k q (isFirst before) (left _ _ result),
       result-at 47 k q (isFirst before || afterType before) (right (implies (eqb k 46) (isFirst before && eqb q 0)) _ result),
-      row-next before k q (slotsOf xs) (slots-from xs op (before ++ (slot k q ∷ [])) (rest-rules (inRow op before) (operand k q) xs e)),
+      row-next before k q (slotsOf xs)
+          (slots-from xs op (before ++ (slot k q ∷ [])) (rest-rules (inRow op before) (operand k q) xs e)),
     )
 
 -- the row of an opcode, where there is one, among the rows of items
@@ -106,7 +110,8 @@ unfolding enumerantsOf listed next
 listed-good k v [] s e = tt
 listed-good k v (enumerant j u ∷ xs) s e =
     let more : rulesFrom (inEnumerant j u) xs ≡ true = rest-rules s (enumerant j u) xs e in
-    either ParametersGood (eqb j k && eqb u v) (some (parametersOf xs)) (listed k v (enumerantsOf xs)) (λ t. parameters-from xs j u more)
+    either ParametersGood (eqb j k && eqb u v) (some (parametersOf xs)) (listed k v (enumerantsOf xs))
+    (λ t. parameters-from xs j u more)
     (λ t. listed-good k v xs (inEnumerant j u) more)
 listed-good k v (row o ∷ xs) s e = listed-good k v xs (next s (row o)) (rest-rules s (row o) xs e)
 listed-good k v (operand j q ∷ xs) s e = listed-good k v xs (next s (operand j q)) (rest-rules s (operand j q) xs e)
@@ -141,5 +146,6 @@ well-formed-good g e =
     record {
       rows = λ op. rows-good op (items g) start rules;
       parameters = λ k v.
-          either ParametersGood (isMask k) _ _ (λ t. bits-good k (bitsOf v) (items g) rules) (λ t. listed-good k v (items g) start rules);
+          either ParametersGood (isMask k) _ _ (λ t. bits-good k (bitsOf v) (items g) rules)
+          (λ t. listed-good k v (items g) start rules);
     }

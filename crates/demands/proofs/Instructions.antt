@@ -1,5 +1,5 @@
--- What an instruction is read from: as many bytes in front as its word count says. It is read again wherever these stand, and from the
--- bytes written for it, which are plain and as many; where the former are plain, they are the latter. The stores can hold it.
+-- What an instruction is read from: as many bytes in front as its word count says. It is read again wherever these stand, and from
+-- the bytes written for it, which are plain and as many; where the former are plain, they are the latter. The stores can hold it.
 use Prim.Native.Nat.{ℕ, zero, suc, _+_, _*_, _-_, _/_, _%_, _<_, _≤_}
 use mathlib.Core.Path.{_≡_, refl, ap, sym, _∙_, subst}
 use mathlib.Core.Bool.{true, false}
@@ -28,8 +28,8 @@ use Rattle.demands.proofs.Rows.{asOperands, SeenTold, row-reads}
 
 -- THE PROPERTY
 
--- an instruction as records can hold it: an opcode of sixteen bits, operands that log and strings can hold, and a word count that is
--- right and at most 65,535
+-- an instruction as records can hold it: an opcode of sixteen bits, operands that log and strings can hold, and a word count that
+-- is right and at most 65,535
 pub record InstrGood (i : Instr) : Type 0 where
   pub opcode : i .opcode < 65536
   pub operands : AllHold (i .operands)
@@ -38,7 +38,8 @@ pub record InstrGood (i : Instr) : Type 0 where
 
 -- it is read from the bytes x, without a limit
 abbrev pub ReadFrom : Grammar → List Entry → ℕ → Instr → List ℕ → Type 0
-ReadFrom g types at i x = (t : List ℕ) → readInstr g types (reader at Unlimited (x ++ t)) ≡ got i (reader (at + 4 * i .words) Unlimited t)
+ReadFrom g types at i x =
+    (t : List ℕ) → readInstr g types (reader at Unlimited (x ++ t)) ≡ got i (reader (at + 4 * i .words) Unlimited t)
 
 -- an instruction that was read from the bytes x, where these are bytes, and y, the bytes written for it
 pub record InstrSure (g : Grammar) (types : List Entry) (at : ℕ) (i : Instr) (x y : List ℕ) : Type 0 where
@@ -132,13 +133,15 @@ module _ (g : Grammar) (good : GrammarGood g) (types : List Entry) (at a b c d :
 
     -- it is read from its first word and what its row is read from
     framed-again : (s : Seen) (x : List ℕ) → Again rowRead (count - 1) 0 x s → (t : List ℕ)
-        → readInstr g types (reader at Unlimited (a ∷ b ∷ c ∷ d ∷ (x ++ t))) ≡ got (instrOf at count op s) (reader (at + 4 + length x) Unlimited t)
+        → readInstr g types (reader at Unlimited (a ∷ b ∷ c ∷ d ∷ (x ++ t)))
+        ≡ got (instrOf at count op s) (reader (at + 4 + length x) Unlimited t)
     unfolding readInstr wordAt frontOf allRead
     framed-again s x again t = rw (some-word, found) (rw (again (at + 4) t (omega arith)))
 
     -- where its row has taken all words
-    module _ (s : Seen) (x y behind : List ℕ) (takes : r ≡ x ++ behind) (all : 4 * (count - 1) ≡ length x) (long : length y ≡ length x)
-        (again : Again rowRead (count - 1) 0 x s) (back : AllBytes x → Again rowRead (count - 1) 0 y s) (told : SeenTold s x y) where
+    module _ (s : Seen) (x y behind : List ℕ) (takes : r ≡ x ++ behind) (all : 4 * (count - 1) ≡ length x)
+        (long : length y ≡ length x) (again : Again rowRead (count - 1) 0 x s)
+        (back : AllBytes x → Again rowRead (count - 1) 0 y s) (told : SeenTold s x y) where
       -- the instruction
       abbrev i : Instr
       i = instrOf at count op s
@@ -170,13 +173,19 @@ module _ (g : Grammar) (good : GrammarGood g) (types : List Entry) (at a b c d :
           let first : AllBytes (a ∷ b ∷ c ∷ d ∷ []) = all-left (a ∷ b ∷ c ∷ d ∷ []) x by in
           let others : AllBytes x = all-right (a ∷ b ∷ c ∷ d ∷ []) x by in
           let u : AllSure (asOperands s) x y = along-sure told others in
-          let small : word < 4294967296 = four-word a b c d first .0 in
           let is : instrBytes i ≡ a ∷ b ∷ c ∷ d ∷ y = written-is first (u .are) in
-          let plain-is : (pre z : List ℕ) → length pre ≡ at → plainInstr (pre ++ (a ∷ b ∷ c ∷ d ∷ z)) i ≡ plainOperands (asOperands s) z =
+          let plain-is : (pre z : List ℕ) → length pre ≡ at
+          → plainInstr (pre ++ (a ∷ b ∷ c ∷ d ∷ z)) i ≡ plainOperands (asOperands s) z =
           λ pre z e. seen-plain pre at count op a b c d z (s .resultType) (s .resultId) (s .operands) e in
           rw is
           (record {
-            good = record { opcode = omega arith; operands = seen-holds (s .resultType) (s .resultId) (s .operands) (u .holds); count = size; few = omega arith };
+            good =
+                record {
+                  opcode = omega arith;
+                  operands = seen-holds (s .resultType) (s .resultId) (s .operands) (u .holds);
+                  count = size;
+                  few = omega arith;
+                };
             long = omega (arith, eqb-false count 0 some-word);
             back = read-from y long (back others);
             bytes = all-append (a ∷ b ∷ c ∷ d ∷ []) y first (u .bytes);
@@ -202,13 +211,15 @@ module _ (g : Grammar) (good : GrammarGood g) (types : List Entry) (at a b c d :
 
     -- by the words that its row has left
     left-frames : (s : Seen) (t : Reader) (z : Taken SeenTold rowRead (at + 4) (count - 1) r s t)
-        → Frames g types at rest (allRead (instrOf at count op s) (reader (at + 4 + length (z .from)) (Words (z .left)) (z .behind)))
+        → Frames g types at rest
+        (allRead (instrOf at count op s) (reader (at + 4 + length (z .from)) (Words (z .left)) (z .behind)))
     unfolding allRead
     left-frames s t z = by (z .left) (z .spends) (z .again) (z .back)
       where
         by : (n : ℕ) → 4 * (count - 1) ≡ length (z .from) + 4 * n → Again rowRead (count - 1) n (z .from) s
             → (AllBytes (z .from) → Again rowRead (count - 1) n (z .bytes) s)
-            → Frames g types at rest (allRead (instrOf at count op s) (reader (at + 4 + length (z .from)) (Words n) (z .behind)))
+            → Frames g types at rest
+            (allRead (instrOf at count op s) (reader (at + 4 + length (z .from)) (Words n) (z .behind)))
         by zero spends again back =
             instr-here s (z .from) (z .bytes) (z .behind) (z .takes) (omega arith) (z .long) again back (z .fact)
         by (suc n) spends again back = rw eqb·suc-zero (omega arith)
@@ -233,7 +244,8 @@ module _ (g : Grammar) (good : GrammarGood g) (types : List Entry) (at a b c d :
   unfolding readInstr wordAt frontOf
   word-frames =
       either (λ (m : Parse Instr). Frames g types at rest (m (reader (at + 4) Unlimited r))) (eqb count 0) (refuse 4 at)
-      (readBody g types at count op (rowOf op (g .rows))) (λ e. omega arith) (λ e. body-frames e (rowOf op (g .rows)) refl (good .rows op))
+      (readBody g types at count op (rowOf op (g .rows))) (λ e. omega arith)
+      (λ e. body-frames e (rowOf op (g .rows)) refl (good .rows op))
 
 -- whatever instruction is read
 pub instr-read : (g : Grammar) → GrammarGood g → (types : List Entry) (at : ℕ) (rest : List ℕ)

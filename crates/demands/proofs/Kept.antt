@@ -1,5 +1,6 @@
--- What a run keeps, and what it reads that from: the bytes in front, from which alone it comes to the same book and ends there. Where these
--- are bytes, the instructions follow on as records can hold them, and the run comes to the same book from the bytes written for them too.
+-- What a run keeps, and what it reads that from: the bytes in front, from which alone it comes to the same book and ends there.
+-- Where these are bytes, the instructions follow on as records can hold them, and the run comes to the same book from the bytes
+-- written for them too.
 use Prim.Native.Nat.{ℕ, _+_, _*_, _≤_, _<_}
 use mathlib.Core.Path.{_≡_, refl, ap, sym, _∙_, subst}
 use mathlib.Core.Bool.{Bool, true}
@@ -57,7 +58,8 @@ abbrev pub endAt : List ℕ → Book → ℕ → Outcome
 endAt h b at = stop h b (endNumber (b .state)) at 0
 
 -- instructions that were kept from the bytes x, where these are bytes, and y, the bytes written for them
-pub record RunSure (g : Grammar) (room : Counts) (h : List ℕ) (b : Book) (at : ℕ) (new : List Placed) (c : Book) (x y : List ℕ) : Type 0 where
+pub record RunSure (g : Grammar) (room : Counts) (h : List ℕ) (b : Book) (at : ℕ) (new : List Placed) (c : Book)
+    (x y : List ℕ) : Type 0 where
   pub follow : Follow at (b .state) new (c .state)
   pub long : length y ≡ 4 * wordsIn new
   pub bytes : AllBytes y
@@ -172,10 +174,12 @@ module _ (g : Grammar) (good : GrammarGood g) (room : Counts) (h : List ℕ) whe
           back = keeps-from y ys (u .long) (u .back) (v .back);
           plain = λ pre e.
               both (u .plain pre ys e)
-              (subst (λ (l : List ℕ). allPlain l (m .new) ≡ true) (append-assoc pre y ys) (v .plain (pre ++ y) (length-append pre y ∙ omega (arith, u .long))));
+              (subst (λ (l : List ℕ). allPlain l (m .new) ≡ true) (append-assoc pre y ys)
+              (v .plain (pre ++ y) (length-append pre y ∙ omega (arith, u .long))));
           exact = λ pre t e p.
               let all : List ℕ = pre ++ (x .from ++ m .from ++ t) in
-              let one : all ≡ pre ++ (x .from ++ (m .from ++ t)) = ap (λ (l : List ℕ). pre ++ l) (append-assoc (x .from) (m .from) t) in
+              let one : all ≡ pre ++ (x .from ++ (m .from ++ t)) =
+              ap (λ (l : List ℕ). pre ++ l) (append-assoc (x .from) (m .from) t) in
               let others : all ≡ pre ++ x .from ++ (m .from ++ t) = one ∙ sym (append-assoc pre (x .from) (m .from ++ t)) in
               cc (
                 u .exact pre (m .from ++ t) e (rw one at (left (plainInstr all (z .instr)) (allPlain all (m .new)) p)),
@@ -195,7 +199,8 @@ module _ (g : Grammar) (good : GrammarGood g) (room : Counts) (h : List ℕ) whe
           from = x .from ++ m .from;
           behind = m .behind;
           takes =
-              x .takes ∙ ap (λ (l : List ℕ). x .from ++ l) (sym behind ∙ m .takes) ∙ sym (append-assoc (x .from) (m .from) (m .behind));
+              x .takes ∙ ap (λ (l : List ℕ). x .from ++ l) (sym behind ∙ m .takes)
+              ∙ sym (append-assoc (x .from) (m .from) (m .behind));
           whole = length-append (x .from) (m .from) ∙ omega (arith, x .whole, m .whole);
           kept = m .kept ∙ append-assoc (b .kept) (placedOf z ∷ []) (m .new);
           stopped = m .stopped;

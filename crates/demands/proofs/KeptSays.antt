@@ -62,7 +62,8 @@ pub record KeptSays (o : Outcome) : Type 0 where
   pub index : 1 ≤ o .said .index → o .said .index ≡ length (o .kept) + 1
 
 -- of a run
-run-says : {g : Grammar} {room : Counts} {h : List ℕ} {b : Book} {at : ℕ} {rest : List ℕ} {o : Outcome} → Run g room h b at rest o → Tidy b
+run-says : {g : Grammar} {room : Counts} {h : List ℕ} {b : Book} {at : ℕ} {rest : List ℕ} {o : Outcome} → Run g room h b at rest o
+    → Tidy b
     → KeptSays o
 unfolding takenBy
 run-says (stops n place v x) t =

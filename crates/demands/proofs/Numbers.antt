@@ -36,7 +36,8 @@ pub data Source (grammar s : List ℕ) (R : ℕ → Type 0) (n : ℕ) : Type 0 w
   instructions : InRun R n → Source grammar s R n
 
 module _ {g : Grammar} (good : GrammarGood g) {c : Counts} (R : ℕ → Type 0) (I : Book → List ℕ → Type 0)
-    (lacks : (b : Book) (at : ℕ) (rest : List ℕ) (z : Enters g b at rest) → I b rest → Fits c z false → R (roomFault c (with z .used)))
+    (lacks : (b : Book) (at : ℕ) (rest : List ℕ) (z : Enters g b at rest) → I b rest → Fits c z false
+    → R (roomFault c (with z .used)))
     (goes : (b : Book) (at : ℕ) (rest : List ℕ) (z : Enters g b at rest) → I b rest → I (with z) (z .behind)) where
   -- the number that a run stops with
   stop-source : {b : Book} {at : ℕ} {rest : List ℕ} {n place v : ℕ} → Stops g c b at rest n place v → I b rest → InRun R n
@@ -48,13 +49,15 @@ module _ {g : Grammar} (good : GrammarGood g) {c : Counts} (R : ℕ → Type 0) 
   stop-source {b} {at} {rest} (crowded z e) x = room (lacks b at rest z x e)
 
   -- a run's number, where I holds as the run goes on, and where room lacks R holds of its number
-  pub run-source : {h : List ℕ} {b : Book} {at : ℕ} {rest : List ℕ} {o : Outcome} → Run g c h b at rest o → I b rest → InRun R (o .said .number)
+  pub run-source : {h : List ℕ} {b : Book} {at : ℕ} {rest : List ℕ} {o : Outcome} → Run g c h b at rest o → I b rest
+      → InRun R (o .said .number)
   run-source (stops n place v y) x = stop-source y x
   run-source {b} {at} {rest} (keeps z e run) x = run-source run (goes b at rest z x)
 
 -- a load's number, where that of its run is known
 pub load-source : {grammar : List ℕ} {c : Counts} {s : List ℕ} {o : Outcome} (R : ℕ → Type 0)
-    → (GrammarGood (grammarOf grammar) → ModuleRun grammar c s o → InRun R (o .said .number)) → Loads grammar c s o → Source grammar s R (o .said .number)
+    → (GrammarGood (grammarOf grammar) → ModuleRun grammar c s o → InRun R (o .said .number)) → Loads grammar c s o
+    → Source grammar s R (o .said .number)
 load-source R of-run (unformed e) = theGrammar e refl
 load-source R of-run (overlong e) = theLength e refl
 load-source R of-run (headless n at e f) = theHeader e f
@@ -85,7 +88,8 @@ room-number c need =
 pub load-from : (grammar : List ℕ) (c : Counts) (s : List ℕ) → Source grammar s OfRoom (load grammar c s .said .number)
 load-from grammar c s =
     load-source OfRoom
-    (λ good run. run-source good OfRoom (λ b rest. Unit) (λ b at rest z x e. room-number c (with z .used) e) (λ b at rest z x. tt) run tt)
+    (λ good run. run-source good OfRoom (λ b rest. Unit) (λ b at rest z x e. room-number c (with z .used) e)
+    (λ b at rest z x. tt) run tt)
     (load-is grammar c s)
 
 -- BOUNDS

@@ -40,7 +40,8 @@ isWhole k = isNarrow k && not (eqb k 39)
 -- a kind in one of two ranges is at most the end of the later
 in-ranges : (a b c d k : ℕ) → (within a k b || within c k d) ≡ true → b ≤ d → k ≤ d
 in-ranges a b c d k e h =
-    cases (within a k b) (λ l. omega (arith, in-range a k b l .1)) (λ l. in-range c k d (other (within a k b) (within c k d) e l) .1)
+    cases (within a k b) (λ l. omega (arith, in-range a k b l .1))
+    (λ l. in-range c k d (other (within a k b) (within c k d) e l) .1)
 
 -- a row's operand is of a kind that there is
 operand-kind : (k : ℕ) → mayBeOperand k ≡ true → k < 52
@@ -54,13 +55,15 @@ long-logged k e =
 -- an enumerant is a whole word
 pub enum-whole : (k : ℕ) → isEnum k ≡ true → isWhole k ≡ true
 enum-whole k e =
-    asked (isEnum k) (isWhole k) (below-at (λ j. implies (isEnum j) (isWhole j)) 46 k refl (omega (arith, in-ranges 1 30 41 45 k e (omega arith)))) e
+    asked (isEnum k) (isWhole k)
+    (below-at (λ j. implies (isEnum j) (isWhole j)) 46 k refl (omega (arith, in-ranges 1 30 41 45 k e (omega arith)))) e
 
 -- a parameter that is no string is a whole word
 pub parameter-whole : (k : ℕ) → mayBeParameter k ≡ true → isText k ≡ false → isWhole k ≡ true
 parameter-whole k e f =
     asked (mayBeParameter k && not (isText k)) (isWhole k)
-    (below-at (λ j. implies (mayBeParameter j && not (isText j)) (isWhole j)) 46 k refl (omega (arith, in-ranges 1 35 40 45 k e (omega arith))))
+    (below-at (λ j. implies (mayBeParameter j && not (isText j)) (isWhole j)) 46 k refl
+    (omega (arith, in-ranges 1 35 40 45 k e (omega arith))))
     (both e (ap not f))
 
 -- a row's operand that is neither 46 nor 47 is no result
@@ -72,10 +75,12 @@ no-result k e a b =
     (both (ap not a) (ap not b)))
 
 -- the records of a row's operand that is no result and may be embedded are read as parameters are
-pub parts-parameters : (k : ℕ) → mayBeOperand k ≡ true → isResult k ≡ false → mayEmbed k ≡ true → every mayBeParameter (partsOf k) ≡ true
+pub parts-parameters : (k : ℕ) → mayBeOperand k ≡ true → isResult k ≡ false → mayEmbed k ≡ true
+    → every mayBeParameter (partsOf k) ≡ true
 parts-parameters k e r m =
     asked (mayBeOperand k && not (isResult k) && mayEmbed k) (every mayBeParameter (partsOf k))
-    (below-at (λ j. implies (mayBeOperand j && not (isResult j) && mayEmbed j) (every mayBeParameter (partsOf j))) 52 k refl (operand-kind k e))
+    (below-at (λ j. implies (mayBeOperand j && not (isResult j) && mayEmbed j) (every mayBeParameter (partsOf j))) 52 k refl
+    (operand-kind k e))
     (both (both e (ap not r)) m)
 
 -- the kind of a literal, where there is one, is of two words or a whole word
@@ -87,5 +92,7 @@ pub literal-kind : (x : Option Entry) → LiteralKind (literalKindOf x)
 literal-kind none = refl
 literal-kind (some (entry id width sort)) =
     either LiteralKind (eqb sort 3) _ _
-    (λ e. either LiteralKind (isIn width (16 ∷ 32 ∷ [])) _ _ (λ e. refl) (λ e. either LiteralKind (eqb width 64) _ _ (λ e. refl) (λ e. tt)))
-    (λ e. either LiteralKind (isIn width (8 ∷ 16 ∷ 32 ∷ [])) _ _ (λ e. refl) (λ e. either LiteralKind (eqb width 64) _ _ (λ e. refl) (λ e. tt)))
+    (λ e. either LiteralKind (isIn width (16 ∷ 32 ∷ [])) _ _ (λ e. refl)
+    (λ e. either LiteralKind (eqb width 64) _ _ (λ e. refl) (λ e. tt)))
+    (λ e. either LiteralKind (isIn width (8 ∷ 16 ∷ 32 ∷ [])) _ _ (λ e. refl)
+    (λ e. either LiteralKind (eqb width 64) _ _ (λ e. refl) (λ e. tt)))

@@ -1,5 +1,5 @@
 -- What operands are read from, with one law for each way in which they are read.
-use Prim.Native.Nat.{ℕ, _/_, _%_, _<_}
+use Prim.Native.Nat.{ℕ, _/_, _%_}
 use mathlib.Core.Path.{_≡_, refl, _∙_, subst, fun-ext}
 use mathlib.Core.Bool.{Bool, true, false}
 use mathlib.Core.List.{List, [], _∷_, _++_}
@@ -33,8 +33,6 @@ long-word a b x y z w p q =
       exact = λ by.
           let low = p .exact (all-left x z by) in
           let high = q .exact (all-right x z by) in
-          let small : a < 4294967296 = low .0 in
-          let few : b < 4294967296 = high .0 in
           let e : long a b % 4294967296 ≡ a = omega arith in
           let f : long a b / 4294967296 ≡ b = omega arith in
           (omega arith, cc (low .1, high .1, p .are, q .are), cc (p .are, q .are));
@@ -109,7 +107,8 @@ module _ (g : Grammar) (good : GrammarGood g) where
       by : isEnum k ≡ true → (a : Known) (x y : List ℕ) → KnownWord g k a x y
           → Reads (λ os z w. Along os (x ++ z) (y ++ w)) (withParameters g k a)
       by t (known v ps) x y p =
-          into-reads (λ os. narrow k v ∷ os) (each-reads ps (subst (IfSome (λ qs. every mayBeParameter qs ≡ true)) (p .1) (good .parameters k v)))
+          into-reads (λ os. narrow k v ∷ os)
+          (each-reads ps (subst (IfSome (λ qs. every mayBeParameter qs ≡ true)) (p .1) (good .parameters k v)))
           (λ os z w a. one-more (narrow-tells k v x y (enum-whole k t) (p .0)) a)
 
   -- EMBEDDED OPERATIONS
@@ -135,13 +134,15 @@ module _ (g : Grammar) (good : GrammarGood g) where
           → Reads (λ os z w. Along os (x ++ z) (y ++ w)) (embeddedBy g op o)
       by op x y p none row = stop-reads (omega arith)
       by op x y p (some ss) row =
-          if-reads (every embeds ss) (λ t. into-reads (λ os. narrow 39 op ∷ os) (once-reads true true ss row t) (λ os z w a. one-more p a))
+          if-reads (every embeds ss)
+          (λ t. into-reads (λ os. narrow 39 op ∷ os) (once-reads true true ss row t) (λ os z w a. one-more p a))
           (λ t. stop-reads (omega arith))
 
   -- ROWS
 
   -- an operand of a row that is no result, after what is seen
-  pub kind-reads : (types : List Entry) (s : Seen) (k : ℕ) → mayBeOperand k ≡ true → isResult k ≡ false → Reads Along (readKind g types s k)
+  pub kind-reads : (types : List Entry) (s : Seen) (k : ℕ) → mayBeOperand k ≡ true → isResult k ≡ false
+      → Reads Along (readKind g types s k)
   unfolding readKind
   kind-reads types s k o r =
       if-reads (eqb k 48) (λ t. into-reads (λ o. o ∷ []) (literal-reads types (s .resultType)) (λ o x y p. along-one p))

@@ -1,31 +1,31 @@
 -- The records that a load leaves pass the check and are what it keeps; so they tell one load from another.
-use Prim.Native.Nat.{ℕ, _+_, _*_, _≤_}
+use Prim.Native.Nat.{ℕ, _*_, _≤_}
 use mathlib.Core.Path.{_≡_, refl, ap, ap₂, sym, _∙_}
 use mathlib.Core.Bool.{Bool, true, false}
 use mathlib.Core.List.{List, [], _∷_, append-nil, nil≢cons, cons≢nil, tail-eq-of-cons-eq}
 use native.Mathlib.Omega.{arith}
 use lib.Dec.{eqb}
-use lib.ListN.{length, drop, length-append, length-drop}
+use lib.ListN.{length}
 use Rattle.spec.specs.declared.State.{State}
 use Rattle.spec.specs.declared.State.the-variants.{Outside}
 use Rattle.spec.specs.declared.Counts.{Counts}
 use Rattle.spec.specs.Base.{joined, implies}
-use Rattle.spec.specs.Header.{headerFrom}
-use Rattle.spec.specs.Grammar.{grammarOf}
 use Rattle.spec.specs.Layout.{endNumber}
 use Rattle.spec.specs.Records.{Placed, Entry, entry, entryWords, stringStore, logFrom}
 use Rattle.spec.specs.Load.{Outcome, nothing, load, Stores, storesOf}
 use Rattle.spec.specs.Check.{Given, good, check}
-use Rattle.demands.proofs.Bytes.{AllBytes, all-left, all-drop}
+use Rattle.demands.proofs.Bytes.{AllBytes}
 use Rattle.demands.proofs.Stores.{BeginWith, records-length, entries-length}
-use Rattle.demands.proofs.Starts.{Loads, unformed, overlong, headless, opens, opens-good, load-is}
-use Rattle.demands.proofs.Kept.{Follow, last, wordsIn, run-read}
+use Rattle.demands.proofs.Starts.{Loads, unformed, overlong, headless, opens, load-is}
+use Rattle.demands.proofs.Kept.{Follow, last, wordsIn}
+use Rattle.demands.proofs.Returns.{kept-is, all-long, sure, module-read}
 use Rattle.demands.proofs.KeptSays.{takenBy, load-says}
 use Rattle.demands.proofs.CheckBack.{check-back}
 
 -- WHAT A LOAD KEEPS
 
--- instructions that follow on from the header, no more of them than the module's bytes; outside functions where the load is accepted
+-- instructions that follow on from the header, no more of them than the module's bytes; outside functions where the load is
+-- accepted
 record Kept (o : Outcome) : Type 0 where
   state : State
   follow : Follow 20 Outside (o .kept) state
@@ -46,14 +46,12 @@ load-kept g room s by = of (load-is g room s)
     of (overlong e) = none-kept 31 0
     of (headless n at e f) = none-kept n at
     of {o} (opens b run) =
-        let r = run-read (grammarOf g) (opens-good b) room (headerFrom s .words) run in
-        let same : r .new ≡ o .kept = sym (r .kept) ∙ ap (λ (x : Outcome). x .kept) (sym (r .stopped)) in
-        let u = r .sure (all-left (r .from) (r .behind) (rw (r .takes) at (all-drop 20 s by))) in
-        let all : length (drop 20 s) ≡ length (r .from) + length (r .behind) = ap length (r .takes) ∙ length-append (r .from) (r .behind) in
+        let r = module-read g room s b run in
+        let same = kept-is g room s b o r in
         record {
           state = r .book .state;
-          follow = rw same at (u .follow);
-          few = omega (arith, ap wordsIn same, r .whole, length-drop 20 s, b .short);
+          follow = rw (← same) at (sure g room s b o r by .follow);
+          few = omega (arith, ap wordsIn same, all-long g room s b o r, b .short);
           whole = λ z. r .accepted z .1;
         }
 
@@ -86,7 +84,8 @@ module _ (g : List ℕ) (room : Counts) (s : List ℕ) (by : AllBytes s) (t : St
   reads-back = kept-back false (load g room s) (load-kept g room s by) refl (load-says g room s .counts) t b
 
   -- the records of an accepted load pass the check for module order too
-  pub reads-back-whole : load g room s .said .number ≡ 0 → check true (givenBy t (load g room s .said .counts)) ≡ good (load g room s .kept)
+  pub reads-back-whole : load g room s .said .number ≡ 0
+      → check true (givenBy t (load g room s .said .counts)) ≡ good (load g room s .kept)
   reads-back-whole z =
       let k : Kept (load g room s) = load-kept g room s by in
       kept-back true (load g room s) k (rw (k .whole z)) (load-says g room s .counts) t b
@@ -121,10 +120,12 @@ same-counts : (x y : Outcome) → x .said .counts ≡ takenBy (x .kept) (x .type
     → storesOf x ≡ storesOf y → x .said .counts ≡ y .said .counts
 unfolding takenBy storesOf
 same-counts x y m n e =
-    let i : length (x .kept) ≡ length (y .kept) = omega (arith, ap (λ (t : Stores). length (t .instructions)) e, records-length 0 (x .kept), records-length 0 (y .kept)) in
+    let i : length (x .kept) ≡ length (y .kept) =
+    omega (arith, ap (λ (t : Stores). length (t .instructions)) e, records-length 0 (x .kept), records-length 0 (y .kept)) in
     let l : length (logFrom 0 (x .kept)) ≡ length (logFrom 0 (y .kept)) = ap (λ (t : Stores). length (t .log)) e in
     let s : length (stringStore (x .kept)) ≡ length (stringStore (y .kept)) = ap (λ (t : Stores). length (t .strings)) e in
-    let t : length (x .types) ≡ length (y .types) = omega (arith, ap (λ (t : Stores). length (t .types)) e, entries-length (x .types), entries-length (y .types)) in
+    let t : length (x .types) ≡ length (y .types) =
+    omega (arith, ap (λ (t : Stores). length (t .types)) e, entries-length (x .types), entries-length (y .types)) in
     rw (m, n, i, l, s, t)
 
 -- loads that leave the same records keep the same instructions and the same type entries
@@ -135,7 +136,8 @@ stores-tell g h room other s u bs bu e =
     let y : Outcome = load h other u in
     let n : x .said .counts ≡ y .said .counts = same-counts x y (load-says g room s .counts) (load-says h other u .counts) e in (
       same-good (x .kept) (y .kept)
-          (sym (reads-back g room s bs (storesOf x) (records-begin (storesOf x))) ∙ ap₂ (λ (t : Stores) (n : Counts). check false (givenBy t n)) e n
+          (sym (reads-back g room s bs (storesOf x) (records-begin (storesOf x)))
+          ∙ ap₂ (λ (t : Stores) (n : Counts). check false (givenBy t n)) e n
           ∙ reads-back h other u bu (storesOf y) (records-begin (storesOf y))),
       entries-tell (x .types) (y .types) (unfold storesOf in (ap (λ (t : Stores). t .types) e)),
     )

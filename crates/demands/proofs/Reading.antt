@@ -1,6 +1,6 @@
--- Reading within a limit. Whatever is read stands in the bytes in front, by which the position moves and which the limit loses; it is
--- read again wherever these bytes stand, and from the bytes written for it; a refusal has a number from 4 to 14. One property, `Reads`,
--- goes by the parts of parses, so that each reader is a line or two.
+-- Reading within a limit. Whatever is read stands in the bytes in front, by which the position moves and which the limit loses; it
+-- is read again wherever these bytes stand, and from the bytes written for it; a refusal has a number from 4 to 14. One property,
+-- `Reads`, goes by the parts of parses, so that each reader is a line or two.
 use Prim.Native.Nat.{ℕ, zero, suc, _+_, _*_, _≤_}
 use mathlib.Core.Path.{_≡_, refl, ap, sym, _∙_, subst}
 use mathlib.Core.Bool.{Bool, true, false}
@@ -30,8 +30,8 @@ abbrev pub Again : {A : Type 0} → Parse A → ℕ → ℕ → List ℕ → A �
 Again m n n′ w a =
     (at : ℕ) (t : List ℕ) → 4 * n′ ≤ length t → m (reader at (Words n) (w ++ t)) ≡ got a (reader (at + length w) (Words n′) t)
 
--- a was read from the bytes in front, and the reader t is left, with words and bytes; it is read from those bytes again, and from the
--- bytes written for it, as many, where they are bytes
+-- a was read from the bytes in front, and the reader t is left, with words and bytes; it is read from those bytes again, and from
+-- the bytes written for it, as many, where they are bytes
 pub record Taken {A : Type 0} (R : Relation A) (m : Parse A) (at n : ℕ) (rest : List ℕ) (a : A) (t : Reader) : Type 0 where
   pub from : List ℕ
   pub left : ℕ
@@ -102,22 +102,29 @@ as-comes m p n e f at rest (got a t) z =
 as-comes m p n e f at rest (refused x t) z = z
 
 -- the same parse, of which less is said
-pub less-reads : {A : Type 0} {Q R : Relation A} {m : Parse A} → Reads Q m → ((a : A) (x w : List ℕ) → Q a x w → R a x w) → Reads R m
+pub less-reads : {A : Type 0} {Q R : Relation A} {m : Parse A} → Reads Q m → ((a : A) (x w : List ℕ) → Q a x w → R a x w)
+    → Reads R m
 less-reads {Q = Q} {R = R} {m = m} z f =
-    record { comes = λ at n rest. as-comes {Q = Q} {R = R} m m n (λ at rest. refl) f at rest (m (reader at (Words n) rest)) (z .comes at n rest) }
+    record {
+      comes = λ at n rest. as-comes {Q = Q} {R = R} m m n (λ at rest. refl) f at rest (m (reader at (Words n) rest))
+          (z .comes at n rest);
+    }
 
 -- by whether the limit is spent, which is asked again
 pub spent-reads : {A : Type 0} {R : Relation A} {m k : Parse A} → Reads R m → Reads R k
     → Reads R (spent >>= (λ end. if end then m else k))
 spent-reads {R = R} {m = m} {k = k} y z = record { comes = by }
   where
-    by : (at n : ℕ) (rest : List ℕ) → Comes R (spent >>= (λ end. if end then m else k)) at n rest ((spent >>= (λ end. if end then m else k)) (reader at (Words n) rest))
+    by : (at n : ℕ) (rest : List ℕ)
+        → Comes R (spent >>= (λ end. if end then m else k)) at n rest
+        ((spent >>= (λ end. if end then m else k)) (reader at (Words n) rest))
     by at zero rest =
         as-comes {Q = R} {R = R} m (spent >>= (λ end. if end then m else k)) zero (λ at rest. refl) (λ a x w r. r) at rest
         (m (reader at (Words zero) rest)) (y .comes at zero rest)
     by at (suc n) rest =
         rw eqb·suc-zero
-        (as-comes {Q = R} {R = R} k (spent >>= (λ end. if end then m else k)) (suc n) (λ at rest. rw (eqb·suc-zero n)) (λ a x w r. r) at rest
+        (as-comes {Q = R} {R = R} k (spent >>= (λ end. if end then m else k)) (suc n) (λ at rest. rw (eqb·suc-zero n))
+        (λ a x w r. r) at rest
         (k (reader at (Words (suc n)) rest)) (z .comes at (suc n) rest))
 
 module _ {A B : Type 0} (Q : Relation A) (R : Relation B) (m : Parse A) (k : A → Parse B) where
@@ -136,9 +143,6 @@ module _ {A B : Type 0} (Q : Relation A) (R : Relation B) (m : Parse A) (k : A �
   second-comes at n rest a s z (got b t) u =
       let all = length-append (z .from) (u .from) in
       let written = length-append (z .bytes) (u .bytes) in
-      let same = z .long in
-      let same-then = u .long in
-      let first = z .spends in
       let second = u .spends in
       let e : at + length (z .from) + length (u .from) ≡ at + length (z .from ++ u .from) = omega arith in
       record {

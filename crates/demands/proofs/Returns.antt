@@ -1,4 +1,5 @@
--- A module again: cut where the instructions kept end it loads to the same records and ends there, and so do the bytes written for them.
+-- A module again: cut where the instructions kept end it loads to the same records and ends there, and so do the bytes written for
+-- them.
 use Prim.Native.Nat.{ℕ, _+_, _*_, _/_, _%_, _<_, _≤_}
 use native.Mathlib.Omega.{arith}
 use mathlib.Core.Path.{_≡_, ap, sym, _∙_}
@@ -54,7 +55,7 @@ module _ (grammar : List ℕ) (room : Counts) (s : List ℕ) (b : Opens grammar 
   words = headerFrom s .words
 
   -- the instructions kept
-  kept-is : o .kept ≡ r .new
+  pub kept-is : o .kept ≡ r .new
   kept-is = ap (λ (x : Outcome). x .kept) (r .stopped) ∙ r .kept
 
   -- the same records, and the end where they end
@@ -79,9 +80,10 @@ module _ (grammar : List ℕ) (room : Counts) (s : List ℕ) (b : Opens grammar 
   headed = header-is s .there (b .header) .0
 
   -- and those that the instructions were read from
-  all-long : length s ≡ 20 + 4 * wordsIn (r .new) + length (r .behind)
+  pub all-long : length s ≡ 20 + 4 * wordsIn (r .new) + length (r .behind)
   all-long =
-      let rest : length (drop 20 s) ≡ length (r .from) + length (r .behind) = ap length (r .takes) ∙ length-append (r .from) (r .behind) in
+      let rest : length (drop 20 s) ≡ length (r .from) + length (r .behind) =
+      ap length (r .takes) ∙ length-append (r .from) (r .behind) in
       omega (arith, headed, r .whole, length-drop 20 s)
 
   -- bytes after the header that the same instructions are read from load to the same records
@@ -107,7 +109,7 @@ module _ (grammar : List ℕ) (room : Counts) (s : List ℕ) (b : Opens grammar 
 
   module _ (by : AllBytes s) where
     -- what is sure of the instructions
-    sure : RunSure (grammarOf grammar) room words emptyBook 20 (r .new) (r .book) (r .from) (bytesOfAll (r .new))
+    pub sure : RunSure (grammarOf grammar) room words emptyBook 20 (r .new) (r .book) (r .from) (bytesOfAll (r .new))
     sure = r .sure (all-left (r .from) (r .behind) (rw (r .takes) at (all-drop 20 s by)))
 
     -- the bytes written in parse order
@@ -116,7 +118,8 @@ module _ (grammar : List ℕ) (room : Counts) (s : List ℕ) (b : Opens grammar 
     written-is =
         let header : o .said .header ≡ words = ap (λ (x : Outcome). x .said .header) (r .stopped) in
         let head : joined bytesOf words ≡ take 20 s =
-        ap (joined bytesOf) (header-is s .there (b .header) .1) ∙ bytes-words (take 20 s) 5 (all-take 20 s by) (length-take-le 20 s headed) in
+        ap (joined bytesOf) (header-is s .there (b .header) .1)
+        ∙ bytes-words (take 20 s) 5 (all-take 20 s by) (length-take-le 20 s headed) in
         rw (header, kept-is, head)
 
     -- load so
@@ -135,21 +138,28 @@ module _ (grammar : List ℕ) (room : Counts) (s : List ℕ) (b : Opens grammar 
       -- they are as many as the whole words
       written-long : length (take 20 s ++ bytesOfAll (r .new)) ≡ 4 * (length s / 4)
       written-long =
-          length-append (take 20 s) (bytesOfAll (r .new)) ∙ omega (arith, length-take-le 20 s headed, sure .long, all-long, few-left)
+          length-append (take 20 s) (bytesOfAll (r .new))
+          ∙ omega (arith, length-take-le 20 s headed, sure .long, all-long, few-left)
 
       -- they are plain
       written-plain : plainBy (take 20 s ++ bytesOfAll (r .new)) o ≡ true
       unfolding plainBy
       written-plain =
-          rw (eq-eqb (o .said .number) 0 z, eq-eqb (length (take 20 s ++ bytesOfAll (r .new)) % 4) 0 (omega (arith, written-long)), kept-is)
+          rw (
+            eq-eqb (o .said .number) 0 z,
+            eq-eqb (length (take 20 s ++ bytesOfAll (r .new)) % 4) 0 (omega (arith, written-long)),
+            kept-is,
+          )
           (sure .plain (take 20 s) (length-take-le 20 s headed))
 
       -- and the module, where it is plain
       plain-written : (length s % 4 ≡ 0) → allPlain s (o .kept) ≡ true → s ≡ take 20 s ++ bytesOfAll (r .new)
       plain-written even all =
           let none-left : length (r .behind) ≡ 0 = omega (arith, all-long, few-left) in
-          let whole : drop 20 s ≡ r .from = r .takes ∙ ap (λ (l : List ℕ). r .from ++ l) (nil-of (r .behind) none-left) ∙ append-nil (r .from) in
-          let split : s ≡ take 20 s ++ (r .from ++ r .behind) = sym (take-append-drop 20 s) ∙ ap (λ (l : List ℕ). take 20 s ++ l) (r .takes) in
+          let whole : drop 20 s ≡ r .from =
+          r .takes ∙ ap (λ (l : List ℕ). r .from ++ l) (nil-of (r .behind) none-left) ∙ append-nil (r .from) in
+          let split : s ≡ take 20 s ++ (r .from ++ r .behind) =
+          sym (take-append-drop 20 s) ∙ ap (λ (l : List ℕ). take 20 s ++ l) (r .takes) in
           let plain : allPlain (take 20 s ++ (r .from ++ r .behind)) (r .new) ≡ true = rw (← split, ← kept-is) all in
           sym (take-append-drop 20 s)
           ∙ ap (λ (l : List ℕ). take 20 s ++ l) (whole ∙ sure .exact (take 20 s) (r .behind) (length-take-le 20 s headed) plain)
@@ -158,7 +168,7 @@ module _ (grammar : List ℕ) (room : Counts) (s : List ℕ) (b : Opens grammar 
 
 module _ (grammar : List ℕ) (room : Counts) (s : List ℕ) where
   -- how a module that comes to its instructions is read
-  module-read : {o : Outcome} (b : Opens grammar s) → ModuleRun grammar room s o
+  pub module-read : {o : Outcome} (b : Opens grammar s) → ModuleRun grammar room s o
       → RunRead (grammarOf grammar) room (headerFrom s .words) emptyBook 20 (drop 20 s) o
   module-read b run = run-read (grammarOf grammar) (opens-good b) room (headerFrom s .words) run
 
@@ -189,8 +199,8 @@ plain-parts s o p =
       right (accepts && even) all p,
     )
 
--- what bytes bs are to an accepted module: they load to the same, are as long as its whole words, are bytes, and are plain; and they are
--- the module where it is plain
+-- what bytes bs are to an accepted module: they load to the same, are as long as its whole words, are bytes, and are plain; and
+-- they are the module where it is plain
 pub record Returns (grammar : List ℕ) (room : Counts) (s : List ℕ) (o : Outcome) (bs : List ℕ) : Type 0 where
   pub loads : load grammar room bs ≡ o
   pub long : length bs ≡ 4 * (length s / 4)
@@ -203,7 +213,8 @@ pub load-returns : (grammar : List ℕ) (room : Counts) (s : List ℕ) → AllBy
     → let o = load grammar room s in Returns grammar room s o (parseBytes (o .said .header) (o .kept))
 load-returns grammar room s by z = of (load-is grammar room s) z
   where
-    of : {o : Outcome} → Loads grammar room s o → o .said .number ≡ 0 → Returns grammar room s o (parseBytes (o .said .header) (o .kept))
+    of : {o : Outcome} → Loads grammar room s o → o .said .number ≡ 0
+        → Returns grammar room s o (parseBytes (o .said .header) (o .kept))
     of (unformed e) z = absurd (omega arith)
     of (overlong e) z = absurd (omega arith)
     of (headless n at e f) z = absurd (omega arith)

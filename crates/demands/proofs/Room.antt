@@ -57,13 +57,19 @@ fits-covers room need e =
     let b = chosen-zero (ltb (room .log) (need .log)) 25 _ (a .1) in
     let c = chosen-zero (ltb (room .strings) (need .strings)) 26 _ (b .1) in
     let d = chosen-zero (ltb (room .types) (need .types)) 27 _ (c .1) in
-    record { instructions = ltb-false _ _ (a .0); log = ltb-false _ _ (b .0); strings = ltb-false _ _ (c .0); types = ltb-false _ _ (d .0) }
+    record {
+      instructions = ltb-false _ _ (a .0);
+      log = ltb-false _ _ (b .0);
+      strings = ltb-false _ _ (c .0);
+      types = ltb-false _ _ (d .0);
+    }
 
 -- what a run keeps never goes past the room
-run-covered : {g : Grammar} {room : Counts} {h : List ℕ} {b : Book} {at : ℕ} {rest : List ℕ} {o : Outcome} → Run g room h b at rest o
-    → Covers room (b .used) → Covers room (o .said .counts)
+run-covered : {g : Grammar} {room : Counts} {h : List ℕ} {b : Book} {at : ℕ} {rest : List ℕ} {o : Outcome}
+    → Run g room h b at rest o → Covers room (b .used) → Covers room (o .said .counts)
 run-covered (stops n place v x) c = c
-run-covered {room = room} (keeps z e run) c = run-covered run (fits-covers room (with z .used) (eqb-true (roomFault room (with z .used)) 0 e))
+run-covered {room = room} (keeps z e run) c =
+    run-covered run (fits-covers room (with z .used) (eqb-true (roomFault room (with z .used)) 0 e))
 
 -- nor what a load keeps
 pub load-covered : (grammar : List ℕ) (room : Counts) (s : List ℕ) → Covers room (load grammar room s .said .counts)
@@ -181,8 +187,8 @@ held-none s =
       types = omega arith;
     }
 
-module _ {g : Grammar} (good : GrammarGood g) {room : Counts} {w : ℕ} (c : Covers room (enough w)) (b : Book) (at : ℕ) (rest : List ℕ)
-    (z : Enters g b at rest) (k : Held w b rest) where
+module _ {g : Grammar} (good : GrammarGood g) {room : Counts} {w : ℕ} (c : Covers room (enough w)) (b : Book) (at : ℕ)
+    (rest : List ℕ) (z : Enters g b at rest) (k : Held w b rest) where
   -- an instruction more takes no more than its words more
   held-more : Held w (with z) (z .behind)
   held-more =

@@ -1,5 +1,5 @@
--- Loading as a run: what can become of each instruction, one case each, and no fuel. A load comes to what its run comes to, with any fuel
--- that is at least the whole words left.
+-- Loading as a run: what can become of each instruction, one case each, and no fuel. A load comes to what its run comes to, with
+-- any fuel that is at least the whole words left.
 use Prim.Native.Nat.{ℕ, zero, suc, _+_, _*_, _/_, _≤_, _<_}
 use mathlib.Core.Path.{_≡_, refl, ap, sym, _∙_, subst}
 use mathlib.Core.Bool.{Bool, true, false}
@@ -60,11 +60,13 @@ pub data Stops (g : Grammar) (room : Counts) (b : Book) (at : ℕ) (rest : List 
       → Stops g room b at rest (x .number) (x .place) (x .value)
   misplaced : (i : Instr) (t : Reader) (n : ℕ) → has 4 rest ≡ true → readInstr g (b .types) (reader at Unlimited rest) ≡ got i t
       → layoutOf (i .opcode) (b .state) ≡ Refuses n → Stops g room b at rest n (i .offset) 0
-  crowded : (z : Enters g b at rest) → Fits room z false → Stops g room b at rest (roomFault room (with z .used)) (z .instr .offset) 0
+  crowded : (z : Enters g b at rest) → Fits room z false
+      → Stops g room b at rest (roomFault room (with z .used)) (z .instr .offset) 0
 
 -- the instructions from a position on: the load stops, or keeps the next and goes on
 pub data Run (g : Grammar) (room : Counts) (h : List ℕ) : Book → ℕ → List ℕ → Outcome → Type 0 where
-  stops : {b : Book} {at : ℕ} {rest : List ℕ} (n place v : ℕ) → Stops g room b at rest n place v → Run g room h b at rest (stop h b n place v)
+  stops : {b : Book} {at : ℕ} {rest : List ℕ} (n place v : ℕ) → Stops g room b at rest n place v
+      → Run g room h b at rest (stop h b n place v)
   keeps : {b : Book} {at : ℕ} {rest : List ℕ} {o : Outcome} (z : Enters g b at rest) → Fits room z true
       → Run g room h (with z) (next z) (z .behind) o → Run g room h b at rest o
 
@@ -75,7 +77,8 @@ module _ (g : Grammar) (good : GrammarGood g) where
   entered-read {b} {at} {rest} z = subst (Frames g (b .types) at rest) (z .read) (instr-read g good (b .types) at rest)
 
   -- the bytes behind an instruction are those after its words
-  pub left-behind : {b : Book} {at : ℕ} {rest : List ℕ} (z : Enters g b at rest) → length rest ≡ 4 * z .instr .words + length (z .behind)
+  pub left-behind : {b : Book} {at : ℕ} {rest : List ℕ} (z : Enters g b at rest)
+      → length rest ≡ 4 * z .instr .words + length (z .behind)
   left-behind z =
       let x = entered-read z in
       let same = ap (λ (t : Reader). length (t .rest)) (x .to) in
@@ -86,7 +89,9 @@ module _ (g : Grammar) (good : GrammarGood g) where
   fewer z = omega (arith, left-behind z, entered-read z .some-word)
 
   module _ (room : Counts) (h : List ℕ) where
-    module _ (n : ℕ) (on : (b : Book) (at : ℕ) (rest : List ℕ) → length rest / 4 ≤ n → Run g room h b at rest (loadFrom g room h n b (reader at Unlimited rest)))
+    module _ (n : ℕ)
+        (on : (b : Book) (at : ℕ) (rest : List ℕ) → length rest / 4 ≤ n
+        → Run g room h b at rest (loadFrom g room h n b (reader at Unlimited rest)))
         (b : Book) (at : ℕ) (rest : List ℕ) (few : length rest / 4 ≤ suc n) where
       -- a step of `loadFrom`, after the layout
       abbrev afterCell : Instr → Reader → ℕ → State → Outcome
@@ -99,20 +104,23 @@ module _ (g : Grammar) (good : GrammarGood g) where
       -- by room
       room-runs : (z : Enters g b at rest) (c : Bool) → Fits room z c
           → Run g room h b at rest
-          (if c then loadFrom g room h n (with z) (reader (next z) Unlimited (z .behind)) else stop h b (roomFault room (with z .used)) (z .instr .offset) 0)
+          (if c then loadFrom g room h n (with z) (reader (next z) Unlimited (z .behind))
+          else stop h b (roomFault room (with z .used)) (z .instr .offset) 0)
       room-runs z true e = keeps z e (on (with z) (next z) (z .behind) (omega (arith, fewer z)))
       room-runs z false e = stops _ _ _ (crowded z e)
 
       -- by layout
       cell-runs : has 4 rest ≡ true → (i : Instr) (behind : List ℕ)
           → readInstr g (b .types) (reader at Unlimited rest) ≡ got i (reader (at + 4 * i .words) Unlimited behind) → (c : Cell)
-          → layoutOf (i .opcode) (b .state) ≡ c → Run g room h b at rest (onCell h b i c (afterCell i (reader (at + 4 * i .words) Unlimited behind)))
+          → layoutOf (i .opcode) (b .state) ≡ c
+          → Run g room h b at rest (onCell h b i c (afterCell i (reader (at + 4 * i .words) Unlimited behind)))
       cell-runs p i behind e (Tagged tag s) f =
           room-runs (record { instr = i; behind = behind; tag = tag; state = s; whole = p; read = e; placed = f }) _ refl
       cell-runs p i behind e (Refuses m) f = stops _ _ _ (misplaced i _ m p e f)
 
       -- by reading
-      instr-runs : has 4 rest ≡ true → (y : Read Instr) → readInstr g (b .types) (reader at Unlimited rest) ≡ y → Frames g (b .types) at rest y
+      instr-runs : has 4 rest ≡ true → (y : Read Instr) → readInstr g (b .types) (reader at Unlimited rest) ≡ y
+          → Frames g (b .types) at rest y
           → Run g room h b at rest (onInstr h b y afterInstr)
       instr-runs p (got i t) e x =
           subst (λ (u : Reader). Run g room h b at rest (afterInstr i u)) (sym (x .to))
@@ -121,8 +129,11 @@ module _ (g : Grammar) (good : GrammarGood g) where
 
       -- by whether a word is left
       step-runs : (c : Bool) → has 4 rest ≡ c
-          → Run g room h b at rest (if c then onInstr h b (readInstr g (b .types) (reader at Unlimited rest)) afterInstr else finish h b (reader at Unlimited rest))
-      step-runs true p = instr-runs p (readInstr g (b .types) (reader at Unlimited rest)) refl (instr-read g good (b .types) at rest)
+          → Run g room h b at rest
+          (if c then onInstr h b (readInstr g (b .types) (reader at Unlimited rest)) afterInstr
+          else finish h b (reader at Unlimited rest))
+      step-runs true p =
+          instr-runs p (readInstr g (b .types) (reader at Unlimited rest)) refl (instr-read g good (b .types) at rest)
       step-runs false p = stops _ _ _ (ends p)
 
     -- a load is a run
@@ -137,7 +148,8 @@ module _ (g : Grammar) (good : GrammarGood g) where
     some-fuel rest p few = let q = leb-true 4 (length rest) (sym (has-leb 4 rest) ∙ p) in omega arith
 
     -- a load stops where its run does
-    stop-loads : {b : Book} {at : ℕ} {rest : List ℕ} {m place v : ℕ} → Stops g room b at rest m place v → (n : ℕ) → length rest / 4 ≤ n
+    stop-loads : {b : Book} {at : ℕ} {rest : List ℕ} {m place v : ℕ} → Stops g room b at rest m place v → (n : ℕ)
+        → length rest / 4 ≤ n
         → loadFrom g room h n b (reader at Unlimited rest) ≡ stop h b m place v
     unfolding loadFrom
     stop-loads (ends p) zero few = refl
@@ -151,7 +163,8 @@ module _ (g : Grammar) (good : GrammarGood g) where
 
     -- and goes on where it does
     kept-on : {b : Book} {at : ℕ} {rest : List ℕ} (z : Enters g b at rest) → Fits room z true → (n : ℕ)
-        → loadFrom g room h (suc n) b (reader at Unlimited rest) ≡ loadFrom g room h n (with z) (reader (next z) Unlimited (z .behind))
+        → loadFrom g room h (suc n) b (reader at Unlimited rest)
+        ≡ loadFrom g room h n (with z) (reader (next z) Unlimited (z .behind))
     unfolding loadFrom
     kept-on z e n = rw (z .whole, z .read, z .placed, e)
 
@@ -163,7 +176,8 @@ module _ (g : Grammar) (good : GrammarGood g) where
     loads (keeps z e run) (suc n) few = kept-on z e n ∙ loads run n (omega (arith, fewer z))
 
     -- a run goes on after an instruction that is kept
-    pub run-on : {b : Book} {at : ℕ} {rest : List ℕ} {o : Outcome} (z : Enters g b at rest) → Fits room z true → Run g room h b at rest o
+    pub run-on : {b : Book} {at : ℕ} {rest : List ℕ} {o : Outcome} (z : Enters g b at rest) → Fits room z true
+        → Run g room h b at rest o
         → Run g room h (with z) (next z) (z .behind) o
     run-on {rest = rest} z e run =
         let n = length rest / 4 in

@@ -37,7 +37,8 @@ none-lower none b e = (refl, e)
 none-lower (some i) none e = absurd (Option·some-ne-none i e)
 none-lower (some i) (some j) e =
     absurd
-    (either (λ (o : Option ℕ). o ≡ none → ⊥) (leb i j) (some i) (some j) (λ c. Option·some-ne-none i) (λ c. Option·some-ne-none j) e)
+    (either (λ (o : Option ℕ). o ≡ none → ⊥) (leb i j) (some i) (some j) (λ c. Option·some-ne-none i)
+    (λ c. Option·some-ne-none j) e)
 
 -- a record whose tag is the one that the table gives
 tag-walks : (index tag op : ℕ) (s : State) (z : Cell) (more : State → Option ℕ) → layoutOf op s ≡ z → onTag index tag z more ≡ none
@@ -51,7 +52,8 @@ module _ (i j : ℕ) (r : Fields) (l : Left) (s : State) (more : Left → Scan) 
     (walks : (m : Left) (t : State) → more m .fault ≡ none → later t ≡ none → Walks t (more m .instrs))
     (f : onTag j (r .tag) (layoutOf (r .head % 65536) s) later ≡ none) where
   -- a record whose operands are taken, by its word count
-  counted-walks : (os : List Operand) (m : Left) (c : Bool) → (if c then addScan (placedOf r os) (more m) else endScan (some i)) .fault ≡ none
+  counted-walks : (os : List Operand) (m : Left) (c : Bool)
+      → (if c then addScan (placedOf r os) (more m) else endScan (some i)) .fault ≡ none
       → Walks s ((if c then addScan (placedOf r os) (more m) else endScan (some i)) .instrs)
   unfolding placedOf
   counted-walks os m true e =
@@ -72,7 +74,8 @@ module _ (i j : ℕ) (r : Fields) (l : Left) (s : State) (more : Left → Scan) 
 
 -- records whose operands and tags are good walk the table
 scan-walks : (logCount stringCount : ℕ) (whole : Bool) (fs : List Fields) (i j : ℕ) (l : Left) (s : State)
-    → scanFrom logCount stringCount i l fs .fault ≡ none → tagsFault whole j s fs ≡ none → Walks s (scanFrom logCount stringCount i l fs .instrs)
+    → scanFrom logCount stringCount i l fs .fault ≡ none → tagsFault whole j s fs ≡ none
+    → Walks s (scanFrom logCount stringCount i l fs .instrs)
 unfolding scanFrom tagsFault
 scan-walks logCount stringCount whole [] i j l s e f = stops
 scan-walks logCount stringCount whole (r ∷ fs) i j l s e f =
@@ -80,7 +83,8 @@ scan-walks logCount stringCount whole (r ∷ fs) i j l s e f =
     (λ m t. scan-walks logCount stringCount whole fs (suc i) (suc j) m t) f (eqb (r .start) (l .logAt)) e
 
 -- records by whether the check finds a fault
-checked-walks : (whole : Bool) (x : Given) (is : List Placed) (o : Option ℕ) → faultOf whole x ≡ o → checkedBy o (scanOf x .instrs) ≡ good is → Walks Outside is
+checked-walks : (whole : Bool) (x : Given) (is : List Placed) (o : Option ℕ) → faultOf whole x ≡ o
+    → checkedBy o (scanOf x .instrs) ≡ good is → Walks Outside is
 unfolding faultOf
 checked-walks whole x is (some i) e f = let z : _≡_ {A = ℕ} 0 1 = cc in absurd (omega arith)
 checked-walks whole x is none e f =
@@ -122,7 +126,8 @@ module _ (p : Placed) (ps : List Placed) (late : 12 ≤ p .tag) (on : Stays ps) 
   first k e = ap (λ (l : List Placed). record { instr = p .instr; tag = k } ∷ l) e
 
   -- outside functions a definition follows
-  outside-more : (label : Bool) (t : State) → leads Outside (p .tag) t ≡ true → Walks t ps → parametersFirst label (p ∷ ps) ≡ true → functions (p ∷ ps) ≡ p ∷ ps
+  outside-more : (label : Bool) (t : State) → leads Outside (p .tag) t ≡ true → Walks t ps → parametersFirst label (p ∷ ps) ≡ true
+      → functions (p ∷ ps) ≡ p ∷ ps
   unfolding functions parametersFirst
   outside-more label Outside e w f = absurd (not-early e)
   outside-more label Function e w f =
@@ -151,7 +156,8 @@ module _ (p : Placed) (ps : List Placed) (late : 12 ≤ p .tag) (on : Stays ps) 
   no-parameter f e = false≢true (rw (eqb-true (p .tag) 13 e) at f)
 
   -- an instruction of a block, after a label
-  inner-more : p .tag ≡ 15 → parametersFirst true (p ∷ ps) ≡ true → (parametersFirst true ps ≡ true → (parametersIn ps ≡ []) × (functions ps ≡ ps))
+  inner-more : p .tag ≡ 15 → parametersFirst true (p ∷ ps) ≡ true
+      → (parametersFirst true ps ≡ true → (parametersIn ps ≡ []) × (functions ps ≡ ps))
       → (parametersIn (p ∷ ps) ≡ []) × (functions (p ∷ ps) ≡ p ∷ ps)
   unfolding functions parametersIn parametersFirst
   inner-more tag f rest = let x = rest (rw tag at f) in rw tag (x .0, first 15 (x .1))
@@ -219,7 +225,9 @@ late-after tag h = rw (lt-leb tag 11 (omega arith))
 
 -- instructions after the sections
 stays : (is : List Placed) → neverFalls 12 is ≡ true → Stays is
-stays [] e = unfold functions parametersIn in (record { outside = λ l w f. refl; heading = λ w f. refl; function = λ w f. (refl, refl); block = λ w f. (refl, refl) })
+stays [] e =
+    unfold functions parametersIn in
+    (record { outside = λ l w f. refl; heading = λ w f. refl; function = λ w f. (refl, refl); block = λ w f. (refl, refl) })
 stays (p ∷ ps) e =
     let late : 12 ≤ p .tag = late-tag p ps e in
     stays-more p ps late (stays ps (rw (late-after (p .tag) late) at (rest-late 12 p ps e)))
@@ -229,7 +237,9 @@ only-none : (t k : ℕ) (is : List Placed) → t < k → t < 12 → neverFalls k
 only-none t k [] h l e = refl
 only-none t k (p ∷ ps) h l e =
     let more : t < p .tag = either-least 12 k (p .tag) (first-late k p ps e) t l h in
-    rw (ne-eqb (p .tag) t (λ z. omega arith)) (only-none t (after (p .tag)) ps (either (λ n. t < n) (leb (p .tag) 11) (p .tag) 12 (λ e. more) (λ e. l)) l (rest-late k p ps e))
+    rw (ne-eqb (p .tag) t (λ z. omega arith))
+    (only-none t (after (p .tag)) ps (either (λ n. t < n) (leb (p .tag) 11) (p .tag) 12 (λ e. more) (λ e. l)) l
+    (rest-late k p ps e))
 
 -- numbers one after the other
 abbrev upFrom : ℕ → ℕ → List ℕ
@@ -243,7 +253,8 @@ picked ts is = joined (λ t. only (hasTag t) is) ts
 -- no instruction has one of some tags below those that may follow
 picked-none : (k : ℕ) (is : List Placed) → k ≤ 12 → neverFalls k is ≡ true → (n m : ℕ) → n + m ≤ k → picked (upFrom n m) is ≡ []
 picked-none k is l e n zero h = refl
-picked-none k is l e n (suc m) h = rw (only-none n k is (omega arith) (omega arith) e) (picked-none k is l e (suc n) m (omega arith))
+picked-none k is l e n (suc m) h =
+    rw (only-none n k is (omega arith) (omega arith) e) (picked-none k is l e (suc n) m (omega arith))
 
 module _ (p : Placed) (ps : List Placed) where
   -- tags past that of the first instruction
@@ -288,7 +299,11 @@ module _ (p : Placed) (ps : List Placed) where
   section-stays h e more =
       let least : 1 ≤ p .tag = in-range 1 (p .tag) 11 h .0 in
       let most : p .tag ≤ 11 = in-range 1 (p .tag) 11 h .1 in
-      rw (picked-first p ps (rw (le-leb (p .tag) 11 most) at e) 1 11 least (omega arith) (omega arith), ne-eqb (p .tag) 12 (λ z. omega arith), lt-leb 14 (p .tag) (omega arith))
+      rw (
+        picked-first p ps (rw (le-leb (p .tag) 11 most) at e) 1 11 least (omega arith) (omega arith),
+        ne-eqb (p .tag) 12 (λ z. omega arith),
+        lt-leb 14 (p .tag) (omega arith),
+      )
       (ap (λ (l : List Placed). p ∷ l) more)
 
   -- after a definition no section follows
@@ -299,7 +314,8 @@ module _ (p : Placed) (ps : List Placed) where
       both late e
 
   -- the first instruction of a function, and all after it
-  functions-stay : eqb (p .tag) 12 ≡ true → neverFalls (after (p .tag)) ps ≡ true → (label : Bool) → Walks Outside (p ∷ ps) → parametersFirst label (p ∷ ps) ≡ true
+  functions-stay : eqb (p .tag) 12 ≡ true → neverFalls (after (p .tag)) ps ≡ true → (label : Bool) → Walks Outside (p ∷ ps)
+      → parametersFirst label (p ∷ ps) ≡ true
       → picked (upFrom 1 11) (p ∷ ps) ++ functions (p ∷ ps) ≡ p ∷ ps
   functions-stay h e label w f =
       let late : neverFalls 12 (p ∷ ps) ≡ true = function-late h e in
@@ -308,18 +324,21 @@ module _ (p : Placed) (ps : List Placed) where
   -- an instruction before others that stay, by the state after it
   one-stays : (u : State) → leads Outside (p .tag) u ≡ true → Walks u ps → neverFalls (after (p .tag)) ps ≡ true
       → (Walks Outside ps → picked (upFrom 1 11) ps ++ functions ps ≡ ps)
-      → (label : Bool) → Walks Outside (p ∷ ps) → parametersFirst label (p ∷ ps) ≡ true → picked (upFrom 1 11) (p ∷ ps) ++ functions (p ∷ ps) ≡ p ∷ ps
+      → (label : Bool) → Walks Outside (p ∷ ps) → parametersFirst label (p ∷ ps) ≡ true
+      → picked (upFrom 1 11) (p ∷ ps) ++ functions (p ∷ ps) ≡ p ∷ ps
   one-stays Outside h v e more label w f = section-stays h e (more v)
   one-stays Function h v e more label w f = functions-stay h e label w f
   one-stays Block h v e more label w f = absurd (false≢true h)
 
   -- parameters come first in what is after it
-  rest-first : (label : Bool) → parametersFirst label (p ∷ ps) ≡ true → parametersFirst (not (hasTag 12 p) && (label || hasTag 14 p)) ps ≡ true
+  rest-first : (label : Bool) → parametersFirst label (p ∷ ps) ≡ true
+      → parametersFirst (not (hasTag 12 p) && (label || hasTag 14 p)) ps ≡ true
   unfolding parametersFirst
   rest-first label f = right (not (hasTag 13 p && label)) (parametersFirst (not (hasTag 12 p) && (label || hasTag 14 p)) ps) f
 
 -- instructions that walk the table, and whose tags never fall and parameters come first, stay where they are
-order-stays : (is : List Placed) (t : ℕ) (label : Bool) → Walks Outside is → neverFalls t is ≡ true → parametersFirst label is ≡ true
+order-stays : (is : List Placed) (t : ℕ) (label : Bool) → Walks Outside is → neverFalls t is ≡ true
+    → parametersFirst label is ≡ true
     → picked (upFrom 1 11) is ++ functions is ≡ is
 order-stays [] t label w e f = unfold functions in refl
 order-stays (p ∷ ps) t label w e f =
@@ -334,17 +353,20 @@ words-length [] = refl
 words-length (w ∷ ws) = omega (arith, words-length ws)
 
 -- the instructions of records that pass the check and stand are in module order
-standing-order : (whole : Bool) (x : Given) (is : List Placed) → check whole x ≡ good is → isStanding is ≡ true → moduleOrder is ≡ is
+standing-order : (whole : Bool) (x : Given) (is : List Placed) → check whole x ≡ good is → isStanding is ≡ true
+    → moduleOrder is ≡ is
 unfolding isStanding moduleOrder
 standing-order whole x is c e =
     let tags = left (neverFalls 0 is && parametersFirst false is) (leb (length (only (hasTag 4) is)) 1) e in
     let once = leb-true (length (only (hasTag 4) is)) 1 (right (neverFalls 0 is && parametersFirst false is) _ e) in
     rw (sections-picked is once)
-    (order-stays is 0 false (check-walks whole x is c) (left (neverFalls 0 is) (parametersFirst false is) tags) (right (neverFalls 0 is) (parametersFirst false is) tags))
+    (order-stays is 0 false (check-walks whole x is c) (left (neverFalls 0 is) (parametersFirst false is) tags)
+    (right (neverFalls 0 is) (parametersFirst false is) tags))
 
 -- so what is written in module order is what is written in the order read, after the twenty bytes of the header
-pub orders-agree : (whole : Bool) (x : Given) (is : List Placed) → check whole x ≡ good is → isStanding is ≡ true → (h : List ℕ) → length h ≡ 5
-    → drop 20 (moduleBytes h is) ≡ drop 20 (parseBytes h is)
+pub orders-agree : (whole : Bool) (x : Given) (is : List Placed) → check whole x ≡ good is → isStanding is ≡ true → (h : List ℕ)
+    → length h ≡ 5 → drop 20 (moduleBytes h is) ≡ drop 20 (parseBytes h is)
 unfolding moduleBytes parseBytes moduleHeader bytesOf
 orders-agree whole x is c e h five =
-    ap bytesOfAll (standing-order whole x is c e) ∙ sym (drop-at (joined bytesOf h) (bytesOfAll is) 20 (words-length h ∙ omega arith))
+    ap bytesOfAll (standing-order whole x is c e)
+    ∙ sym (drop-at (joined bytesOf h) (bytesOfAll is) 20 (words-length h ∙ omega arith))

@@ -80,11 +80,13 @@ module-fuel s = let e = length-drop 20 s in omega arith
 
 module _ (grammar : List ℕ) (room : Counts) (s : List ℕ) where
   -- by the header
-  header-loads : wellFormed grammar ≡ true → length s ≤ 67108864 → Loads grammar room s (afterHeader (grammarOf grammar) room s (headerFrom s))
+  header-loads : wellFormed grammar ≡ true → length s ≤ 67108864
+      → Loads grammar room s (afterHeader (grammarOf grammar) room s (headerFrom s))
   header-loads f h =
       either (Loads grammar room s) (eqb (headerFrom s .refusal .number) 0) _ _
       (λ e. opens (record { formed = f; short = h; header = eqb-true (headerFrom s .refusal .number) 0 e })
-      (runs (grammarOf grammar) (well-formed-good grammar f) room (headerFrom s .words) (length s / 4) emptyBook 20 (drop 20 s) (module-fuel s)))
+      (runs (grammarOf grammar) (well-formed-good grammar f) room (headerFrom s .words) (length s / 4) emptyBook 20 (drop 20 s)
+      (module-fuel s)))
       (λ e. let n = eqb-false (headerFrom s .refusal .number) 0 e in
       headless (headerFrom s .refusal .number) (headerFrom s .refusal .place) (omega arith) (header-is s .small))
 
@@ -104,6 +106,11 @@ module _ (grammar : List ℕ) (room : Counts) (s : List ℕ) where
   load-after b z few run =
       let head = length-take-le 20 s (header-is s .there (b .header) .0) in
       let all = length-append (take 20 s) z in
-      let long = b .short in
-      rw (b .formed, le-ltb 67108864 (length (take 20 s ++ z)) (omega arith), header-same s z (omega arith), b .header, drop-at (take 20 s) z 20 head)
+      rw (
+        b .formed,
+        le-ltb 67108864 (length (take 20 s ++ z)) (omega arith),
+        header-same s z (omega arith),
+        b .header,
+        drop-at (take 20 s) z 20 head,
+      )
       (loads (grammarOf grammar) (opens-good b) room (headerFrom s .words) run (length (take 20 s ++ z) / 4) (omega arith))

@@ -59,7 +59,8 @@ entries-length [] = refl
 entries-length (entry id w s ∷ es) = omega (arith, entries-length es)
 
 -- the strings of one more
-pub strings-more : (is : List Placed) (p : Placed) → stringStore (is ++ (p ∷ [])) ≡ stringStore is ++ operandsStrings (p .instr .operands)
+pub strings-more : (is : List Placed) (p : Placed)
+    → stringStore (is ++ (p ∷ [])) ≡ stringStore is ++ operandsStrings (p .instr .operands)
 unfolding stringStore
 strings-more is p = joined-append (λ (q : Placed). operandsStrings (q .instr .operands)) is (p ∷ []) ∙ rw append-nil
 

@@ -29,7 +29,8 @@ pub record EndsIn (l s : List ℕ) : Type 0 where
   pub is : l ≡ s ++ (0 ∷ more)
 
 -- a byte that is not zero before the others
-ends-cons : (b : ℕ) (bs : List ℕ) → eqb b 0 ≡ false → (o : Option (List ℕ)) → IfSome (EndsIn bs) o → IfSome (EndsIn (b ∷ bs)) (consIn b o)
+ends-cons : (b : ℕ) (bs : List ℕ) → eqb b 0 ≡ false → (o : Option (List ℕ)) → IfSome (EndsIn bs) o
+    → IfSome (EndsIn (b ∷ bs)) (consIn b o)
 ends-cons b bs e none p = tt
 ends-cons b bs e (some s) p =
     record { free = both (ap not e) (p .free); more = p .more; is = ap (λ (w : List ℕ). b ∷ w) (p .is) }
@@ -40,7 +41,8 @@ unfolding untilZero
 ends-in [] = tt
 ends-in (b ∷ bs) =
     either (IfSome (EndsIn (b ∷ bs))) (eqb b 0) (some []) (consIn b (untilZero bs))
-    (λ e. record { free = refl; more = bs; is = ap (λ (k : ℕ). k ∷ bs) (eqb-true b 0 e) }) (λ e. ends-cons b bs e (untilZero bs) (ends-in bs))
+    (λ e. record { free = refl; more = bs; is = ap (λ (k : ℕ). k ∷ bs) (eqb-true b 0 e) })
+    (λ e. ends-cons b bs e (untilZero bs) (ends-in bs))
 
 -- a string and its zero are found
 zero-found : (s t : List ℕ) → noZeros s ≡ true → untilZero (s ++ (0 ∷ t)) ≡ some s
@@ -71,7 +73,8 @@ text-again s x p n n′ e at t h =
     ap (λ (l : List ℕ). l ++ t) (p .ends .is) ∙ append-assoc s (0 ∷ p .ends .more) t in
     let searched : 4 * n ≡ length s + suc (4 * n - length s - 1) = omega arith in
     let found : untilZero (take (4 * n) (x ++ t)) ≡ some s =
-    ap (λ (l : List ℕ). untilZero (take (4 * n) l)) first ∙ ap (λ (m : ℕ). untilZero (take m (s ++ (0 ∷ (p .ends .more ++ t))))) searched
+    ap (λ (l : List ℕ). untilZero (take (4 * n) l)) first
+    ∙ ap (λ (m : ℕ). untilZero (take m (s ++ (0 ∷ (p .ends .more ++ t))))) searched
     ∙ ap untilZero (take-append-add s (0 ∷ (p .ends .more ++ t)) (suc (4 * n - length s - 1)))
     ∙ zero-found s (take (4 * n - length s - 1) (p .ends .more ++ t)) (p .ends .free) in
     let left : n - textWords (length s) ≡ n′ = omega arith in
@@ -106,7 +109,8 @@ module _ (at n : ℕ) (rest : List ℕ) (fits : 4 * n ≤ length rest) where
   text-in : (s : List ℕ) → EndsIn (take (4 * n) rest) s → isUtf8 s ≡ true → (textWords (length s) ≤ n) × TextIn s (taken s)
   text-in s p u =
       let k : ℕ = 4 * textWords (length s) in
-      let all : length (take (4 * n) rest) ≡ length s + suc (length (p .more)) = ap length (p .is) ∙ length-append s (0 ∷ p .more) in
+      let all : length (take (4 * n) rest) ≡ length s + suc (length (p .more)) =
+      ap length (p .is) ∙ length-append s (0 ∷ p .more) in
       let most : length (take (4 * n) rest) ≡ 4 * n = length-take-le (4 * n) rest fits in
       let cut : k ≡ length s + suc (k - length s - 1) = omega arith in (
         omega arith,
@@ -142,7 +146,8 @@ module _ (at n : ℕ) (rest : List ℕ) (fits : 4 * n ≤ length rest) where
         again = text-again s (taken s) x n (n - textWords (length s)) spends;
         bytes = padded s;
         long = padded-length s ∙ sym size;
-        back = λ by. text-again s (padded s) (padded-in s (p .free) u) n (n - textWords (length s)) (omega (arith, padded-length s));
+        back = λ by. text-again s (padded s) (padded-in s (p .free) u) n (n - textWords (length s))
+            (omega (arith, padded-length s));
         fact = (x, refl);
       })
       (λ u. omega arith)
@@ -155,5 +160,6 @@ text-reads =
       comes = λ at n rest.
           either (Comes Text readText at n rest) (ltb (length rest) (4 * n)) (refuse 9 at (reader at (Words n) rest))
           (textFound (untilZero (take (4 * n) rest)) (reader at (Words n) rest)) (λ e. omega arith)
-          (λ e. found-comes at n rest (ltb-false (length rest) (4 * n) e) (untilZero (take (4 * n) rest)) (ends-in (take (4 * n) rest)));
+          (λ e. found-comes at n rest (ltb-false (length rest) (4 * n) e) (untilZero (take (4 * n) rest))
+          (ends-in (take (4 * n) rest)));
     }

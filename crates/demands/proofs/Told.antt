@@ -1,5 +1,5 @@
--- Operands and bytes: an operand that was read is told by the bytes that it was read from, and is written as bytes that are plain; where
--- the former are plain, they are the latter.
+-- Operands and bytes: an operand that was read is told by the bytes that it was read from, and is written as bytes that are plain;
+-- where the former are plain, they are the latter.
 use Prim.Native.Nat.{ℕ, zero, suc, _*_, _-_, _/_, _%_, _<_}
 use mathlib.Core.Path.{_≡_, refl, ap, sym, _∙_}
 use mathlib.Core.Bool.{Bool, true, false, not, _&&_}
@@ -121,7 +121,8 @@ text-tells s x y p =
             are = p .1;
             bytes = rw (p .1) (padded-bytes s (all-left s (0 ∷ p .0 .ends .more) (rw is at by)));
             plain = rw (p .1) (padding-zero s);
-            exact = λ z. is ∙ padded-is s (0 ∷ p .0 .ends .more) (ap length (sym is) ∙ p .0 .long) (rw (is, drop-append-seam) at z) ∙ sym (p .1);
+            exact = λ z. is ∙ padded-is s (0 ∷ p .0 .ends .more) (ap length (sym is) ∙ p .0 .long) (rw (is, drop-append-seam) at z)
+                ∙ sym (p .1);
           };
     }
 
@@ -154,7 +155,8 @@ opcode-tells op x y p =
             bytes = rw (p .are) (word-bytes op);
             plain = rw (p .are) (opcode-zero op (omega arith));
             exact = λ z.
-                sym (p .exact by .1) ∙ ap bytesOf (opcode-is (p .word) (p .exact by .0) (rw (← p .exact by .1) at z) ∙ sym low) ∙ sym (p .are);
+                sym (p .exact by .1) ∙ ap bytesOf (opcode-is (p .word) (p .exact by .0) (rw (← p .exact by .1) at z) ∙ sym low)
+                ∙ sym (p .are);
           };
     }
 
@@ -198,7 +200,8 @@ along-long (one-more {x = x} {z = z} p a) = length-append x z ∙ omega (arith, 
 plain-cons : (o : Operand) (os : List Operand) (x z t : List ℕ) → length x ≡ 4 * operandSize o
     → plainOperands (o ∷ os) (x ++ z ++ t) ≡ (plainOperand o x && plainOperands os (z ++ t))
 unfolding plainOperands
-plain-cons o os x z t e = rw (append-assoc x z t, take-at x (z ++ t) (4 * operandSize o) e, drop-at x (z ++ t) (4 * operandSize o) e)
+plain-cons o os x z t e =
+    rw (append-assoc x z t, take-at x (z ++ t) (4 * operandSize o) e, drop-at x (z ++ t) (4 * operandSize o) e)
 
 -- an operand's bytes are as many as its words have
 operand-length : (o : Operand) → length (operandBytes o) ≡ 4 * operandSize o

@@ -92,7 +92,8 @@ enumerant-reads g k = record { comes = by }
         (λ by at t. rw (eqb·suc-zero n, word-again (four a b c d) (four-word a b c d by .0) at n t, e))
         (record { long = refl; are = refl; exact = four-word a b c d }, e)
 
-    by : (at n : ℕ) (rest : List ℕ) → Comes (KnownWord g k) (readEnumerant g k) at n rest (readEnumerant g k (reader at (Words n) rest))
+    by : (at n : ℕ) (rest : List ℕ)
+        → Comes (KnownWord g k) (readEnumerant g k) at n rest (readEnumerant g k (reader at (Words n) rest))
     by at zero rest = omega arith
     by at (suc n) [] = rw eqb·suc-zero (omega arith)
     by at (suc n) (a ∷ []) = rw eqb·suc-zero (omega arith)

@@ -21,10 +21,15 @@ abbrev pub wrote : List ℕ → List ℕ → Writing
 wrote bs out = record { said = record { number = 0; index = 0; bytes = length bs }; output = bs ++ drop (length bs) out }
 
 -- the records of a load, accepted or refused, wherever stores begin with them, are written so, where the output has room
-pub load-written : (g : List ℕ) (room : Counts) (s : List ℕ) → AllBytes s → (t : Stores) → BeginWith t (storesOf (load g room s)) → (out : List ℕ)
+pub load-written : (g : List ℕ) (room : Counts) (s : List ℕ) → AllBytes s → (t : Stores) → BeginWith t (storesOf (load g room s))
+    → (out : List ℕ)
     → let x = load g room s in length (written x) ≤ length out
     → writeParse (x .said .header) (givenBy t (x .said .counts)) out ≡ wrote (written x) out
 unfolding writeParse
 load-written g room s by t b out h =
     let x : Outcome = load g room s in
-    rw (reads-back g room s by t b, le-ltb (length out) (length (written x)) h, laid-over out (written x) (length (written x)) refl h)
+    rw (
+      reads-back g room s by t b,
+      le-ltb (length out) (length (written x)) h,
+      laid-over out (written x) (length (written x)) refl h,
+    )
