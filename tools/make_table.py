@@ -99,8 +99,8 @@ pub fn prepared() -> [u16; %d]
 }
 """
 
-# How many guesses an index begins with: one for each opcode below 512 and each kind below 64.
-OPCODES, KINDS = 512, 64
+# How many guesses an index begins with: one for each opcode below 512, and 1,024 that all else shares.
+OPCODES, SHARED = 512, 1024
 
 
 def fail(message):
@@ -211,15 +211,18 @@ def make_code(raw):
     return (CODE % (len(raw), "\\\n".join(shown))).encode("utf-8")
 
 
+def guess_place(kind, value):
+    """Where the guess for a row (kind 0, its opcode as value) or an enumerant stands: as grammar's index has it."""
+    return value if kind == 0 and value < OPCODES else OPCODES + (kind * 116 + value) % SHARED
+
+
 def make_index(lines):
-    """The file index.rt: for each opcode and kind the rank to look at first, then the count of marks and their places."""
-    guesses, places, at = [0] * (OPCODES + KINDS), [], 0
+    """The file index.rt: guesses of the rank to look at first, then the count of rows and enumerants and their places."""
+    guesses, places, at = [0] * (OPCODES + SHARED), [], 0
     for name, *numbers in (item for line, _ in lines for item in line):
-        if name == "row" and numbers[0] < OPCODES:
-            guesses[numbers[0]] = len(places)
-        if name == "enumerant" and numbers[1] == 0:
-            guesses[OPCODES + numbers[0]] = len(places)
         if name in ("row", "enumerant"):
+            kind, value = [0, *numbers][-2:]
+            guesses[guess_place(kind, value)] = len(places)
             places.append(at)
         at += struct.calcsize(LAYOUT[name][1])
     made = guesses + [len(places)] + places

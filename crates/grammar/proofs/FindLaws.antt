@@ -5,19 +5,22 @@ use mathlib.Core.List.{List, [], _∷_}
 use Prim.Native.Nat.{ℕ, _+_, _-_, _≤_, _<_}
 use native.Mathlib.Omega.{arith}
 use borrow.Author.Tests.{eq-eqb}
+use denote.Enum.Declared.{tagOf}
+use types.Run.{OneOf, miss}
 use lib.ListN.{length, drop}
 use Rattle.spec.specs.declared.Found.{Found}
 use Rattle.spec.specs.declared.Found.the-variants.{At, Nothing}
 use Rattle.spec.specs.Grammar.{Item, items, rises, slotsOf, parametersOf, rowOf, listed, grammarBy, grammarOf}
 use Rattle.grammar.specs.declared.items.Item as Code
-use Rattle.grammar.specs.declared.items.Item.the-variants.{Operand, Parameter}
+use Rattle.grammar.specs.declared.items.Item.the-variants.{Row, Operand, Enumerant, Parameter, Broken}
 use Rattle.grammar.specs.declared.index.Mark.{Mark}
 use Rattle.grammar.specs.declared.find.SlotAt.the-variants.{Slot as ASlot, End as NoSlot}
 use Rattle.grammar.specs.declared.find.ParameterAt.the-variants.{Parameter as AParameter, End as NoParameter}
 use Rattle.grammar.specs.Items.{itemIs, itemAt, lengthAt}
 use Rattle.grammar.specs.Index.{sizeOf, marksOf, markAt, found, Indexed}
 use Rattle.grammar.specs.Find.{past, placeFound, rowFound, parametersFound, slotsThen, slotBytes, parametersThen, parameterBytes}
-use Rattle.grammar.proofs.ItemLaws.{items-at, items-end}
+use Rattle.grammar.proofs.items.Item as items-of
+use Rattle.grammar.proofs.ItemLaws.{items-read, items-end}
 use Rattle.grammar.proofs.SearchLaws.{found-there, Halving, halving-up, halving-down, halving-hit}
 use Rattle.grammar.proofs.MarkLaws.{isFine, fine-there, row-found, enumerant-found, none-listed}
 use Rattle.grammar.proofs.IndexLaws.{well-stands, well-rising}
@@ -77,6 +80,24 @@ no-enumerant g index k v ix e = (rw e (sym (none-listed v (items g) (well-stands
 
 -- READING ON
 
+-- no operand follows at another item
+other-slots : (x : Code.Item) → OneOf (0 ∷ 2 ∷ 3 ∷ 4 ∷ []) (tagOf items-of.the-type x) → (xs : List Item) → slotsOf (itemIs x ∷ xs) ≡ []
+unfolding slotsOf
+other-slots (Row o) h xs = refl
+other-slots (Operand k q) h xs = absurd (miss (0 ∷ 2 ∷ 3 ∷ 4 ∷ []) 1 tt h)
+other-slots (Enumerant k v) h xs = refl
+other-slots (Parameter k) h xs = refl
+other-slots Broken h xs = refl
+
+-- no parameter follows at another item
+other-parameters : (x : Code.Item) → OneOf (0 ∷ 1 ∷ 2 ∷ 4 ∷ []) (tagOf items-of.the-type x) → (xs : List Item) → parametersOf (itemIs x ∷ xs) ≡ []
+unfolding parametersOf
+other-parameters (Row o) h xs = refl
+other-parameters (Operand k q) h xs = refl
+other-parameters (Enumerant k v) h xs = refl
+other-parameters (Parameter k) h xs = absurd (miss (0 ∷ 1 ∷ 2 ∷ 4 ∷ []) 3 tt h)
+other-parameters Broken h xs = refl
+
 module _ (g : List ℕ) (at : ℕ) where
   -- past the grammar no operand follows
   pub slot-end : length g ≤ at → (slotsOf (items (drop at g)) ≡ slotsThen NoSlot (slotsOf (items (drop (at + 3) g)))) × (slotBytes NoSlot ≤ length g - at)
@@ -91,7 +112,7 @@ module _ (g : List ℕ) (at : ℕ) where
   module _ (h : at < length g) (x : Code.Item) (e : x ≡ itemAt g at) where
     -- the item there, and the items after it
     some-item : items (drop at g) ≡ itemIs x ∷ items (drop (at + lengthAt g at) g)
-    some-item = rw e (items-at g at h)
+    some-item = items-read g at h x e (lengthAt g at) refl
 
     -- the item there, where it is fine: how many bytes it has is known
     fine-item : (y : Code.Item) → x ≡ y → isFine (itemIs y) ≡ true → (items (drop at g) ≡ itemIs y ∷ items (drop (at + sizeOf (itemIs y)) g)) × (at + sizeOf (itemIs y) ≤ length g)
@@ -105,9 +126,9 @@ module _ (g : List ℕ) (at : ℕ) where
     slot-there k q o = let t = fine-item (Operand k q) o refl in (ap slotsOf (t .0), omega (arith, t .1))
 
     -- another item
-    pub slot-none : ((xs : List Item) → slotsOf (itemIs x ∷ xs) ≡ []) → (slotsOf (items (drop at g)) ≡ slotsThen NoSlot (slotsOf (items (drop (at + 3) g)))) × (slotBytes NoSlot ≤ length g - at)
+    pub slot-none : OneOf (0 ∷ 2 ∷ 3 ∷ 4 ∷ []) (tagOf items-of.the-type x) → (slotsOf (items (drop at g)) ≡ slotsThen NoSlot (slotsOf (items (drop (at + 3) g)))) × (slotBytes NoSlot ≤ length g - at)
     unfolding slotsThen slotBytes
-    slot-none f = (ap slotsOf some-item ∙ f (items (drop (at + lengthAt g at) g)), omega arith)
+    slot-none o = (ap slotsOf some-item ∙ other-slots x o (items (drop (at + lengthAt g at) g)), omega arith)
 
     -- a parameter
     pub parameter-there : (k : ℕ) → x ≡ Parameter k → (parametersOf (items (drop at g)) ≡ parametersThen (AParameter k) (parametersOf (items (drop (at + 2) g)))) × (parameterBytes (AParameter k) ≤ length g - at)
@@ -115,6 +136,6 @@ module _ (g : List ℕ) (at : ℕ) where
     parameter-there k o = let t = fine-item (Parameter k) o refl in (ap parametersOf (t .0), omega (arith, t .1))
 
     -- another item
-    pub parameter-none : ((xs : List Item) → parametersOf (itemIs x ∷ xs) ≡ []) → (parametersOf (items (drop at g)) ≡ parametersThen NoParameter (parametersOf (items (drop (at + 2) g)))) × (parameterBytes NoParameter ≤ length g - at)
+    pub parameter-none : OneOf (0 ∷ 1 ∷ 2 ∷ 4 ∷ []) (tagOf items-of.the-type x) → (parametersOf (items (drop at g)) ≡ parametersThen NoParameter (parametersOf (items (drop (at + 2) g)))) × (parameterBytes NoParameter ≤ length g - at)
     unfolding parametersThen parameterBytes
-    parameter-none f = (ap parametersOf some-item ∙ f (items (drop (at + lengthAt g at) g)), omega arith)
+    parameter-none o = (ap parametersOf some-item ∙ other-parameters x o (items (drop (at + lengthAt g at) g)), omega arith)

@@ -1,6 +1,6 @@
 -- The marks of a well-formed grammar: they rise, each stands at its item, and the first of a kind and a value is what the definitions look up.
 use mathlib.Core.Path.{_≡_, refl, sym, ap, _∙_, subst}
-use mathlib.Core.Bool.{Bool, true, false, not, _&&_, _||_}
+use mathlib.Core.Bool.{Bool, true, false, not, _&&_}
 use mathlib.Core.List.{List, [], _∷_}
 use mathlib.Core.Option.{Option, none, some}
 use mathlib.Core.Logic.{⊎-elim}
@@ -10,11 +10,11 @@ use borrow.Author.Tests.{ne-eqb, leb-true, ltb-true, eqb-true}
 use lib.Dec.{leb, ltb, eqb}
 use lib.ListN.{length, getD, drop, length-drop}
 use Rattle.spec.specs.declared.Found.{Found}
-use Rattle.spec.specs.declared.Found.the-variants.{At, Nothing}
+use Rattle.spec.specs.declared.Found.the-variants.{At}
 use Rattle.spec.specs.Base.{if_then_else_, has, every, within, implies}
 use Rattle.spec.specs.Words.{bitsOf}
 use Rattle.spec.specs.Kinds.{isEnum, isMask}
-use Rattle.spec.specs.Grammar.{Item, row, operand, enumerant, parameter, broken, bodyLength, itemOf, items, Before, start, inRow, inEnumerant, rowEnd, enumerantRule, rises, rule, next, withSlot, rulesFrom, Slot, slotsOf, parametersOf, rowsOf, enumerantsOf, rowOf, listed}
+use Rattle.spec.specs.Grammar.{Item, row, operand, enumerant, parameter, broken, bodyLength, itemOf, items, Before, start, inRow, inEnumerant, rowEnd, enumerantRule, rises, rule, next, withSlot, rulesFrom, slotsOf, parametersOf, rowsOf, enumerantsOf, rowOf, listed}
 use Rattle.grammar.specs.declared.index.Mark.{Mark}
 use Rattle.grammar.specs.Items.{itemIs, itemAt, lengthAt}
 use Rattle.grammar.specs.Index.{mark, sizeOf, markOf, marksFrom, markAt, found}
@@ -33,7 +33,7 @@ isFine (parameter k) = true
 isFine broken = false
 
 -- no test both holds and fails
-never : {t : Bool} {A : Type 0} → t ≡ true → t ≡ false → A
+pub never : {t : Bool} {A : Type 0} → t ≡ true → t ≡ false → A
 never p q = let z : _≡_ {A = ℕ} 0 1 = cc in absurd (omega arith)
 
 -- an enumerant's rule asks for its kind

@@ -10,9 +10,7 @@ use borrow.Author.Count.{below-more}
 use borrow.Author.Tests.{lt-ltb, le-ltb, eq-eqb, ne-eqb, ltb-true, ltb-false, eqb-true}
 use lib.Dec.{ltb, eqb}
 use lib.ListN.{length}
-use Rattle.spec.specs.declared.Found.{Found}
 use Rattle.spec.specs.declared.Found.the-variants.{At, Nothing}
-use Rattle.spec.specs.Base.{if_then_else_}
 use Rattle.spec.specs.Grammar.{rises}
 use Rattle.grammar.specs.declared.index.Mark.{Mark}
 use Rattle.grammar.specs.Index.{markAt, isMark, found}

@@ -1,14 +1,14 @@
 -- What the lookups find, and what is read on from there.
 use Prim.Native.Nat.{ℕ, _+_}
-use mathlib.Core.Bool.{Bool, true, false}
-use mathlib.Core.List.{List, [], _∷_}
+use mathlib.Core.Bool.{Bool, true, false, _&&_}
+use mathlib.Core.List.{List, [], _∷_, _++_}
 use mathlib.Core.Option.{Option, none, some}
 use lib.Dec.{eqb}
 use lib.ListN.{drop}
 use Rattle.spec.specs.declared.Found.{Found}
 use Rattle.spec.specs.declared.Found.the-variants.{At, Nothing}
 use Rattle.spec.specs.Base.{if_then_else_}
-use Rattle.spec.specs.Grammar.{Slot, slot, items, slotsOf, parametersOf, Enumerant, listed}
+use Rattle.spec.specs.Grammar.{Slot, slot, items, slotsOf, parametersOf, operandRule, rowEnd, Enumerant, listed}
 use Rattle.grammar.specs.declared.find.SlotAt.{SlotAt}
 use Rattle.grammar.specs.declared.find.SlotAt.the-variants.{Slot as ASlot, End as NoSlot}
 use Rattle.grammar.specs.declared.find.ParameterAt.{ParameterAt}
@@ -62,3 +62,12 @@ isListed (some ps) = true
 -- is a bit listed, where it is set
 unfoldable pub bitListed : List Enumerant → ℕ → ℕ → ℕ → Bool
 bitListed es k set bit = if eqb set 1 then isListed (listed k bit es) else true
+
+-- the operands of a row after those before it: each meets the rule of its place, and the row ends where they end
+unfoldable pub rowGoodFrom : ℕ → List Slot → List Slot → Bool
+rowGoodFrom op before [] = rowEnd op before
+rowGoodFrom op before (slot k q ∷ ss) = operandRule op before k q && rowGoodFrom op (before ++ (slot k q ∷ [])) ss
+
+-- a row's operands meet the rules
+unfoldable pub rowGood : ℕ → List Slot → Bool
+rowGood op ss = rowGoodFrom op [] ss

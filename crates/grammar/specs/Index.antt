@@ -1,8 +1,8 @@
 -- The index of a grammar: its rows and enumerants in their order, and where their items stand.
-use Prim.Native.Nat.{ℕ, zero, suc, _+_, _≤_}
+use Prim.Native.Nat.{ℕ, _+_, _≤_}
 use mathlib.Core.Path.{_≡_}
 use mathlib.Core.Bool.{Bool, true, false, _&&_}
-use mathlib.Core.List.{List, [], _∷_, _++_, map}
+use mathlib.Core.List.{List, [], _∷_, map}
 use lib.Dec.{eqb}
 use lib.ListN.{length, getD, take, drop}
 use Rattle.spec.specs.declared.Found.{Found}
@@ -71,17 +71,17 @@ unfoldable pub found : ℕ → ℕ → List Mark → Found
 found k v [] = Nothing
 found k v (m ∷ ms) = let later = found k v ms in if isMark k v m then At (m .place) else later
 
--- THE INDEX: 576 guesses, the count of marks, and their places in order
+-- THE INDEX: 1,536 guesses, the count of marks, and their places in order
 
 -- the first n places that an index has
 unfoldable pub placesIn : ℕ → List ℕ → List ℕ
-placesIn n index = take n (drop 577 index)
+placesIn n index = take n (drop 1537 index)
 
 -- an index of a grammar, which is well-formed; nothing is asked of the guesses
 pub record Indexed (g index : List ℕ) : Type 0 where
   pub well : wellFormed g ≡ true
-  pub count : getD index 576 0 ≡ length (marksOf g)
-  pub room : 577 + length (marksOf g) ≤ length index
+  pub count : getD index 1536 0 ≡ length (marksOf g)
+  pub room : 1537 + length (marksOf g) ≤ length index
   pub places : placesIn (length (marksOf g)) index ≡ placesOf (marksOf g)
 
 -- do some numbers begin with others
@@ -94,4 +94,4 @@ begins (x ∷ xs) (y ∷ ys) = eqb x y && begins xs ys
 unfoldable pub indexed : List ℕ → List ℕ → Bool
 indexed g index =
     let ms = marksOf g in
-    wellFormed g && begins (length ms ∷ placesOf ms) (drop 576 index)
+    wellFormed g && begins (length ms ∷ placesOf ms) (drop 1536 index)

@@ -1,4 +1,5 @@
 pub mod Find
 pub mod Index
 pub mod Items
+pub mod Read
 pub mod Rules

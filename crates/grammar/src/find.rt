@@ -40,7 +40,7 @@ fn search(g: &[u8], index: &[u16], kind: u8, value: u32) -> Found
     ensures { λ r. ⌜ r ≡ found kind value (marksOf (now (g .entry))) ⌝ }
 {
     let mut low: usize = 0;
-    let mut high = mark_count(g, index);
+    let mut high = mark_count(index);
     while low < high {
         let middle = low + (high - low) / 2;
         let m = mark_at(g, index, middle);
@@ -57,12 +57,13 @@ fn search(g: &[u8], index: &[u16], kind: u8, value: u32) -> Found
     Found::Nothing
 }
 
-// Looks where a guess says, and else searches.
-fn look(g: &[u8], index: &[u16], kind: u8, value: u32, guess: usize) -> Found
+// Looks where the guess says, and else searches.
+fn look(g: &[u8], index: &[u16], kind: u8, value: u32) -> Found
     requires { ⌜ Indexed (now g) (now index) ⌝ }
     ensures { λ r. ⌜ r ≡ found kind value (marksOf (now (g .entry))) ⌝ }
 {
-    if guess < mark_count(g, index) {
+    let guess = guess_at(index, kind, value);
+    if guess < mark_count(index) {
         let m = mark_at(g, index, guess);
         if m.kind == kind {
             if m.value == value {
@@ -79,13 +80,7 @@ pub fn find_row(g: &[u8], index: &[u16], opcode: u16) -> Found
     ensures { λ r. ⌜ rowFound (now (g .entry)) r ≡ rowOf opcode (grammarOf (now (g .entry)) .rows) ⌝ }
     ensures { λ r. ⌜ placeFound r ≤ length (now (g .entry)) ⌝ }
 {
-    let row = look(
-        g,
-        index,
-        0,
-        opcode as u32,
-        guess_at(index, opcode as usize) as usize,
-    );
+    let row = look(g, index, 0, opcode as u32);
     match row {
         Found::At(place) => {
             let operands = place + 3;
@@ -104,8 +99,7 @@ pub fn find_enumerant(g: &[u8], index: &[u16], kind: u8, value: u32) -> Found
     if kind == 0 {
         return Found::Nothing;
     }
-    let guess = (guess_at(index, 512 + (kind as usize)) as usize) + (value as usize);
-    let enumerant = look(g, index, kind, value, guess);
+    let enumerant = look(g, index, kind, value);
     match enumerant {
         Found::At(place) => {
             let parameters = place + 6;
@@ -124,13 +118,10 @@ pub fn slot_at(g: &[u8], at: usize) -> SlotAt
         return SlotAt::End;
     }
     let x = item_at(g, at);
-    match x {
-        Item::Operand(kind, quantifier) => SlotAt::Slot(kind, quantifier),
-        Item::Row(_) => SlotAt::End,
-        Item::Enumerant(_, _) => SlotAt::End,
-        Item::Parameter(_) => SlotAt::End,
-        Item::Broken => SlotAt::End,
-    }
+    let Item::Operand(kind, quantifier) = x else {
+        return SlotAt::End;
+    };
+    SlotAt::Slot(kind, quantifier)
 }
 
 // The parameter that starts at a place, or the end of the enumerant.
@@ -142,13 +133,10 @@ pub fn parameter_at(g: &[u8], at: usize) -> ParameterAt
         return ParameterAt::End;
     }
     let x = item_at(g, at);
-    match x {
-        Item::Parameter(kind) => ParameterAt::Parameter(kind),
-        Item::Row(_) => ParameterAt::End,
-        Item::Operand(_, _) => ParameterAt::End,
-        Item::Enumerant(_, _) => ParameterAt::End,
-        Item::Broken => ParameterAt::End,
-    }
+    let Item::Parameter(kind) = x else {
+        return ParameterAt::End;
+    };
+    ParameterAt::Parameter(kind)
 }
 
 // Whether the enumerant of a kind and a value is listed.

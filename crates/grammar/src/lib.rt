@@ -1,8 +1,9 @@
-// A grammar as bytes: its items, the tests on operand kinds, the check that it is well-formed, its index and the look-ups.
+// A grammar as bytes: its items, the tests on operand kinds, the check that it is well-formed, its index, and the lookups.
 mod find;
 mod index;
 mod items;
 mod kinds;
+mod read;
 mod rules;
 
 pub use find::ParameterAt;
@@ -17,4 +18,5 @@ pub use index::fill_index;
 pub use items::Item;
 pub use items::item_at;
 pub use items::item_length;
+pub use read::enumerant;
 pub use rules::well_formed;

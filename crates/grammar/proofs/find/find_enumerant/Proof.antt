@@ -9,18 +9,6 @@ use Rattle.grammar.proofs.find.find_enumerant.Tie as tie
 returns : tie.Need-returns
 returns c = no-enumerant _ _ _ _ (c .before .before .before .pre) (c .if1 .taken)
 
-add-guess-at : tie.Need-add-guess-at
-add-guess-at c = search needs
-
-guess-at-requires : tie.Need-guess-at-requires
-guess-at-requires c κs = search needs
-
-cast-guess : tie.Need-cast-guess
-cast-guess c = search needs
-
-add-guess : tie.Need-add-guess
-add-guess c = search needs
-
 look-requires : tie.Need-look-requires
 look-requires c κs = search needs
 
@@ -28,26 +16,22 @@ enum-known-enumerant : tie.Need-enum-known-enumerant
 enum-known-enumerant c = search needs
 
 add-parameters : tie.Need-add-parameters
-add-parameters c = omega (arith, enumerant-near _ _ _ _ _ (c .before .before .before .before .before .before .before .before .pre) (c .before .before .before .before .before .if1 .left) (sym (c .before .enumerant .given .1) ∙ c .before .before .before .look .ensures))
+add-parameters c = omega (arith, enumerant-near _ _ _ _ _ (c .before .before .before .before .before .before .before .pre) (c .before .before .before .before .if1 .left) (sym (c .before .enumerant .given .1) ∙ c .before .before .before .look .ensures))
 
 enum-told : tie.Need-enum-told
 enum-told c = search needs
 
 returns-2 : tie.Need-returns-2
-returns-2 c = enumerant-at _ _ _ _ _ (c .before .before .before .before .before .before .before .before .pre) (c .before .before .before .before .before .if1 .left) (sym (c .before .enumerant .given .1) ∙ c .before .before .before .look .ensures)
+returns-2 c = enumerant-at _ _ _ _ _ (c .before .before .before .before .before .before .before .pre) (c .before .before .before .before .if1 .left) (sym (c .before .enumerant .given .1) ∙ c .before .before .before .look .ensures)
 
 returns-3 : tie.Need-returns-3
-returns-3 c = enumerant-at _ _ _ _ _ (c .before .before .before .before .before .before .before .pre) (c .before .before .before .before .if1 .left) (sym (c .enum-told .given .1) ∙ c .before .before .look .ensures)
+returns-3 c = enumerant-at _ _ _ _ _ (c .before .before .before .before .before .before .pre) (c .before .before .before .if1 .left) (sym (c .enum-told .given .1) ∙ c .before .before .look .ensures)
 
 pub find-enumerant-spec : {M : Type 1} → statement M
 find-enumerant-spec =
     tie.close
     (tie.spec
     returns
-    add-guess-at
-    guess-at-requires
-    cast-guess
-    add-guess
     look-requires
     enum-known-enumerant
     add-parameters

@@ -4,7 +4,7 @@ use Rattle.grammar.proofs.SearchLaws.{Halving, halving-start, halving-e
 use Rattle.grammar.specs.Index.{marksOf}
 use borrow.Author.Needs.{needs}
 use native.Mathlib.Omega.{arith}
-use mathlib.Core.Path.{sym}
+use mathlib.Core.Path.{sym, _∙_}
 use Prim.Native.Nat.{_-_}
 use Rattle.grammar.proofs.find.search.Statement.{statement}
 use Rattle.grammar.proofs.find.search.Tie as tie
@@ -19,7 +19,7 @@ mark-count-requires : tie.Need-mark-count-requires Inv-loop μ-loop
 mark-count-requires c κs = search needs
 
 loop-holds : tie.Need-loop-holds Inv-loop μ-loop
-loop-holds c = halving-start _ _ _ _ (c .mark-count .ensures)
+loop-holds c = halving-start _ _ _ _ (c .mark-count .ensures ∙ c .before .before .before .pre .count)
 
 sub-middle : tie.Need-sub-middle Inv-loop μ-loop
 sub-middle c = search needs

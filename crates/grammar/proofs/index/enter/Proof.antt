@@ -1,4 +1,5 @@
 -- `grammar::index::enter` meets its contract.
+use Rattle.grammar.proofs.IndexLaws.{other-item}
 use Rattle.grammar.specs.Index.{placesAt}
 use native.Mathlib.Nat.{add-zero}
 use mathlib.Core.List.{append-nil}
@@ -22,23 +23,11 @@ add-result c = search needs
 enum-known-x-2 : tie.Need-enum-known-x-2
 enum-known-x-2 c = search needs
 
-enumerant-guess-requires : tie.Need-enumerant-guess-requires
-enumerant-guess-requires c κs = search needs
-
 put-requires-2 : tie.Need-put-requires-2
 put-requires-2 c κs = search needs
 
 add-result-2 : tie.Need-add-result-2
 add-result-2 c = search needs
-
-enum-told : tie.Need-enum-told
-enum-told c = search needs
-
-enum-told-2 : tie.Need-enum-told-2
-enum-told-2 c = search needs
-
-enum-told-3 : tie.Need-enum-told-3
-enum-told-3 c = search needs
 
 same-length : tie.Need-same-length
 same-length c = search needs
@@ -52,19 +41,10 @@ same-length-2 c = search needs
 
 returns-2 : tie.Need-returns-2
 unfolding placesAt
-returns-2 c = rw (c .before .before .before .before .before .before .x2 .given .1) (refl, c .before .before .put2 .ensures)
+returns-2 c = rw (c .before .before .before .before .before .x2 .given .1) (refl, c .before .before .put2 .ensures)
 
 returns-3 : tie.Need-returns-3
-unfolding placesAt
-returns-3 c = rw (c .enum-told .given .1) (sym (add-zero _), sym (append-nil _))
-
-returns-4 : tie.Need-returns-4
-unfolding placesAt
-returns-4 c = rw (c .enum-told2 .given .1) (sym (add-zero _), sym (append-nil _))
-
-returns-5 : tie.Need-returns-5
-unfolding placesAt
-returns-5 c = rw (c .enum-told3 .given .1) (sym (add-zero _), sym (append-nil _))
+returns-3 c = rw (other-item _ _ (c .match .keys3) .0) (sym (add-zero _), sym (append-nil _))
 
 pub enter-spec : {M : Type 1} → statement M
 enter-spec =
@@ -75,16 +55,10 @@ enter-spec =
     put-requires
     add-result
     enum-known-x-2
-    enumerant-guess-requires
     put-requires-2
     add-result-2
-    enum-told
-    enum-told-2
-    enum-told-3
     same-length
     returns
     same-length-2
     returns-2
-    returns-3
-    returns-4
-    returns-5)
+    returns-3)

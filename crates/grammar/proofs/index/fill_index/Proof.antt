@@ -1,6 +1,5 @@
 -- `grammar::index::fill_index` meets its contract.
-use Rattle.grammar.proofs.IndexLaws.{well-told, Filling, filling-start, filling-turn, filling-end}
-use Rattle.grammar.proofs.ItemLaws.{length-most, length-least}
+use Rattle.grammar.proofs.IndexLaws.{well-told, Filling, filling-start, filling-next, filling-turn, filling-end}
 use borrow.Author.Needs.{needs}
 use native.Mathlib.Omega.{arith}
 use mathlib.Core.Path.{_≡_, refl, _∙_}
@@ -21,20 +20,20 @@ loop-holds c = (filling-start _ _ (c .before .before .pre .0), refl)
 item-at-requires : tie.Need-item-at-requires Inv-loop μ-loop
 item-at-requires c κs = search needs
 
-enter-requires : tie.Need-enter-requires Inv-loop μ-loop
-enter-requires c κs = omega (arith, c .before .before .before .loop .inv .0 .few, well-told _ (c .before .before .before .before .before .before .pre .0) .few)
-
 item-length-requires : tie.Need-item-length-requires Inv-loop μ-loop
 item-length-requires c κs = search needs
 
-add-at : tie.Need-add-at Inv-loop μ-loop
-add-at c = omega (arith, length-most (c .before .before .before .before .before .before .before .before .before .before .args .g .now) (c .before .before .before .before .before .before .before .loop .at), c .item-length .ensures)
+add-next : tie.Need-add-next Inv-loop μ-loop
+add-next c = omega (arith, filling-next _ _ _ _ _ (c .before .before .before .loop .inv .0) (c .before .before .loop-test .taken) (c .item-length .ensures) (c .before .before .before .before .before .before .pre .0))
+
+enter-requires : tie.Need-enter-requires Inv-loop μ-loop
+enter-requires c κs = omega (arith, c .before .before .before .before .loop .inv .0 .few, filling-next _ _ _ _ _ (c .before .before .before .before .loop .inv .0) (c .before .before .before .loop-test .taken) (c .before .item-length .ensures) (c .before .before .before .before .before .before .before .pre .0))
 
 loop-less : tie.Need-loop-less Inv-loop μ-loop
-loop-less c = omega (arith, length-least (c .before .before .before .before .before .before .before .before .before .before .args .g .now) (c .before .before .before .before .before .before .before .loop .at), c .item-length .ensures)
+loop-less c = omega (arith, filling-next _ _ _ _ _ (c .before .before .before .before .before .before .before .loop .inv .0) (c .before .before .before .before .before .before .loop-test .taken) (c .before .before .before .before .item-length .ensures) (c .before .before .before .before .before .before .before .before .before .before .pre .0))
 
 loop-again : tie.Need-loop-again Inv-loop μ-loop
-loop-again c = (filling-turn _ _ _ _ _ _ _ _ (c .before .before .before .before .before .before .before .loop .inv .0) (c .before .before .before .before .before .before .loop-test .taken) (c .before .before .before .before .before .item-at .ensures) (c .item-length .ensures) (c .before .before .before .enter .ensures), c .before .before .before .enter .kept .0 ∙ c .before .before .before .before .before .before .before .loop .inv .1)
+loop-again c = (filling-turn _ _ _ _ _ (c .before .before .before .before .before .before .before .loop .inv .0) (c .before .before .before .before .before .before .loop-test .taken) (c .before .before .before .before .item-length .ensures) _ _ _ (c .before .before .before .before .before .item-at .ensures) (c .before .before .enter .ensures), c .before .before .enter .kept .0 ∙ c .before .before .before .before .before .before .before .loop .inv .1)
 
 cast-index : tie.Need-cast-index Inv-loop μ-loop
 cast-index c = omega (arith, c .before .loop .inv .0 .few, c .before .loop .inv .0 .inside, well-told _ (c .before .before .before .before .pre .0) .few)
@@ -56,9 +55,9 @@ fill-index-spec =
     μ-loop
     loop-holds
     item-at-requires
-    enter-requires
     item-length-requires
-    add-at
+    add-next
+    enter-requires
     loop-less
     loop-again
     cast-index

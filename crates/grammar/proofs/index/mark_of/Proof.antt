@@ -1,4 +1,5 @@
 -- `grammar::index::mark_of` meets its contract.
+use Rattle.grammar.proofs.IndexLaws.{other-item}
 use borrow.Author.Needs.{needs}
 use Rattle.grammar.proofs.index.mark_of.Statement.{statement}
 use Rattle.grammar.proofs.index.mark_of.Tie as tie
@@ -12,15 +13,6 @@ cast-t7 c = search needs
 enum-known-x-2 : tie.Need-enum-known-x-2
 enum-known-x-2 c = search needs
 
-enum-told : tie.Need-enum-told
-enum-told c = search needs
-
-enum-told-2 : tie.Need-enum-told-2
-enum-told-2 c = search needs
-
-enum-told-3 : tie.Need-enum-told-3
-enum-told-3 c = search needs
-
 returns : tie.Need-returns
 returns c = rw (c .before .x .given .1)
 
@@ -28,26 +20,7 @@ returns-2 : tie.Need-returns-2
 returns-2 c = rw (c .before .x2 .given .1)
 
 returns-3 : tie.Need-returns-3
-returns-3 c = rw (c .enum-told .given .1)
-
-returns-4 : tie.Need-returns-4
-returns-4 c = rw (c .enum-told2 .given .1)
-
-returns-5 : tie.Need-returns-5
-returns-5 c = rw (c .enum-told3 .given .1)
+returns-3 c = other-item (c .before .args .x) (c .before .args .place) (c .match .keys3) .1
 
 pub mark-of-spec : {M : Type 1} → statement M
-mark-of-spec =
-    tie.close
-    (tie.spec
-    enum-known-x
-    cast-t7
-    enum-known-x-2
-    enum-told
-    enum-told-2
-    enum-told-3
-    returns
-    returns-2
-    returns-3
-    returns-4
-    returns-5)
+mark-of-spec = tie.close (tie.spec enum-known-x cast-t7 enum-known-x-2 returns returns-2 returns-3)

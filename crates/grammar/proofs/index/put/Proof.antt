@@ -1,10 +1,13 @@
 -- `grammar::index::put` meets its contract.
-use Rattle.grammar.proofs.IndexLaws.{place-put, both-put}
+use Rattle.grammar.proofs.IndexLaws.{both-put}
 use native.Mathlib.Omega.{arith}
 use lib.ListN.{length-set}
 use borrow.Author.Needs.{needs}
 use Rattle.grammar.proofs.index.put.Statement.{statement}
 use Rattle.grammar.proofs.index.put.Tie as tie
+
+guess-place-requires : tie.Need-guess-place-requires
+guess-place-requires c κs = search needs
 
 cast-index : tie.Need-cast-index
 cast-index c = search needs
@@ -25,24 +28,19 @@ mul-index-2 : tie.Need-mul-index-2
 mul-index-2 c = search needs
 
 slice-write-index-2 : tie.Need-slice-write-index-2
-slice-write-index-2 c = simp length-set (omega arith)
+slice-write-index-2 c = simp length-set (omega (arith, c .guess-place .ensures))
 
 same-length : tie.Need-same-length
 same-length c = search needs
 
 returns : tie.Need-returns
-returns c = both-put (c .before .args .index .now) _ _ _ (c .before .pre .0) (c .if1 .taken)
-
-same-length-2 : tie.Need-same-length-2
-same-length-2 c = search needs
-
-returns-2 : tie.Need-returns-2
-returns-2 c = place-put (c .before .args .index .now) _ _ (c .before .pre .0)
+returns c = both-put (c .before .before .args .index .now) _ _ _ (c .before .before .pre .0) (c .guess-place .ensures)
 
 pub put-spec : {M : Type 1} → statement M
 put-spec =
     tie.close
     (tie.spec
+    guess-place-requires
     cast-index
     add-index
     mul-index
@@ -51,6 +49,4 @@ put-spec =
     mul-index-2
     slice-write-index-2
     same-length
-    returns
-    same-length-2
-    returns-2)
+    returns)
