@@ -2,18 +2,19 @@
 -- (Numbers), `Covers` (Room), `KeptSays`, `endOf` and `ended` (Returns), `roomIn`, `laidOn` and `Leaves` (Leaves).
 use Prim.Native.Nat.{ℕ, _-_, _/_, _≤_}
 use mathlib.Core.Path.{_≡_}
-use mathlib.Core.Bool.{false}
+use mathlib.Core.Bool.{true, false}
 use mathlib.Core.List.{List, _++_}
 use lib.ListN.{length, take}
 use Rattle.spec.specs.declared.State.{State}
 use Rattle.spec.specs.declared.Counts.{Counts}
 use Rattle.spec.specs.Base.{within}
+use Rattle.spec.specs.Grammar.{wellFormed}
 use Rattle.spec.specs.Load.{enough, load, Stores, storesOf}
 use Rattle.spec.specs.Check.{good, check}
 use Rattle.demands.proofs.Bytes.{AllBytes}
 use Rattle.demands.proofs.Lists.{Begins}
 use Rattle.demands.proofs.Numbers.{OfRoom, Source, load-number, load-from}
-use Rattle.demands.proofs.Room.{Covers, load-roomy}
+use Rattle.demands.proofs.Room.{Covers, load-roomy, load-low}
 use Rattle.demands.proofs.KeptSays.{KeptSays, load-says}
 use Rattle.demands.proofs.Leaves.{roomIn, laidOn, Leaves, load-leaves, leaves-begin}
 use Rattle.demands.proofs.ReadBack.{givenBy, reads-back}
@@ -35,6 +36,11 @@ module _ (grammar : List ℕ) (room : Counts) (s : List ℕ) where
   -- "With W whole words after the header, W instruction records, 9W log bytes, 4W string bytes and W type entries always suffice"
   pub room-suffices : Covers room (enough (length s / 4 - 5)) → within 25 (load grammar room s .said .number) 28 ≡ false
   room-suffices c = load-roomy grammar room s c
+
+  -- and with a well-formed grammar and at most 67,108,864 bytes the number is 0 to 23
+  pub number-low : Covers room (enough (length s / 4 - 5)) → wellFormed grammar ≡ true → length s ≤ 67108864
+      → load grammar room s .said .number ≤ 23
+  number-low c = load-low grammar room s c
 
   -- WHAT IS KEPT
 

@@ -9,7 +9,7 @@ use native.Mathlib.Omega.{arith}
 use native.Mathlib.Nat.{div-add-mod'}
 use borrow.Author.Tests.{eqb-false}
 use lib.Dec.{eqb, eqb·suc-zero}
-use lib.ListN.{length}
+use lib.ListN.{length, length-append}
 use lib.Seq.{drop-append-add, drop-drop}
 use Rattle.spec.specs.declared.Limit.the-variants.{Unlimited, Words}
 use Rattle.spec.specs.Base.{joined}
@@ -21,7 +21,7 @@ use Rattle.spec.specs.Match.{Seen, nothingSeen, readRow, instrOf, allRead, read
 use Rattle.spec.specs.Plain.{plainOperand, plainOperands, plainInstr}
 use Rattle.demands.proofs.Choice.{either, IfSome}
 use Rattle.demands.proofs.Bytes.{AllBytes, all-append, all-left, all-right, four-word}
-use Rattle.demands.proofs.Reading.{OfReading, Again, Taken, Comes}
+use Rattle.demands.proofs.Reading.{RefusedBy, Again, Taken, Comes}
 use Rattle.demands.proofs.Formed.{RowFrom, GrammarGood}
 use Rattle.demands.proofs.Told.{AllHold, AllSure, along-long, along-sure}
 use Rattle.demands.proofs.Rows.{asOperands, SeenTold, row-reads}
@@ -66,7 +66,7 @@ pub record InstrRead (g : Grammar) (types : List Entry) (at : ℕ) (rest : List 
 -- what reading came to
 abbrev pub Frames : Grammar → List Entry → ℕ → List ℕ → Read Instr → Type 0
 Frames g types at rest (got i t) = InstrRead g types at rest i t
-Frames g types at rest (refused x t) = OfReading (x .number)
+Frames g types at rest (refused x t) = RefusedBy (at + length rest) x
 
 -- WHAT IS SEEN
 
@@ -222,14 +222,15 @@ module _ (g : Grammar) (good : GrammarGood g) (types : List Entry) (at a b c d :
             (allRead (instrOf at count op s) (reader (at + 4 + length (z .from)) (Words n) (z .behind)))
         by zero spends again back =
             instr-here s (z .from) (z .bytes) (z .behind) (z .takes) (omega arith) (z .long) again back (z .fact)
-        by (suc n) spends again back = rw eqb·suc-zero (omega arith)
+        by (suc n) spends again back =
+            rw eqb·suc-zero (omega (arith, ap length (z .takes) ∙ length-append (z .from) (z .behind)))
 
     -- by what its row has read
     row-frames : (y : Read Seen) → Comes SeenTold rowRead (at + 4) (count - 1) r y
         → Frames g types at rest (after y (λ s. allRead (instrOf at count op s)))
     row-frames (got s t) z =
         subst (λ (u : Reader). Frames g types at rest (allRead (instrOf at count op s) u)) (sym (z .to)) (left-frames s t z)
-    row-frames (refused x t) z = z
+    row-frames (refused x t) z = (z .0, omega arith)
 
   -- by its opcode's row
   body-frames : eqb count 0 ≡ false → (o : Option (List Slot)) → rowOf op (g .rows) ≡ o → IfSome (RowFrom true true) o

@@ -2,6 +2,7 @@
 pub mod Demand1
 pub mod Demand3
 pub mod Standing
+pub mod Agree
 -- choices, lists, bytes, kinds, the layout table, stores
 pub mod Choice
 pub mod Lists
@@ -23,6 +24,7 @@ pub mod Runs
 pub mod Starts
 pub mod Numbers
 pub mod Room
+pub mod Bounds
 pub mod KeptSays
 pub mod Kept
 pub mod Returns
@@ -32,3 +34,4 @@ pub mod Leaves
 pub mod CheckBack
 pub mod ReadBack
 pub mod WriteBack
+pub mod Indices

@@ -44,7 +44,7 @@ module _ {g : Grammar} (good : GrammarGood g) {c : Counts} (R : ℕ → Type 0) 
   stop-source {b} (ends p) x = theEnd (b .state) refl
   stop-source {b} {at} {rest} (unread y t p e) x =
       let z = subst (Frames g (b .types) at rest) e (instr-read g good (b .types) at rest) in
-      reading (z .0) (z .1)
+      reading (z .0 .0) (z .0 .1)
   stop-source {b} (misplaced i t n p e f) x = let z = layout-refuses (i .opcode) n (b .state) f in layout (z .0) (z .1)
   stop-source {b} {at} {rest} (crowded z e) x = room (lacks b at rest z x e)
 

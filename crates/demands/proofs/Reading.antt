@@ -1,6 +1,6 @@
 -- Reading within a limit. Whatever is read stands in the bytes in front, by which the position moves and which the limit loses; it
--- is read again wherever these bytes stand, and from the bytes written for it; a refusal has a number from 4 to 14. One property,
--- `Reads`, goes by the parts of parses, so that each reader is a line or two.
+-- is read again wherever these bytes stand, and from the bytes written for it; a refusal has a number from 4 to 14 and a place not
+-- past the bytes. One property, `Reads`, goes by the parts of parses, so that each reader is a line or two.
 use Prim.Native.Nat.{ℕ, zero, suc, _+_, _*_, _≤_}
 use mathlib.Core.Path.{_≡_, refl, ap, sym, _∙_, subst}
 use mathlib.Core.Bool.{Bool, true, false}
@@ -10,6 +10,7 @@ use native.Mathlib.Nat.{add-zero}
 use lib.Dec.{eqb·suc-zero}
 use lib.ListN.{length, length-append}
 use Rattle.spec.specs.declared.Limit.the-variants.{Words}
+use Rattle.spec.specs.declared.Refusal.{Refusal}
 use Rattle.spec.specs.Base.{if_then_else_}
 use Rattle.spec.specs.Reader.{Reader, reader, Read, got, refused, Parse, after, _>>=_, _into_, give, refuse, here, spent}
 use Rattle.demands.proofs.Choice.{either}
@@ -24,6 +25,10 @@ Relation A = A → List ℕ → List ℕ → Type 0
 -- the numbers that reading refuses with
 abbrev pub OfReading : ℕ → Type 0
 OfReading n = (4 ≤ n) × (n ≤ 14)
+
+-- a refusal of reading, with a place that is not past an end
+abbrev pub RefusedBy : ℕ → Refusal → Type 0
+RefusedBy end x = OfReading (x .number) × (x .place ≤ end)
 
 -- from anywhere, with n words left, m reads a from the bytes w, where the bytes of the n′ words left then are there
 abbrev pub Again : {A : Type 0} → Parse A → ℕ → ℕ → List ℕ → A → Type 0
@@ -48,7 +53,7 @@ pub record Taken {A : Type 0} (R : Relation A) (m : Parse A) (at n : ℕ) (rest 
 -- what reading came to
 abbrev pub Comes : {A : Type 0} → Relation A → Parse A → ℕ → ℕ → List ℕ → Read A → Type 0
 Comes R m at n rest (got a t) = Taken R m at n rest a t
-Comes R m at n rest (refused x t) = OfReading (x .number)
+Comes R m at n rest (refused x t) = RefusedBy (at + length rest) x
 
 -- whatever the parse reads, from any position, with any number of words left, and from any bytes, is so
 pub record Reads {A : Type 0} (R : Relation A) (m : Parse A) : Type 0 where
@@ -78,7 +83,7 @@ give-reads p =
 
 -- a refusal at the position
 pub stop-reads : {A : Type 0} {R : Relation A} {n : ℕ} → OfReading n → Reads R (here >>= (λ at. refuse n at))
-stop-reads p = record { comes = λ at m rest. p }
+stop-reads p = record { comes = λ at m rest. (p, omega arith) }
 
 -- a parse that does, with so many words left, as another, of which more is said
 as-comes : {A : Type 0} {Q R : Relation A} (m p : Parse A) (n : ℕ)
@@ -160,7 +165,9 @@ module _ {A B : Type 0} (Q : Relation A) (R : Relation B) (m : Parse A) (k : A �
             (u .back (all-right (z .from) (u .from) by));
         fact = u .fact;
       }
-  second-comes at n rest a s z (refused x t) u = u
+  second-comes at n rest a s z (refused x t) u =
+      let all = ap length (z .takes) ∙ length-append (z .from) (z .behind) in
+      (u .0, omega arith)
 
   -- what both came to
   first-comes : ((a : A) (x w : List ℕ) → Q a x w → Reads (λ b u v. R b (x ++ u) (w ++ v)) (k a)) → (at n : ℕ) (rest : List ℕ)

@@ -2,8 +2,8 @@
 -- type entries"; and what is kept never goes past the room.
 use Prim.Native.Nat.{ℕ, suc, _+_, _-_, _*_, _/_, _≤_}
 use native.Mathlib.Omega.{arith}
-use mathlib.Core.Path.{_≡_, refl}
-use mathlib.Core.Bool.{Bool, true, false}
+use mathlib.Core.Path.{_≡_, refl, sym, _∙_}
+use mathlib.Core.Bool.{Bool, true, false, false≢true}
 use mathlib.Core.List.{List, [], _∷_}
 use mathlib.Core.Option.{Option, none, some}
 use borrow.Author.Tests.{eqb-true, eqb-false, ltb-false, lt-leb, le-ltb}
@@ -13,7 +13,7 @@ use Rattle.spec.specs.declared.Counts.{Counts}
 use Rattle.spec.specs.Base.{if_then_else_, within}
 use Rattle.spec.specs.Words.{bytesOf}
 use Rattle.spec.specs.Records.{Operand, narrow, wide, text, Instr, Entry, entry, operandSize, operandsSize, operandLog, operandString, operandsLog}
-use Rattle.spec.specs.Grammar.{Grammar}
+use Rattle.spec.specs.Grammar.{Grammar, wellFormed}
 use Rattle.spec.specs.Layout.{isType}
 use Rattle.spec.specs.Types.{define, entryOf, literalInt, defineInt, defineFloat, trackInt, trackFloat, inherit, trackValue, trackResult, track}
 use Rattle.spec.specs.Load.{enough, roomFault, Book, emptyBook, Outcome, load}
@@ -166,16 +166,17 @@ track-more i es = result-more (i .opcode) (i .resultType) (i .resultId) (i .oper
 -- WHAT IS KEPT
 
 -- what is kept takes no more than its words may, and they and the words left are w at most
-record Held (w : ℕ) (b : Book) (rest : List ℕ) : Type 0 where
-  words : ℕ
-  fits : words + length rest / 4 ≤ w
-  instructions : b .used .instructions ≤ words
-  log : b .used .log ≤ 9 * words
-  strings : b .used .strings ≤ 4 * words
-  types : length (b .types) ≤ words
+pub record Held (w : ℕ) (b : Book) (rest : List ℕ) : Type 0 where
+  pub words : ℕ
+  pub fits : words + length rest / 4 ≤ w
+  pub instructions : b .used .instructions ≤ words
+  pub log : b .used .log ≤ 9 * words
+  pub strings : b .used .strings ≤ 4 * words
+  pub types : length (b .types) ≤ words
+  pub entries : b .used .types ≤ words
 
 -- nothing is kept
-held-none : (s : List ℕ) → Held (length s / 4 - 5) emptyBook (drop 20 s)
+pub held-none : (s : List ℕ) → Held (length s / 4 - 5) emptyBook (drop 20 s)
 held-none s =
     let e = length-drop 20 s in
     record {
@@ -185,12 +186,13 @@ held-none s =
       log = omega arith;
       strings = omega arith;
       types = omega arith;
+      entries = omega arith;
     }
 
-module _ {g : Grammar} (good : GrammarGood g) {room : Counts} {w : ℕ} (c : Covers room (enough w)) (b : Book) (at : ℕ)
-    (rest : List ℕ) (z : Enters g b at rest) (k : Held w b rest) where
+module _ {g : Grammar} (good : GrammarGood g) {w : ℕ} (b : Book) (at : ℕ) (rest : List ℕ) (z : Enters g b at rest)
+    (k : Held w b rest) where
   -- an instruction more takes no more than its words more
-  held-more : Held w (with z) (z .behind)
+  pub held-more : Held w (with z) (z .behind)
   held-more =
       let i = z .instr in
       let size = entered-read g good z .count in
@@ -205,12 +207,13 @@ module _ {g : Grammar} (good : GrammarGood g) {room : Counts} {w : ℕ} (c : Cov
         log = omega arith;
         strings = omega arith;
         types = omega arith;
+        entries = omega arith;
       }
 
   -- so there is room for it
-  held-fits : roomFault room (with z .used) ≡ 0
+  held-fits : (room : Counts) → Covers room (enough w) → roomFault room (with z .used) ≡ 0
   unfolding enough
-  held-fits = let m = held-more in covers-fits room (with z .used) (omega arith)
+  held-fits room c = let m = held-more in covers-fits room (with z .used) (omega arith)
 
 -- THE ROOM THAT SUFFICES
 
@@ -224,8 +227,8 @@ module _ (grammar : List ℕ) (room : Counts) (s : List ℕ) (c : Covers room (e
   roomy-source =
       load-source Never
       (λ good run. run-source good Never (Held (length s / 4 - 5))
-      (λ b at rest z k e. absurd (eqb-false (roomFault room (with z .used)) 0 e (held-fits good c b at rest z k)))
-      (held-more good c) run (held-none s))
+      (λ b at rest z k e. absurd (eqb-false (roomFault room (with z .used)) 0 e (held-fits good b at rest z k room c)))
+      (held-more good) run (held-none s))
       (load-is grammar room s)
 
   -- the number is never 25, 26, 27 or 28
@@ -240,3 +243,13 @@ module _ (grammar : List ℕ) (room : Counts) (s : List ℕ) (c : Covers room (e
       by (theLength e f) = rw f
       by {n} (theHeader e f) = below n (omega arith)
       by {n} (instructions z) = below n (run-bound z (omega arith) (λ x. absurd x))
+
+  -- and with a well-formed grammar and a module that is not too long it is 0 to 23
+  pub load-low : wellFormed grammar ≡ true → length s ≤ 67108864 → load grammar room s .said .number ≤ 23
+  load-low g l = by roomy-source
+    where
+      by : {n : ℕ} → Source grammar s Never n → n ≤ 23
+      by (theGrammar e f) = absurd (false≢true (sym e ∙ g))
+      by (theLength e f) = absurd (omega (arith, e, l))
+      by (theHeader e f) = omega arith
+      by (instructions z) = run-bound z (omega arith) (λ x. absurd x)

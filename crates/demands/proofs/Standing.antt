@@ -32,7 +32,7 @@ data Walks : State → List Placed → Type 0 where
   goes : {s t : State} {p : Placed} {ps : List Placed} → leads s (p .tag) t ≡ true → Walks t ps → Walks s (p ∷ ps)
 
 -- the lower of two faults is none where both are
-none-lower : (a b : Option ℕ) → lower a b ≡ none → (a ≡ none) × (b ≡ none)
+pub none-lower : (a b : Option ℕ) → lower a b ≡ none → (a ≡ none) × (b ≡ none)
 none-lower none b e = (refl, e)
 none-lower (some i) none e = absurd (Option·some-ne-none i e)
 none-lower (some i) (some j) e =
@@ -347,13 +347,13 @@ order-stays (p ∷ ps) t label w e f =
     one-stays p ps (x .0) (x .1) (x .2) later (λ v. order-stays ps (after (p .tag)) _ v later (rest-first p ps label f)) label w f
 
 -- a word is four bytes
-words-length : (ws : List ℕ) → length (joined bytesOf ws) ≡ 4 * length ws
+pub words-length : (ws : List ℕ) → length (joined bytesOf ws) ≡ 4 * length ws
 unfolding bytesOf
 words-length [] = refl
 words-length (w ∷ ws) = omega (arith, words-length ws)
 
 -- the instructions of records that pass the check and stand are in module order
-standing-order : (whole : Bool) (x : Given) (is : List Placed) → check whole x ≡ good is → isStanding is ≡ true
+pub standing-order : (whole : Bool) (x : Given) (is : List Placed) → check whole x ≡ good is → isStanding is ≡ true
     → moduleOrder is ≡ is
 unfolding isStanding moduleOrder
 standing-order whole x is c e =

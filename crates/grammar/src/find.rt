@@ -2,7 +2,7 @@
 ghost use mathlib.Core.Path.{_≡_};
 ghost use Prim.Native.Nat.{_+_, _-_, _≤_};
 ghost use lib.ListN.{length, drop};
-ghost use Rattle.spec.specs.Grammar.{items, slotsOf, parametersOf, rises, rowOf, listed, bitsListed, parametersFor, grammarOf};
+ghost use Rattle.spec.specs.Grammar.{items, slotsOf, parametersOf, rowOf, listed, bitsListed, parametersFor, grammarOf};
 ghost use Rattle.spec.specs.Words.{bitsOf};
 ghost use Rattle.grammar.specs.Index.{marksOf, found, Indexed};
 ghost use Rattle.grammar.specs.Find.{placeFound, rowFound, parametersFound, slotsThen, slotBytes, parametersThen, parameterBytes, isListed, bitListed};
@@ -13,6 +13,7 @@ use crate::index::mark_count;
 use crate::items::Item;
 use crate::items::item_at;
 use crate::kinds::is_mask;
+use crate::rules::rises_to;
 use spec::Found;
 
 // An operand of a row: its kind and quantifier; or the end of the row.
@@ -27,13 +28,6 @@ pub enum ParameterAt {
     End,
 }
 
-// "(kind, value) strictly rising"
-fn precedes(j: u8, u: u32, k: u8, v: u32) -> bool
-    ensures { λ r. ⌜ r ≡ rises j u k v ⌝ }
-{
-    (j < k) | ((j == k) & (u < v))
-}
-
 // Searches the rows and enumerants by halves.
 fn search(g: &[u8], index: &[u16], kind: u8, value: u32) -> Found
     requires { ⌜ Indexed (now g) (now index) ⌝ }
@@ -44,10 +38,10 @@ fn search(g: &[u8], index: &[u16], kind: u8, value: u32) -> Found
     while low < high {
         let middle = low + (high - low) / 2;
         let m = mark_at(g, index, middle);
-        if precedes(m.kind, m.value, kind, value) {
+        if rises_to(m.kind, m.value, kind, value) {
             low = middle + 1;
         } else {
-            if precedes(kind, value, m.kind, m.value) {
+            if rises_to(kind, value, m.kind, m.value) {
                 high = middle;
             } else {
                 return Found::At(m.place);

@@ -1,9 +1,8 @@
 // The items of grammar bytes: one byte of kind, then a fixed body, numbers low byte first.
 ghost use mathlib.Core.Path.{_≡_};
-ghost use Prim.Native.Nat.{_+_, _*_, _<_, _≤_};
+ghost use Prim.Native.Nat.{_+_, _*_, _<_};
 ghost use lib.ListN.{length};
 ghost use Rattle.spec.specs.Grammar.{bodyLength};
-ghost use Rattle.spec.specs.Words.{four, fourAt};
 ghost use Rattle.grammar.specs.Items.{itemAt, lengthAt};
 
 // An item: a row (its opcode), an operand (kind, quantifier), an enumerant (kind, value), a parameter (kind); or broken: no item, or one
@@ -21,21 +20,6 @@ fn half(a: u8, b: u8) -> u16
     ensures { λ r. ⌜ r ≡ a + 256 * b ⌝ }
 {
     (a as u16) + 256 * (b as u16)
-}
-
-// The number in four bytes.
-fn word(a: u8, b: u8, c: u8, d: u8) -> u32
-    ensures { λ r. ⌜ r ≡ four a b c d ⌝ }
-{
-    (a as u32) + 256 * (b as u32) + 65536 * (c as u32) + 16777216 * (d as u32)
-}
-
-// The number in the four bytes from a place on.
-fn word_at(g: &[u8], at: usize) -> u32
-    requires { ⌜ at + 4 ≤ length (now g) ⌝ }
-    ensures { λ r. ⌜ r ≡ fourAt at (now (g .entry)) ⌝ }
-{
-    word(g[at], g[at + 1], g[at + 2], g[at + 3])
 }
 
 // How many bytes follow a byte of kind.
@@ -66,7 +50,7 @@ pub fn item_at(g: &[u8], at: usize) -> Item
         return Item::Operand(first, g[from + 1]);
     }
     if b == 3 {
-        return Item::Enumerant(first, word_at(g, from + 1));
+        return Item::Enumerant(first, decoder::word_at(g, from + 1));
     }
     if b == 4 {
         return Item::Parameter(first);

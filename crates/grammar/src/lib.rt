@@ -18,5 +18,8 @@ pub use index::fill_index;
 pub use items::Item;
 pub use items::item_at;
 pub use items::item_length;
+pub use kinds::is_enum;
+pub use kinds::is_mask;
+pub use kinds::is_result;
 pub use read::enumerant;
 pub use rules::well_formed;

@@ -106,7 +106,7 @@ fn enumerant_rule(k: u8, v: u32) -> bool
 }
 
 // "(kind, value) strictly rising"
-fn rises_to(j: u8, u: u32, k: u8, v: u32) -> bool
+pub fn rises_to(j: u8, u: u32, k: u8, v: u32) -> bool
     ensures { λ r. ⌜ r ≡ rises j u k v ⌝ }
 {
     (j < k) | ((j == k) & (u < v))

@@ -1,5 +1,5 @@
 -- The laws of opcode kinds and of the layout table.
-use Prim.Native.Nat.{ℕ, zero, suc, _+_, _-_, _<_, _≤_}
+use Prim.Native.Nat.{ℕ, zero, suc, _+_, _*_, _-_, _<_, _≤_}
 use mathlib.Core.Path.{_≡_, refl, ap, sym, _∙_}
 use mathlib.Core.Bool.{Bool, true, false}
 use mathlib.Core.List.{List, [], _∷_}
@@ -12,8 +12,9 @@ use Rattle.spec.specs.Base.{if_then_else_, isIn, every}
 use Rattle.spec.specs.declared.State.{State}
 use Rattle.spec.specs.declared.State.the-variants.{Outside, Function, Block}
 use Rattle.spec.specs.declared.Cell.{Cell}
+use Rattle.spec.specs.declared.Cell.the-variants.{Tagged, Refuses}
 use Rattle.spec.specs.Layout.{opcodesByKind, opcodeKind, kindFrom, layoutAt, layoutOf}
-use Rattle.reflect.specs.Column.{columnOf}
+use Rattle.reflect.specs.Column.{columnOf, codeOf, lineOf, linesFrom, layoutTable}
 use Rattle.reflect.proofs.Arms.{NoneOf, pass, passed, clear, absent}
 
 -- OPCODE KINDS
@@ -63,15 +64,6 @@ kind-given opcode kind e = rw e (kind-within opcode)
 
 -- THE TABLE
 
--- the cells of a kind, in the order of the columns
-abbrev pub lineOf : ℕ → List Cell
-lineOf kind = layoutAt kind Outside ∷ layoutAt kind Function ∷ layoutAt kind Block ∷ []
-
--- the lines of n kinds, from kind a on
-abbrev pub linesFrom : ℕ → ℕ → List (List Cell)
-linesFrom a zero = []
-linesFrom a (suc n) = lineOf a ∷ linesFrom (suc a) n
-
 -- each of them is the line of its kind
 line-at : (n a i : ℕ) → i < n → getD (linesFrom a n) i [] ≡ lineOf (a + i)
 line-at zero a i h = absurd (omega arith)
@@ -79,18 +71,50 @@ line-at (suc n) a zero h = ap lineOf (sym (add-zero a))
 line-at (suc n) a (suc i) h = line-at n (suc a) i (omega arith) ∙ ap lineOf (suc-add a i ∙ sym (add-suc a i))
 
 -- and has in each column the cell of its state
-cell-at : (d : Cell) (kind : ℕ) (s : State) → getD (lineOf kind) (columnOf s) d ≡ layoutAt kind s
-cell-at d kind Outside = refl
-cell-at d kind Function = refl
-cell-at d kind Block = refl
+cell-at : (kind : ℕ) (s : State) → getD (lineOf kind) (columnOf s) 0 ≡ codeOf (layoutAt kind s)
+cell-at kind Outside = refl
+cell-at kind Function = refl
+cell-at kind Block = refl
 
--- the nineteen lines have every cell of the layout
-pub cell-is : (d : Cell) (kind c : ℕ) (s : State) → (1 ≤ kind) × (kind ≤ 19) → c ≡ columnOf s → getD (getD (linesFrom 1 19) (kind - 1) []) c d ≡ layoutAt kind s
-cell-is d kind c s h e =
+-- the table has every cell of the layout
+cell-is : (kind c : ℕ) (s : State) → (1 ≤ kind) × (kind ≤ 19) → c ≡ columnOf s → getD (getD layoutTable (kind - 1) []) c 0 ≡ codeOf (layoutAt kind s)
+unfolding layoutTable
+cell-is kind c s h e =
     let k : 1 + (kind - 1) ≡ kind = omega arith in
-    rw e (ap (λ (l : List Cell). getD l (columnOf s) d) (line-at 19 1 (kind - 1) (omega arith) ∙ ap lineOf k) ∙ cell-at d kind s)
+    rw e (ap (λ (l : List ℕ). getD l (columnOf s) 0) (line-at 19 1 (kind - 1) (omega arith) ∙ ap lineOf k) ∙ cell-at kind s)
 
--- what the table says of an opcode's kind it says of the opcode
-pub place-is : (opcode kind : ℕ) (s : State) (r : Cell) → r ≡ layoutAt kind s → kind ≡ opcodeKind opcode → r ≡ layoutOf opcode s
+-- the columns are three
+column-low : (s : State) → columnOf s < 3
+column-low Outside = omega arith
+column-low Function = omega arith
+column-low Block = omega arith
+
+-- states of one column are one
+column-tells : (a b : State) → columnOf a ≡ columnOf b → a ≡ b
+column-tells Outside Outside e = refl
+column-tells Outside Function e = absurd (omega arith)
+column-tells Outside Block e = absurd (omega arith)
+column-tells Function Outside e = absurd (omega arith)
+column-tells Function Function e = refl
+column-tells Function Block e = absurd (omega arith)
+column-tells Block Outside e = absurd (omega arith)
+column-tells Block Function e = absurd (omega arith)
+column-tells Block Block e = refl
+
+-- cells of one number are one
+code-tells : (a b : Cell) → codeOf a ≡ codeOf b → a ≡ b
+unfolding codeOf
+code-tells (Tagged t s) (Tagged u r) e =
+    let x : t ≡ u = omega (arith, column-low s, column-low r) in
+    let y = column-tells s r (omega (arith, column-low s, column-low r)) in
+    cc
+code-tells (Tagged t s) (Refuses n) e = absurd (omega (arith, column-low s))
+code-tells (Refuses n) (Tagged u r) e = absurd (omega (arith, column-low r))
+code-tells (Refuses n) (Refuses m) e = let x : n ≡ m = omega arith in cc
+
+-- so what a lent table has at an opcode's line and a state's column is what the layout says
+pub place-is : (t : List (List ℕ)) (opcode kind c code : ℕ) (s : State) (r : Cell) → t ≡ layoutTable → kind ≡ opcodeKind opcode → c ≡ columnOf s
+    → code ≡ getD (getD t (kind - 1) []) c 0 → codeOf r ≡ code → r ≡ layoutOf opcode s
 unfolding layoutOf
-place-is opcode kind s r e f = e ∙ ap (λ (k : ℕ). layoutAt k s) f
+place-is t opcode kind c code s r e f g h i =
+    code-tells r (layoutAt (opcodeKind opcode) s) (i ∙ h ∙ (rw e (cell-is kind c s (kind-given opcode kind f) g ∙ ap (λ (k : ℕ). codeOf (layoutAt k s)) f)))

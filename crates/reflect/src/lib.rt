@@ -1,38 +1,45 @@
 // Opcode kinds, as reflect.rs and loader.rs tell them, and the layout: where an instruction goes, or why it is refused.
 ghost use mathlib.Core.Path.{_≡_};
 ghost use Prim.Native.Nat.{_≤_, _<_};
-ghost use Rattle.reflect.specs.Column.{columnOf};
-ghost use Rattle.spec.specs.Layout.{opcodeKind, isType, layoutAt, layoutOf};
+ghost use Rattle.reflect.specs.Column.{codeOf, columnOf, layoutTable};
+ghost use Rattle.spec.specs.Layout.{opcodeKind, isType, layoutOf};
 use spec::Cell;
-use spec::Cell::Refuses;
-use spec::Cell::Tagged;
 use spec::State;
 use spec::State::Block;
 use spec::State::Function;
 use spec::State::Outside;
 
+// The cells of the layout table are numbers: four times a tag and the state after it, or four times the number of a refusal and REFUSED.
+const OUTSIDE: u8 = 0;
+
+const FUNCTION: u8 = 1;
+
+const BLOCK: u8 = 2;
+
+const REFUSED: u8 = 3;
+
 // "A fixed table of nineteen kinds against three states": outside, in a function, in a block.
-// It is built anew wherever it is indexed: a loop copies it once (`let table = reflect::LAYOUT;`) and indexes the copy.
-pub const LAYOUT: [[Cell; 3]; 19] = [
-    [Tagged(1, Outside), Tagged(1, Function), Tagged(1, Block)], // 1 Capability
-    [Tagged(2, Outside), Tagged(2, Function), Tagged(2, Block)], // 2 Extension
-    [Tagged(3, Outside), Tagged(3, Function), Tagged(3, Block)], // 3 ExtInstImport
-    [Tagged(4, Outside), Tagged(4, Function), Tagged(4, Block)], // 4 MemoryModel
-    [Tagged(5, Outside), Tagged(5, Function), Tagged(5, Block)], // 5 EntryPoint
-    [Tagged(6, Outside), Tagged(6, Function), Tagged(6, Block)], // 6 ExecutionMode
-    [Tagged(7, Outside), Tagged(7, Function), Tagged(7, Block)], // 7 String, Source, SourceExtension, SourceContinued
-    [Tagged(8, Outside), Tagged(8, Function), Tagged(8, Block)], // 8 Name, MemberName
-    [Tagged(9, Outside), Tagged(9, Function), Tagged(9, Block)], // 9 ModuleProcessed
-    [Tagged(10, Outside), Tagged(10, Function), Tagged(10, Block)], // 10 annotations
-    [Tagged(11, Outside), Tagged(11, Function), Tagged(11, Block)], // 11 types and constants
-    [Tagged(11, Outside), Tagged(11, Function), Tagged(15, Block)], // 12 Line, NoLine
-    [Tagged(11, Outside), Refuses(23), Tagged(15, Block)], // 13 Variable, Undef
-    [Tagged(12, Function), Refuses(15), Refuses(15)], // 14 Function
-    [Refuses(18), Tagged(13, Function), Tagged(13, Block)], // 15 FunctionParameter
-    [Refuses(19), Tagged(14, Block), Refuses(20)], // 16 Label
-    [Refuses(22), Refuses(22), Tagged(15, Function)], // 17 terminators
-    [Refuses(17), Tagged(16, Outside), Refuses(21)], // 18 FunctionEnd
-    [Refuses(23), Refuses(23), Tagged(15, Block)], // 19 other
+// A constant is built anew wherever it is named: `table` names it once, and whoever looks up is lent what that gave.
+const LAYOUT: [[u8; 3]; 19] = [
+    [4 * 1 + OUTSIDE, 4 * 1 + FUNCTION, 4 * 1 + BLOCK], // 1 Capability
+    [4 * 2 + OUTSIDE, 4 * 2 + FUNCTION, 4 * 2 + BLOCK], // 2 Extension
+    [4 * 3 + OUTSIDE, 4 * 3 + FUNCTION, 4 * 3 + BLOCK], // 3 ExtInstImport
+    [4 * 4 + OUTSIDE, 4 * 4 + FUNCTION, 4 * 4 + BLOCK], // 4 MemoryModel
+    [4 * 5 + OUTSIDE, 4 * 5 + FUNCTION, 4 * 5 + BLOCK], // 5 EntryPoint
+    [4 * 6 + OUTSIDE, 4 * 6 + FUNCTION, 4 * 6 + BLOCK], // 6 ExecutionMode
+    [4 * 7 + OUTSIDE, 4 * 7 + FUNCTION, 4 * 7 + BLOCK], // 7 String, Source, SourceExtension, SourceContinued
+    [4 * 8 + OUTSIDE, 4 * 8 + FUNCTION, 4 * 8 + BLOCK], // 8 Name, MemberName
+    [4 * 9 + OUTSIDE, 4 * 9 + FUNCTION, 4 * 9 + BLOCK], // 9 ModuleProcessed
+    [4 * 10 + OUTSIDE, 4 * 10 + FUNCTION, 4 * 10 + BLOCK], // 10 annotations
+    [4 * 11 + OUTSIDE, 4 * 11 + FUNCTION, 4 * 11 + BLOCK], // 11 types and constants
+    [4 * 11 + OUTSIDE, 4 * 11 + FUNCTION, 4 * 15 + BLOCK], // 12 Line, NoLine
+    [4 * 11 + OUTSIDE, 4 * 23 + REFUSED, 4 * 15 + BLOCK], // 13 Variable, Undef
+    [4 * 12 + FUNCTION, 4 * 15 + REFUSED, 4 * 15 + REFUSED], // 14 Function
+    [4 * 18 + REFUSED, 4 * 13 + FUNCTION, 4 * 13 + BLOCK], // 15 FunctionParameter
+    [4 * 19 + REFUSED, 4 * 14 + BLOCK, 4 * 20 + REFUSED], // 16 Label
+    [4 * 22 + REFUSED, 4 * 22 + REFUSED, 4 * 15 + FUNCTION], // 17 terminators
+    [4 * 17 + REFUSED, 4 * 16 + OUTSIDE, 4 * 21 + REFUSED], // 18 FunctionEnd
+    [4 * 23 + REFUSED, 4 * 23 + REFUSED, 4 * 15 + BLOCK], // 19 other
 ];
 
 // The kind of an opcode, 1 to 19: the number of its line in the layout table.
@@ -73,7 +80,7 @@ pub fn is_type(opcode: u16) -> bool
 }
 
 // The column of a state in the layout table.
-pub fn column(s: State) -> usize
+fn column(s: State) -> usize
     ensures { λ r. ⌜ (r ≡ columnOf s) × (r < 3) ⌝ }
 {
     match s {
@@ -83,19 +90,32 @@ pub fn column(s: State) -> usize
     }
 }
 
-// What the table says of a kind in a state.
-pub fn layout(kind: u8, s: State) -> Cell
-    requires { ⌜ (1 ≤ kind) × (kind ≤ 19) ⌝ }
-    ensures { λ r. ⌜ r ≡ layoutAt kind s ⌝ }
+// The layout table, to be lent to `place`.
+pub fn table() -> [[u8; 3]; 19]
+    ensures { λ r. ⌜ r ≡ layoutTable ⌝ }
 {
-    let line = (kind - 1) as usize;
-    let c = column(s);
-    LAYOUT[line][c]
+    LAYOUT
+}
+
+// What the number of a cell says.
+fn cell(code: u8) -> Cell
+    ensures { λ r. ⌜ codeOf r ≡ code ⌝ }
+{
+    let value = code / 4;
+    match code % 4 {
+        0 => Cell::Tagged(value, Outside),
+        1 => Cell::Tagged(value, Function),
+        2 => Cell::Tagged(value, Block),
+        _ => Cell::Refuses(value),
+    }
 }
 
 // What the table says of an opcode in a state: the tag and the state after it, or the number of a refusal.
-pub fn place(opcode: u16, s: State) -> Cell
+pub fn place(table: &[[u8; 3]; 19], opcode: u16, s: State) -> Cell
+    requires { ⌜ now table ≡ layoutTable ⌝ }
     ensures { λ r. ⌜ r ≡ layoutOf opcode s ⌝ }
 {
-    layout(opcode_kind(opcode), s)
+    let line = (opcode_kind(opcode) - 1) as usize;
+    let c = column(s);
+    cell(table[line][c])
 }

@@ -30,8 +30,8 @@ add-middle c = omega (arith, c .before .loop .inv .most, c .before .before .befo
 mark-at-requires : tie.Need-mark-at-requires Inv-loop μ-loop
 mark-at-requires c κs = (c .before .before .before .before .before .pre, omega (arith, c .before .loop .inv .most))
 
-precedes-requires : tie.Need-precedes-requires Inv-loop μ-loop
-precedes-requires c κs = search needs
+rises-to-requires : tie.Need-rises-to-requires Inv-loop μ-loop
+rises-to-requires c κs = search needs
 
 add-low : tie.Need-add-low Inv-loop μ-loop
 add-low c = omega (arith, c .before .before .before .before .loop .inv .most, c .before .before .before .before .before .before .before .before .pre .room)
@@ -40,19 +40,19 @@ loop-less : tie.Need-loop-less Inv-loop μ-loop
 loop-less c = omega arith
 
 loop-again : tie.Need-loop-again Inv-loop μ-loop
-loop-again c = search-up _ _ _ _ (c .before .before .before .before .before .before .before .before .pre) _ _ (c .before .before .mark-at .ensures) _ _ (c .before .before .before .before .loop .inv) (omega arith) _ (c .before .precedes .ensures) (c .if1 .taken)
+loop-again c = search-up _ _ _ _ (c .before .before .before .before .before .before .before .before .pre) _ _ (c .before .before .mark-at .ensures) _ _ (c .before .before .before .before .loop .inv) (omega arith) _ (c .before .rises-to .ensures) (c .if1 .taken)
 
-precedes-requires-2 : tie.Need-precedes-requires-2 Inv-loop μ-loop
-precedes-requires-2 c κs = search needs
+rises-to-requires-2 : tie.Need-rises-to-requires-2 Inv-loop μ-loop
+rises-to-requires-2 c κs = search needs
 
 loop-less-2 : tie.Need-loop-less-2 Inv-loop μ-loop
 loop-less-2 c = omega arith
 
 loop-again-2 : tie.Need-loop-again-2 Inv-loop μ-loop
-loop-again-2 c = search-down _ _ _ _ (c .before .before .before .before .before .before .before .before .before .before .pre) _ _ (c .before .before .before .before .mark-at .ensures) _ _ (c .before .before .before .before .before .before .loop .inv) (omega arith) _ (c .before .precedes2 .ensures) (c .if2 .taken)
+loop-again-2 c = search-down _ _ _ _ (c .before .before .before .before .before .before .before .before .before .before .pre) _ _ (c .before .before .before .before .mark-at .ensures) _ _ (c .before .before .before .before .before .before .loop .inv) (omega arith) _ (c .before .rises-to2 .ensures) (c .if2 .taken)
 
 returns : tie.Need-returns Inv-loop μ-loop
-returns c = search-hit _ _ _ _ (c .before .before .before .before .before .before .before .before .before .before .pre) _ _ (c .before .before .before .before .mark-at .ensures) _ _ (c .before .before .before .before .before .before .loop .inv) (omega arith) _ _ (c .before .before .before .precedes .ensures) (c .before .precedes2 .ensures) (c .before .before .if1 .left) (c .if2 .left)
+returns c = search-hit _ _ _ _ (c .before .before .before .before .before .before .before .before .before .before .pre) _ _ (c .before .before .before .before .mark-at .ensures) _ _ (c .before .before .before .before .before .before .loop .inv) (omega arith) _ _ (c .before .before .before .rises-to .ensures) (c .before .rises-to2 .ensures) (c .before .before .if1 .left) (c .if2 .left)
 
 returns-2 : tie.Need-returns-2 Inv-loop μ-loop
 returns-2 c = sym (halving-end _ _ _ _ _ (c .before .loop .inv) (c .loop-test .left))
@@ -68,11 +68,11 @@ search-spec =
     sub-middle
     add-middle
     mark-at-requires
-    precedes-requires
+    rises-to-requires
     add-low
     loop-less
     loop-again
-    precedes-requires-2
+    rises-to-requires-2
     loop-less-2
     loop-again-2
     returns

@@ -1,0 +1,539 @@
+//! The inputs: systematic ones once, random ones in rounds. All of them follow from the seed, whatever the number of threads.
+
+use crate::judge::Judge;
+use compare::cases::{self, Input};
+use compare::grow::*;
+use compare::reading::*;
+use std::sync::Arc;
+
+/// A part of the work, done by one thread.
+pub type Job<'a> = Box<dyn Fn(&mut Judge) + Send + Sync + 'a>;
+
+/// Everything that is listed rather than drawn.
+pub fn systematic<'a>(builtin: &'a Grammar, shaders: &'a [Vec<u8>], seed: u64) -> Vec<Job<'a>> {
+    let mut jobs: Vec<Job> = vec![];
+    jobs.push(Box::new(huge));
+    jobs.push(Box::new(|judge| cases::fittings().iter().for_each(|m| judge.module("fittings", m))));
+    let cases = Arc::new(cases::all(builtin));
+    for part in 0..16 {
+        let cases = cases.clone();
+        jobs.push(Box::new(move |judge| cases.iter().skip(part).step_by(16).for_each(|case| named(judge, &case.input))));
+    }
+    for part in 0..builtin.rows.len().div_ceil(16) {
+        jobs.push(Box::new(move |judge| rows(judge, builtin, part * 16, seed)));
+    }
+    let wishes = wishes(builtin);
+    for part in 0..wishes.len().div_ceil(64) {
+        let some: Vec<(u8, u32)> = wishes.iter().skip(64 * part).take(64).copied().collect();
+        jobs.push(Box::new(move |judge| wished(judge, builtin, &some, mix(seed, part as u64))));
+    }
+    for kind in (1..=30).chain(41..=45) {
+        jobs.push(Box::new(move |judge| enumerant_calls(judge, builtin, kind)));
+    }
+    for width in (0..=130).chain([255, 256, 0x4000_0000, u32::MAX]) {
+        jobs.push(Box::new(move |judge| widths(judge, width)));
+    }
+    for length in 0..18 {
+        jobs.push(Box::new(move |judge| strings(judge, length)));
+    }
+    for (n, shader) in shaders.iter().enumerate() {
+        jobs.push(Box::new(move |judge| whole_shader(judge, shader, mix(seed, 1000 + n as u64))));
+    }
+    jobs
+}
+
+/// A seed from two numbers.
+pub fn mix(a: u64, b: u64) -> u64 {
+    Rng(a.wrapping_mul(0xD134_2543_DE82_EF95) ^ b).next()
+}
+
+/// 31, and modules of exactly the most bytes.
+fn huge(judge: &mut Judge) {
+    let mut m = vec![0; MOST_MODULE_BYTES + 1];
+    judge.load("huge", &m, None, [64; 4]);
+    judge.load("huge", &m, Some(&[5]), [64; 4]);
+    judge.load("huge", &m, Some(&[]), [64; 4]);
+    m[..20].copy_from_slice(&module(&[]));
+    judge.load("huge", &m, None, [64; 4]);
+    m.pop();
+    judge.load("huge", &m, None, [64; 4]);
+    m[20..24].copy_from_slice(&0x0001_013Du32.to_le_bytes());
+    judge.load("huge", &m, None, [64; 4]);
+}
+
+fn named(judge: &mut Judge, input: &Input) {
+    match input {
+        Input::Load { module, grammar: None, rooms } if *rooms == enough(module) => judge.module("named modules", module),
+        Input::Load { module, grammar, rooms } => {
+            judge.load("named grammars and rooms", module, grammar.as_deref(), *rooms);
+        }
+        Input::Records { header, stores, output } => judge.records("named records", *header, stores, *output),
+    }
+}
+
+/// The state after a row in a state, where the layout lets it.
+fn after(opcode: u16, state: State) -> State {
+    layout(layout_kind(opcode), state).map_or(state, |(_, next)| next)
+}
+
+/// Sixteen rows: each at every word count in every layout state, and cut at every byte.
+fn rows(judge: &mut Judge, builtin: &Grammar, from: usize, seed: u64) {
+    let mut grower = Grower::new(builtin, mix(seed, from as u64));
+    for row in builtin.rows.iter().skip(from).take(16) {
+        for (state, _) in STATES {
+            let before = opening(state);
+            for fill in [Fill::Full, Fill::Random] {
+                grower.start();
+                let mut words = grower.instruction(row, fill, None);
+                let full = words.len();
+                words.extend([1, 2]);
+                for count in 0..=words.len() {
+                    let mut cut = words[..count.max(1)].to_vec();
+                    cut[0] = (count as u32) << 16 | u32::from(row.opcode);
+                    judge.module("rows at every word count", &module(&[&before[..], &cut, &closing(after(row.opcode, state))].concat()));
+                    // the row at the module's end, whole and a word short
+                    if fill == Fill::Full && (count == full || count < 3) {
+                        judge.module("rows at every word count", &module(&[&before[..], &cut].concat()));
+                        judge.module("rows at every word count", &module(&[&before[..], &cut[..cut.len() - 1]].concat()));
+                    }
+                }
+                if fill == Fill::Full {
+                    let whole = module(&[&before[..], &words[..full]].concat());
+                    for length in whole.len() - 4 * full..whole.len() {
+                        judge.module("rows cut at every byte", &whole[..length]);
+                    }
+                }
+            }
+        }
+    }
+}
+
+/// Values wished for in a row of their kind: every enumerant, its neighbours, every bit and pairs of bits of masks, small and
+/// large numbers; embedded opcodes: every row, its neighbours, numbers that are no row, high bits.
+fn wishes(grammar: &Grammar) -> Vec<(u8, u32)> {
+    let mut all: Vec<(u8, u32)> = vec![];
+    for e in &grammar.enumerants {
+        all.extend([(e.kind, e.value), (e.kind, e.value.wrapping_sub(1)), (e.kind, e.value.wrapping_add(1))]);
+    }
+    for kind in (1..=30).chain(41..=45) {
+        match is_mask(kind) {
+            true => all.extend((0..32).flat_map(|n| [(kind, 1 << n), (kind, 1 << n | 1), (kind, 1 << n | 2)])),
+            false => all.extend((0..100).chain([u32::MAX, 1 << 31, 1 << 16]).map(|value| (kind, value))),
+        }
+    }
+    for row in &grammar.rows {
+        let opcode = u32::from(row.opcode);
+        all.extend([(39, opcode), (39, opcode + 1), (39, opcode.wrapping_sub(1)), (39, opcode | 0x8000_0000)]);
+    }
+    all.extend((0..0x3_0000).step_by(0x153).map(|number| (39, number)));
+    all.sort();
+    all.dedup();
+    all
+}
+
+/// Each wish in the first row that has its kind, at every word count and a word short.
+fn wished(judge: &mut Judge, builtin: &Grammar, wishes: &[(u8, u32)], seed: u64) {
+    let mut grower = Grower::new(builtin, seed);
+    for &(kind, value) in wishes {
+        let Some(row) = builtin.rows.iter().find(|r| r.operands.iter().any(|o| o.0 == kind)) else { continue };
+        let group = if kind == 39 { "embedded opcodes" } else { "enumerants" };
+        grower.start();
+        let mut words = grower.instruction(row, Fill::Full, Some((kind, value)));
+        words.push(3);
+        let state = if layout(layout_kind(row.opcode), State::Outside).is_ok() { State::Outside } else { State::Block };
+        for count in 1..=words.len() {
+            let mut cut = words[..count].to_vec();
+            cut[0] = (count as u32) << 16 | u32::from(row.opcode);
+            judge.module(group, &module(&[&opening(state)[..], &cut, &closing(after(row.opcode, state))].concat()));
+            if count + 2 >= words.len() {
+                judge.module(group, &module(&[&opening(state)[..], &cut[..cut.len() - 1]].concat()));
+            }
+        }
+    }
+}
+
+/// One kind's values by the crate's decoder call and, in the library, as the operand of a row of its own.
+fn enumerant_calls(judge: &mut Judge, builtin: &Grammar, kind: u8) {
+    let of_kind: Vec<&Enumerant> = builtin.enumerants.iter().filter(|e| e.kind == kind).collect();
+    let needed: Vec<u8> = of_kind.iter().flat_map(|e| e.parameters.iter().copied()).chain([kind]).collect();
+    let row = [(kind, ONE)];
+    let rows: [(u16, &[(u8, u8)]); 5] = [(54, &[]), (56, &[]), (248, &[]), (253, &[]), (0xF000, &row)];
+    let enumerants: Vec<(u8, u32, &[u8])> =
+        builtin.enumerants.iter().filter(|e| needed.contains(&e.kind)).map(|e| (e.kind, e.value, &e.parameters[..])).collect();
+    let grammar = grammar_bytes(&rows, &enumerants);
+    let mut values: Vec<u32> = of_kind.iter().flat_map(|e| [e.value, e.value.wrapping_sub(1), e.value.wrapping_add(1)]).collect();
+    values.extend((0..32).flat_map(|n| [1u32 << n, (1 << n) - 1, 1 << n | 1, !(1 << n)]));
+    values.extend([0, u32::MAX, 4428, 7000]);
+    values.sort();
+    values.dedup();
+    for value in values {
+        let mut parameters = vec![value];
+        if judge.builtin.knows(kind, value) {
+            for parameter in judge.builtin.parameters(kind, value) {
+                parameters.push(if parameter == 40 {
+                    0x6261
+                } else {
+                    judge.builtin.enumerants.iter().find(|e| e.kind == parameter).map_or(1, |e| e.value)
+                });
+            }
+        }
+        let m = module(&[inst(54, &[]), inst(248, &[]), inst(0xF000, &parameters), inst(253, &[]), inst(56, &[])].concat());
+        judge.enumerant("enumerants by the decoder's call", &grammar, &m, 32, kind, value);
+    }
+}
+
+/// A type of this width with constants and switches of one and two words, ids defined twice.
+fn widths(judge: &mut Judge, width: u32) {
+    let define = |float: bool, id: u32, width: u32, sign: u32| if float { inst(22, &[id, width]) } else { inst(21, &[id, width, sign]) };
+    let mut put = |parts: &[&[u32]]| judge.module("literals at every width", &module(&parts.concat()));
+    for float in [false, true] {
+        for long in 0..4u32 {
+            let literal: Vec<u32> = (0..long).map(|n| 7 + n).collect();
+            let constant = |opcode| inst(opcode, &[&[2, 3][..], &literal].concat());
+            put(&[&define(float, 2, width, long), &constant(43)]);
+            put(&[&define(float, 2, width, 1), &constant(50)]);
+            let pair = [&literal[..], &[6]].concat();
+            let switches = [inst(251, &[&[4, 5][..], &pair, &pair].concat()), inst(251, &[&[4, 5][..], &pair].concat())];
+            let value = inst(1, &[2, 4]);
+            for switch in switches {
+                let body = [&opening(State::Block)[..], &switch, &inst(56, &[])].concat();
+                put(&[&define(float, 2, width, 0), &value, &body]);
+                put(&[&define(float, 2, width, 0), &define(!float, 2, 64, 0), &value, &inst(19, &[4]), &body]);
+                put(&[&define(float, 2, 64, 0), &value, &define(float, 2, width, 0), &inst(46, &[2, 4]), &body]);
+            }
+        }
+    }
+}
+
+/// Sequences that are not well-formed UTF-8, one of each kind: stray, overlong, surrogate, too large, cut.
+const ILL_FORMED: [&[u8]; 20] = [
+    &[0x80],
+    &[0xBF],
+    &[0xC0, 0x80],
+    &[0xC1, 0xBF],
+    &[0xC2],
+    &[0xC2, 0x41],
+    &[0xE0, 0x9F, 0xBF],
+    &[0xE0, 0xA0],
+    &[0xE1, 0x80, 0xC0],
+    &[0xED, 0xA0, 0x80],
+    &[0xED, 0xBF, 0xBF],
+    &[0xEF, 0x7F, 0x80],
+    &[0xF0, 0x8F, 0xBF, 0xBF],
+    &[0xF0, 0x90, 0x80],
+    &[0xF1, 0x80, 0x80, 0x41],
+    &[0xF4, 0x90, 0x80, 0x80],
+    &[0xF5, 0x80, 0x80, 0x80],
+    &[0xF8, 0x88, 0x80, 0x80],
+    &[0xFE],
+    &[0xFF],
+];
+
+/// A string of this length in OpString and OpEntryPoint: every byte after its zero, every word count, every cut; in its middle
+/// what is not UTF-8.
+fn strings(judge: &mut Judge, length: usize) {
+    let group = "strings";
+    let text_of = |bytes: &[u8]| [bytes, &vec![0; 4 * (bytes.len() / 4 + 1) - bytes.len()]].concat();
+    let string_of = |bytes: &[u8], words: u32| [module(&[(2 + words) << 16 | 7, 1]), text_of(bytes)].concat();
+    let words = (length / 4 + 1) as u32;
+    let letters: Vec<u8> = (0..length).map(|n| b'a' + n as u8).collect();
+    let whole = string_of(&letters, words);
+    for claimed in 0..words + 4 {
+        judge.module(group, &string_of(&letters, claimed));
+        judge.module(group, &[string_of(&letters, claimed), module(&[])[..12].to_vec()].concat());
+    }
+    for cut in 20..whole.len() {
+        judge.module(group, &whole[..cut]);
+    }
+    for at in 28 + length + 1..whole.len() {
+        for byte in [1, 0x41, 0x80, 0xFF] {
+            let mut padded = whole.clone();
+            padded[at] = byte;
+            judge.module(group, &padded);
+        }
+    }
+    for bad in ILL_FORMED {
+        for at in 0..=length {
+            let mut text = letters.clone();
+            text.splice(at..at, bad.iter().copied());
+            judge.module(group, &string_of(&text, (text.len() / 4 + 1) as u32));
+            // the bad bytes last before the zero, and the zero missing
+            judge.module(group, &string_of(&text, (text.len() / 4) as u32));
+        }
+    }
+    for first in 0..=255u8 {
+        let mut text = letters.clone();
+        text.push(first);
+        text.extend([0x80, 0x80, 0x80].iter().take(length % 4));
+        judge.module(group, &string_of(&text, (text.len() / 4 + 1) as u32));
+    }
+    let entry = [&[0, 1][..], &text(&letters), &[5, 6]].concat();
+    judge.module(group, &module(&inst(15, &entry)));
+    judge.module(group, &module(&[inst(15, &entry), inst(5, &[&[1][..], &text(&letters)].concat()), inst(5, &[2, 0])].concat()));
+}
+
+/// A real shader as it is, cut at some bytes, in every store a word or byte short of what it needs.
+fn whole_shader(judge: &mut Judge, shader: &[u8], seed: u64) {
+    judge.module("shaders", shader);
+    let mut rng = Rng(seed);
+    for _ in 0..40 {
+        let cut = rng.below(shader.len() + 1);
+        judge.module("shaders", &shader[..cut]);
+    }
+    let load = load_with(shader, judge.builtin, enough(shader));
+    let [records, log, strings, types] = load.counts();
+    let need = [8 * records, log, strings, 3 * types];
+    judge.load("shaders, tight rooms", shader, None, need);
+    for store in 0..4 {
+        let mut rooms = need;
+        rooms[store] = rooms[store].saturating_sub(1);
+        judge.load("shaders, tight rooms", shader, None, rooms);
+    }
+}
+
+// --------------------------------------------------------------------------------- Random rounds
+
+/// One round of random inputs, some 330 of them.
+pub fn round(judge: &mut Judge, builtin: &Grammar, shaders: &[Vec<u8>], seed: u64) {
+    let mut grower = Grower::new(builtin, seed);
+    let mut grown: Vec<Vec<u8>> = vec![];
+    for n in 0..60 {
+        let steps = 1 + grower.rng.below(if n % 10 == 0 { 60 } else { 14 });
+        let m = grower.module(steps, n % 3 == 0);
+        judge.module("random modules", &m);
+        grown.push(m);
+    }
+    for m in &grown {
+        let damaged = grower.damage(m);
+        judge.module("damaged modules", &damaged);
+    }
+    for m in grown.iter().take(30) {
+        let cut = grower.rng.below(m.len() + 1);
+        judge.module("cut modules", &m[..cut]);
+    }
+    for m in grown.iter().take(30) {
+        let other = grower.rng.below(grown.len());
+        let spliced = splice(&mut grower.rng, m, &grown[other]);
+        judge.module("spliced modules", &spliced);
+    }
+    for _ in 0..if shaders.is_empty() { 0 } else { 12 } {
+        let one = grower.rng.below(shaders.len());
+        let other = grower.rng.below(shaders.len());
+        let m = match grower.rng.below(4) {
+            0 => {
+                let cut = grower.rng.below(shaders[one].len() + 1);
+                shaders[one][..cut].to_vec()
+            }
+            1 => splice(&mut grower.rng, &shaders[one], &shaders[other]),
+            _ => grower.damage(&shaders[one]),
+        };
+        judge.module("shaders, damaged", &m);
+    }
+    for m in grown.iter().take(30) {
+        let rooms = random_rooms(&mut grower.rng, &load_with(m, builtin, enough(m)));
+        judge.load("random rooms", m, None, rooms);
+    }
+    random_strings(judge, &mut grower.rng);
+    random_grammars(judge, &mut grower.rng);
+    for m in grown.iter().take(30) {
+        random_records(judge, &mut grower.rng, m);
+    }
+}
+
+/// Rooms near what the load needs, some of them short.
+fn random_rooms(rng: &mut Rng, load: &Load) -> [usize; 4] {
+    let [records, log, strings, types] = load.counts();
+    [8 * records, log, strings, 3 * types].map(|n| if rng.chance(60) { n + rng.below(3) } else { rng.below(n + 2) })
+}
+
+/// The head of one module up to an instruction, the tail of another from one; or an instruction of the other put in.
+fn splice(rng: &mut Rng, one: &[u8], other: &[u8]) -> Vec<u8> {
+    let boundary = |rng: &mut Rng, m: &[u8]| {
+        let all: Vec<usize> = starts(m).into_iter().filter(|at| *at <= m.len()).collect();
+        if all.is_empty() {
+            m.len()
+        } else {
+            rng.pick(&all)
+        }
+    };
+    let (at, from) = (boundary(rng, one), boundary(rng, other));
+    let end = match rng.below(2) {
+        0 => other.len(),
+        _ => starts(other).into_iter().find(|s| *s > from).unwrap_or(other.len()).min(other.len()),
+    };
+    let tail: &[u8] = if end < other.len() || rng.chance(20) { &one[at..] } else { &[] };
+    [&one[..at], &other[from.min(end)..end], tail].concat()
+}
+
+/// Strings of bytes at the edges of Unicode's table.
+fn random_strings(judge: &mut Judge, rng: &mut Rng) {
+    const EDGES: [u8; 32] = [
+        0x00, 0x01, 0x41, 0x7F, 0x80, 0x8F, 0x90, 0x9F, 0xA0, 0xBF, 0xC0, 0xC1, 0xC2, 0xDF, 0xE0, 0xE1, 0xEC, 0xED, 0xEE, 0xEF, 0xF0, 0xF1,
+        0xF3, 0xF4, 0xF5, 0xFF, 0x80, 0xBF, 0x80, 0x90, 0xA0, 0x41,
+    ];
+    for _ in 0..30 {
+        let words = 1 + rng.below(3);
+        let mut bytes: Vec<u8> = (0..4 * words).map(|_| rng.pick(&EDGES)).collect();
+        if rng.chance(70) {
+            let at = bytes.len() - 1 - rng.below(4);
+            bytes[at..].fill(0);
+        }
+        let claimed = words as u32 + if rng.chance(10) { rng.below(4) as u32 } else { 0 };
+        let mut all = module(&[(claimed + 2) << 16 | 7, 1]);
+        all.extend(bytes);
+        if rng.chance(10) {
+            all.truncate(all.len() - rng.below(6));
+        }
+        judge.module("random strings", &all);
+    }
+}
+
+/// A small grammar that mostly keeps the rules.
+fn random_grammar(rng: &mut Rng) -> Vec<u8> {
+    const OPCODES: [u16; 26] =
+        [1, 5, 8, 14, 17, 19, 21, 22, 43, 50, 52, 54, 55, 56, 59, 61, 71, 128, 248, 249, 251, 253, 300, 317, 330, 65535];
+    const KINDS: [u8; 16] = [33, 33, 34, 34, 40, 40, 31, 32, 35, 50, 51, 7, 9, 25, 26, 45];
+    let mut rows: Vec<(u16, Vec<(u8, u8)>)> = vec![];
+    for opcode in OPCODES {
+        if rng.chance(30) {
+            continue;
+        }
+        let mut operands = vec![];
+        match opcode {
+            21 => operands.extend([(47, 0), (34, 0), (34, 0)]),
+            22 => operands.extend([(47, 0), (34, 0)]),
+            _ => {
+                if rng.chance(40) || matches!(opcode, 43 | 50) {
+                    operands.push((46, 0));
+                }
+                if rng.chance(50) {
+                    operands.push((47, 0));
+                }
+                match opcode {
+                    52 if rng.chance(80) => operands.push((39, 0)),
+                    251 if rng.chance(80) => operands.push((33, 0)),
+                    _ => (),
+                }
+                for _ in 0..rng.below(3) {
+                    operands.push((rng.pick(&KINDS), rng.pick(&[0, 0, 1, 2])));
+                }
+                match opcode {
+                    43 | 50 if rng.chance(80) => operands.push((48, 0)),
+                    251 if operands.contains(&(33, 0)) => operands.push((49, 2)),
+                    _ => (),
+                }
+            }
+        }
+        rows.push((opcode, operands));
+    }
+    let mut values: Vec<(u8, u32, Vec<u8>)> = vec![];
+    for (kind, value) in
+        [(7u8, 0u32), (7, 1), (7, 4), (7, 0x8000_0000), (9, 0), (9, 3), (9, 900), (25, 1), (25, 7), (26, 2), (45, 0), (45, 2)]
+    {
+        if rng.chance(25) {
+            continue;
+        }
+        let mut parameters = vec![];
+        if matches!(kind, 7 | 25) && value != 0 {
+            for _ in 0..rng.below(3) {
+                parameters.push(rng.pick(&[33, 34, 31, 40, 9, 26, 45]));
+            }
+        }
+        values.push((kind, value, parameters));
+    }
+    let rows: Vec<(u16, &[(u8, u8)])> = rows.iter().map(|r| (r.0, &r.1[..])).collect();
+    let values: Vec<(u8, u32, &[u8])> = values.iter().map(|v| (v.0, v.1, &v.2[..])).collect();
+    grammar_bytes(&rows, &values)
+}
+
+/// Well-formed grammars with modules grown from them, whole, damaged and with tight rooms; grammars with a byte changed, left
+/// out or put in.
+fn random_grammars(judge: &mut Judge, rng: &mut Rng) {
+    for _ in 0..6 {
+        let bytes = random_grammar(rng);
+        let Some(grammar) = Grammar::read(&bytes).filter(|g| !g.rows.is_empty()) else {
+            judge.load("broken grammars", &module(&[]), Some(&bytes), [0; 4]);
+            continue;
+        };
+        let mut grower = Grower::new(&grammar, rng.next());
+        let mut last = vec![];
+        for n in 0..4 {
+            let steps = 1 + grower.rng.below(8);
+            let m = grower.module(steps, n == 0);
+            judge.load("random grammars", &m, Some(&bytes), enough(&m));
+            let damaged = grower.damage(&m);
+            judge.load("random grammars", &damaged, Some(&bytes), enough(&damaged));
+            let rooms = random_rooms(&mut grower.rng, &load_with(&m, &grammar, enough(&m)));
+            judge.load("random grammars, random rooms", &m, Some(&bytes), rooms);
+            last = m;
+        }
+        for _ in 0..4 {
+            let mut changed = bytes.clone();
+            let at = rng.below(changed.len());
+            match rng.below(4) {
+                0 => changed[at] = rng.below(60) as u8,
+                1 => {
+                    changed.remove(at);
+                }
+                2 => changed.insert(at, rng.below(5) as u8),
+                _ => changed.truncate(at),
+            }
+            judge.load("broken grammars", &last, Some(&changed), enough(&last));
+        }
+    }
+}
+
+/// The records of a module, as they are and with one thing changed: a field, a log byte, a string byte, a count, a slice.
+fn random_records(judge: &mut Judge, rng: &mut Rng, module: &[u8]) {
+    let load = load_with(module, judge.builtin, enough(module));
+    let mut s = Stores::of(&load);
+    let ample = 20 + 4 * load.instructions.iter().map(|r| r[7] as usize).sum::<usize>();
+    match rng.below(7) {
+        0 | 1 if !s.instructions.is_empty() => {
+            let at = rng.below(s.instructions.len());
+            let old = s.instructions[at];
+            s.instructions[at] = match rng.below(8) {
+                0 => rng.next() as u32,
+                1 => 0,
+                2 => old ^ 1 << rng.below(32),
+                _ => old.wrapping_add(rng.pick(&[1, u32::MAX, 4, 65536, 2])),
+            };
+        }
+        2 | 3 if !s.log.is_empty() => {
+            let at = rng.below(s.log.len());
+            s.log[at] = rng.pick(&[0, 1, 33, 34, 36, 40, 45, 46]);
+        }
+        4 if !s.strings.is_empty() => {
+            let at = rng.below(s.strings.len());
+            s.strings[at] = rng.pick(&[0, 0x80, 0xC2, 97]);
+        }
+        5 => {
+            let at = rng.below(3);
+            s.counts[at] = s.counts[at].wrapping_add(rng.pick(&[1, usize::MAX]));
+        }
+        6 => match rng.below(4) {
+            0 => s.instructions.truncate(s.instructions.len().saturating_sub(1 + rng.below(9))),
+            1 => s.log.truncate(s.log.len().saturating_sub(1 + rng.below(9))),
+            2 => s.strings.truncate(s.strings.len().saturating_sub(1 + rng.below(9))),
+            _ => {
+                // an instruction less, or two in the other order
+                let n = s.counts[0];
+                if n > 1 && rng.chance(50) {
+                    let at = 8 * rng.below(n - 1);
+                    (0..8).for_each(|field| s.instructions.swap(at + field, at + 8 + field));
+                } else if n > 0 {
+                    let at = 8 * rng.below(n);
+                    s.instructions.drain(at..at + 8);
+                    s.counts[0] -= 1;
+                }
+            }
+        },
+        _ => (),
+    }
+    let output = match rng.below(5) {
+        0 => rng.below(ample + 1),
+        1 => ample - 1,
+        _ => ample + rng.below(9),
+    };
+    judge.records("random records", load.header, &s, output);
+}

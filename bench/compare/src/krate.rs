@@ -1,0 +1,149 @@
+//! The crate rspirv, asked through the oracle's own code.
+
+use crate::reading::{Row, ONE, ZERO_OR_MORE, ZERO_OR_ONE};
+use std::cell::Cell;
+
+#[allow(dead_code, clippy::all)]
+mod oracle {
+    include!(concat!(env!("OUT_DIR"), "/oracle.rs"));
+
+    /// The oracle's line for a module, then its lines of records and of module-order bytes.
+    pub fn answer(bytes: &[u8]) -> String {
+        run(bytes, &Options { full: true, disas: false, records: true })
+    }
+
+    /// Whether the crate's decoder knows a value of an enumerant kind.
+    pub fn knows(kind: u8, value: u32) -> bool {
+        matches!(read_kind(kind, &mut Decoder::new(&value.to_le_bytes())), Some(Ok(())))
+    }
+
+    /// Opcode and operands (kind, quantifier's number) of a row.
+    pub fn row(opcode: u16) -> Option<(u16, Vec<(u8, u8)>)> {
+        let row = grammar::CoreInstructionTable::lookup_opcode(opcode)?;
+        let operands = row.operands.iter().map(|o| {
+            let quantifier = match o.quantifier {
+                grammar::OperandQuantifier::One => super::ONE,
+                grammar::OperandQuantifier::ZeroOrOne => super::ZERO_OR_ONE,
+                grammar::OperandQuantifier::ZeroOrMore => super::ZERO_OR_MORE,
+            };
+            (grammar_kind(o.kind), quantifier)
+        });
+        Some((row.opcode as u16, operands.collect()))
+    }
+
+    pub fn decoder_calls(bytes: &[u8], script: &str) -> String {
+        ops(bytes, script)
+    }
+}
+
+thread_local! {
+    static ASKING: Cell<bool> = const { Cell::new(false) };
+}
+
+/// The crate's panics are answers and stay silent; all others are told as ever.
+pub fn silence_the_crate() {
+    let told = std::panic::take_hook();
+    std::panic::set_hook(Box::new(move |what| {
+        if !ASKING.with(|asking| asking.get()) {
+            told(what);
+        }
+    }));
+}
+
+fn asking<T>(ask: impl FnOnce() -> T) -> T {
+    ASKING.with(|asking| asking.set(true));
+    let answer = ask();
+    ASKING.with(|asking| asking.set(false));
+    answer
+}
+
+/// What the crate says of a module.
+#[derive(Clone, Debug, Default)]
+pub struct Answer {
+    /// None is a panic.
+    pub number: Option<u32>,
+    /// Of a panic the start of the instruction.
+    pub offset: usize,
+    pub index: usize,
+    pub value: u32,
+    /// Major, minor, bound, where the header was read.
+    pub header: Option<(u32, u32, u32)>,
+    /// The words of the instruction records.
+    pub instructions: Vec<u32>,
+    pub log: Vec<u8>,
+    pub strings: Vec<u8>,
+    /// The words of the type entries.
+    pub types: Vec<u32>,
+    /// Module-order bytes of an accepted module.
+    pub module: Option<Vec<u8>>,
+    /// The oracle's first line.
+    pub line: String,
+}
+
+fn field<'a>(line: &'a str, key: &str) -> Option<&'a str> {
+    line.split(' ').find_map(|part| part.strip_prefix(key)?.strip_prefix('='))
+}
+
+fn number<T: std::str::FromStr>(line: &str, key: &str) -> Option<T> {
+    field(line, key).map(|text| text.parse().unwrap_or_else(|_| panic!("the oracle's {key}: {line}")))
+}
+
+fn unhex(text: &str) -> Vec<u8> {
+    let digit = |d: u8| (d as char).to_digit(16).expect("a hex digit") as u8;
+    text.as_bytes().chunks_exact(2).map(|two| 16 * digit(two[0]) + digit(two[1])).collect()
+}
+
+/// `[1, 2, 3]`
+fn numbers(text: &str) -> impl Iterator<Item = u32> + '_ {
+    text.trim_matches(['[', ']']).split(", ").map(|n| n.parse().expect("a number of the oracle's"))
+}
+
+/// Puts a module to the crate. The oracle loads it twice, with its recorder and bare; should the two differ, that is an error.
+pub fn answer(bytes: &[u8]) -> Result<Answer, String> {
+    let text = asking(|| oracle::answer(bytes));
+    let mut lines = text.lines();
+    let line = lines.next().unwrap_or_default().to_string();
+    if line.contains("RECORDER-DIFFERS") || line.starts_with("state") {
+        return Err(line);
+    }
+    let panic = line.starts_with("panic");
+    let mut all = Answer {
+        number: if panic { None } else { Some(line.split(' ').next().unwrap_or_default().parse().map_err(|_| line.clone())?) },
+        offset: number(&line, if panic { "at" } else { "off" }).unwrap_or(0),
+        index: number(&line, "idx").unwrap_or(0),
+        value: number(&line, "val").unwrap_or(0),
+        ..Answer::default()
+    };
+    if let (Some(version), Some(bound)) = (field(&line, "version"), number(&line, "bound")) {
+        let (major, minor) = version.split_once('.').ok_or(line.clone())?;
+        all.header = Some((major.parse().map_err(|_| line.clone())?, minor.parse().map_err(|_| line.clone())?, bound));
+    }
+    for more in lines {
+        let (key, rest) = more.trim_start().split_once(' ').unwrap_or((more.trim(), ""));
+        match key {
+            "record" => all.instructions.extend(numbers(rest)),
+            "log" => all.log = unhex(rest),
+            "strings" => all.strings = unhex(rest),
+            "type" => all.types.extend(numbers(rest)),
+            "module" => all.module = Some(unhex(rest)),
+            _ => (), // the dump of an instruction, which the records repeat
+        }
+    }
+    all.line = line;
+    Ok(all)
+}
+
+/// Whether the crate's decoder, asked for a value of this kind with one word left, knows it.
+pub fn knows(kind: u8, value: u32) -> bool {
+    asking(|| oracle::knows(kind, value))
+}
+
+/// Every row the crate looks up.
+pub fn rows() -> Vec<Row> {
+    (0..=u16::MAX).filter_map(oracle::row).map(|(opcode, operands)| Row { opcode, operands }).collect()
+}
+
+/// Decoder calls one after the other, in the oracle's words.
+pub fn decoder_calls(bytes: &[u8], script: &str) -> String {
+    asking(|| oracle::decoder_calls(bytes, script))
+}

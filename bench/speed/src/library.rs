@@ -1,0 +1,182 @@
+//! Five of the library's functions, on stores that are lent again and again and never cleared in between.
+
+mod c {
+    extern "C" {
+        pub fn kollafrin_builtin(out: *mut u8, out_length: usize) -> usize;
+        pub fn kollafrin_load(
+            module: *const u8,
+            module_length: usize,
+            grammar: *const u8,
+            grammar_length: usize,
+            instructions: *mut u32,
+            instructions_length: usize,
+            log: *mut u8,
+            log_length: usize,
+            strings: *mut u8,
+            strings_length: usize,
+            types: *mut u32,
+            types_length: usize,
+            answer: *mut [u32; 16],
+        ) -> u32;
+        pub fn kollafrin_load_builtin(
+            module: *const u8,
+            module_length: usize,
+            instructions: *mut u32,
+            instructions_length: usize,
+            log: *mut u8,
+            log_length: usize,
+            strings: *mut u8,
+            strings_length: usize,
+            types: *mut u32,
+            types_length: usize,
+            answer: *mut [u32; 16],
+        ) -> u32;
+    }
+    /// Both writers have this shape.
+    pub type Writer = unsafe extern "C" fn(
+        header: *const [u32; 5],
+        instructions: *const u32,
+        instructions_length: usize,
+        log: *const u8,
+        log_length: usize,
+        strings: *const u8,
+        strings_length: usize,
+        instruction_count: usize,
+        log_count: usize,
+        string_count: usize,
+        out: *mut u8,
+        out_length: usize,
+        answer: *mut [u32; 4],
+    ) -> u32;
+    extern "C" {
+        pub fn kollafrin_write_parse_order(
+            header: *const [u32; 5],
+            instructions: *const u32,
+            instructions_length: usize,
+            log: *const u8,
+            log_length: usize,
+            strings: *const u8,
+            strings_length: usize,
+            instruction_count: usize,
+            log_count: usize,
+            string_count: usize,
+            out: *mut u8,
+            out_length: usize,
+            answer: *mut [u32; 4],
+        ) -> u32;
+        pub fn kollafrin_write_module_order(
+            header: *const [u32; 5],
+            instructions: *const u32,
+            instructions_length: usize,
+            log: *const u8,
+            log_length: usize,
+            strings: *const u8,
+            strings_length: usize,
+            instruction_count: usize,
+            log_count: usize,
+            string_count: usize,
+            out: *mut u8,
+            out_length: usize,
+            answer: *mut [u32; 4],
+        ) -> u32;
+    }
+}
+
+/// The four stores of a load, and its answer.
+pub struct Stores {
+    pub instructions: Vec<u32>,
+    pub log: Vec<u8>,
+    pub strings: Vec<u8>,
+    pub types: Vec<u32>,
+    pub answer: [u32; 16],
+}
+
+#[derive(Clone, Copy)]
+pub enum Order {
+    Parse,
+    Module,
+}
+
+impl Stores {
+    /// Stores of the sizes that always suffice for a module of this length, all zero.
+    pub fn new(module_length: usize) -> Stores {
+        let w = (module_length / 4).saturating_sub(5);
+        Stores { instructions: vec![0; 8 * w], log: vec![0; 9 * w], strings: vec![0; 4 * w], types: vec![0; 3 * w], answer: [0; 16] }
+    }
+
+    // Safety, here and below: each pointer comes from a live slice with its own length, and no two of the written ones overlap.
+    pub fn load(&mut self, module: &[u8], grammar: &[u8]) -> u32 {
+        unsafe {
+            c::kollafrin_load(
+                module.as_ptr(),
+                module.len(),
+                grammar.as_ptr(),
+                grammar.len(),
+                self.instructions.as_mut_ptr(),
+                self.instructions.len(),
+                self.log.as_mut_ptr(),
+                self.log.len(),
+                self.strings.as_mut_ptr(),
+                self.strings.len(),
+                self.types.as_mut_ptr(),
+                self.types.len(),
+                &mut self.answer,
+            )
+        }
+    }
+
+    pub fn load_builtin(&mut self, module: &[u8]) -> u32 {
+        unsafe {
+            c::kollafrin_load_builtin(
+                module.as_ptr(),
+                module.len(),
+                self.instructions.as_mut_ptr(),
+                self.instructions.len(),
+                self.log.as_mut_ptr(),
+                self.log.len(),
+                self.strings.as_mut_ptr(),
+                self.strings.len(),
+                self.types.as_mut_ptr(),
+                self.types.len(),
+                &mut self.answer,
+            )
+        }
+    }
+
+    /// Writes what was loaded: the number, and how many bytes.
+    pub fn write(&self, order: Order, out: &mut [u8]) -> (u32, usize) {
+        let call: c::Writer = match order {
+            Order::Parse => c::kollafrin_write_parse_order,
+            Order::Module => c::kollafrin_write_module_order,
+        };
+        let header = [8, 9, 10, 11, 12].map(|n| self.answer[n]);
+        let [records, log, strings] = [4, 5, 6].map(|n| self.answer[n] as usize);
+        let mut answer = [0; 4];
+        let number = unsafe {
+            call(
+                &header,
+                self.instructions.as_ptr(),
+                self.instructions.len(),
+                self.log.as_ptr(),
+                self.log.len(),
+                self.strings.as_ptr(),
+                self.strings.len(),
+                records,
+                log,
+                strings,
+                out.as_mut_ptr(),
+                out.len(),
+                &mut answer,
+            )
+        };
+        (number, answer[2] as usize)
+    }
+}
+
+/// The built-in grammar's bytes.
+pub fn builtin() -> Vec<u8> {
+    let mut out = vec![0; 65_536];
+    let length = unsafe { c::kollafrin_builtin(out.as_mut_ptr(), out.len()) };
+    out.truncate(length);
+    out
+}

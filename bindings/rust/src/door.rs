@@ -1,0 +1,197 @@
+//! The six functions of the library, on slices. A slice passes as its pointer and its length, a reference to an array as its
+//! pointer.
+
+use crate::Module;
+
+mod c {
+    extern "C" {
+        pub fn kollafrin_builtin(out: *mut u8, out_length: usize) -> usize;
+        pub fn kollafrin_load(
+            module: *const u8,
+            module_length: usize,
+            grammar: *const u8,
+            grammar_length: usize,
+            instructions: *mut u32,
+            instructions_length: usize,
+            log: *mut u8,
+            log_length: usize,
+            strings: *mut u8,
+            strings_length: usize,
+            types: *mut u32,
+            types_length: usize,
+            answer: *mut [u32; 16],
+        ) -> u32;
+        pub fn kollafrin_load_builtin(
+            module: *const u8,
+            module_length: usize,
+            instructions: *mut u32,
+            instructions_length: usize,
+            log: *mut u8,
+            log_length: usize,
+            strings: *mut u8,
+            strings_length: usize,
+            types: *mut u32,
+            types_length: usize,
+            answer: *mut [u32; 16],
+        ) -> u32;
+        pub fn kollafrin_write_parse_order(
+            header: *const [u32; 5],
+            instructions: *const u32,
+            instructions_length: usize,
+            log: *const u8,
+            log_length: usize,
+            strings: *const u8,
+            strings_length: usize,
+            instruction_count: usize,
+            log_count: usize,
+            string_count: usize,
+            out: *mut u8,
+            out_length: usize,
+            answer: *mut [u32; 4],
+        ) -> u32;
+        pub fn kollafrin_write_module_order(
+            header: *const [u32; 5],
+            instructions: *const u32,
+            instructions_length: usize,
+            log: *const u8,
+            log_length: usize,
+            strings: *const u8,
+            strings_length: usize,
+            instruction_count: usize,
+            log_count: usize,
+            string_count: usize,
+            out: *mut u8,
+            out_length: usize,
+            answer: *mut [u32; 4],
+        ) -> u32;
+        pub fn kollafrin_standing(
+            instructions: *const u32,
+            instructions_length: usize,
+            log: *const u8,
+            log_length: usize,
+            strings: *const u8,
+            strings_length: usize,
+            instruction_count: usize,
+            log_count: usize,
+            string_count: usize,
+            answer: *mut [u32; 4],
+        ) -> u32;
+    }
+}
+
+// Safety of every call below: each pointer comes from a live slice or array with its own length, the written ones are
+// borrowed mutably, so that no two overlap, and the library reads and writes nothing else and keeps no pointer.
+
+pub fn builtin(out: &mut [u8]) -> usize {
+    unsafe { c::kollafrin_builtin(out.as_mut_ptr(), out.len()) }
+}
+
+pub fn load(
+    module: &[u8],
+    grammar: &[u8],
+    instructions: &mut [u32],
+    log: &mut [u8],
+    strings: &mut [u8],
+    types: &mut [u32],
+    answer: &mut [u32; 16],
+) -> u32 {
+    unsafe {
+        c::kollafrin_load(
+            module.as_ptr(),
+            module.len(),
+            grammar.as_ptr(),
+            grammar.len(),
+            instructions.as_mut_ptr(),
+            instructions.len(),
+            log.as_mut_ptr(),
+            log.len(),
+            strings.as_mut_ptr(),
+            strings.len(),
+            types.as_mut_ptr(),
+            types.len(),
+            answer,
+        )
+    }
+}
+
+pub fn load_builtin(
+    module: &[u8],
+    instructions: &mut [u32],
+    log: &mut [u8],
+    strings: &mut [u8],
+    types: &mut [u32],
+    answer: &mut [u32; 16],
+) -> u32 {
+    unsafe {
+        c::kollafrin_load_builtin(
+            module.as_ptr(),
+            module.len(),
+            instructions.as_mut_ptr(),
+            instructions.len(),
+            log.as_mut_ptr(),
+            log.len(),
+            strings.as_mut_ptr(),
+            strings.len(),
+            types.as_mut_ptr(),
+            types.len(),
+            answer,
+        )
+    }
+}
+
+pub fn write_parse_order(module: &Module, out: &mut [u8], answer: &mut [u32; 4]) -> u32 {
+    unsafe {
+        c::kollafrin_write_parse_order(
+            &module.header,
+            module.instructions.as_ptr(),
+            module.instructions.len(),
+            module.log.as_ptr(),
+            module.log.len(),
+            module.strings.as_ptr(),
+            module.strings.len(),
+            module.instructions.len() / 8,
+            module.log.len(),
+            module.strings.len(),
+            out.as_mut_ptr(),
+            out.len(),
+            answer,
+        )
+    }
+}
+
+pub fn write_module_order(module: &Module, out: &mut [u8], answer: &mut [u32; 4]) -> u32 {
+    unsafe {
+        c::kollafrin_write_module_order(
+            &module.header,
+            module.instructions.as_ptr(),
+            module.instructions.len(),
+            module.log.as_ptr(),
+            module.log.len(),
+            module.strings.as_ptr(),
+            module.strings.len(),
+            module.instructions.len() / 8,
+            module.log.len(),
+            module.strings.len(),
+            out.as_mut_ptr(),
+            out.len(),
+            answer,
+        )
+    }
+}
+
+pub fn standing(module: &Module, answer: &mut [u32; 4]) -> u32 {
+    unsafe {
+        c::kollafrin_standing(
+            module.instructions.as_ptr(),
+            module.instructions.len(),
+            module.log.as_ptr(),
+            module.log.len(),
+            module.strings.as_ptr(),
+            module.strings.len(),
+            module.instructions.len() / 8,
+            module.log.len(),
+            module.strings.len(),
+            answer,
+        )
+    }
+}

@@ -1,0 +1,187 @@
+//! Loads SPIR-V modules into records and writes them back.
+//!
+//! The work is done by the library kollafrin, whose every function is proved against its contract. This crate is a thin, safe
+//! cover: a [`Module`] owns its records, and a [`Refusal`] says what is wrong with an input and where. Nothing here panics on
+//! any input.
+//!
+//! ```no_run
+//! let bytes = std::fs::read("shader.spv")?;
+//! let module = kollafrin::Module::load_builtin(&bytes)?;
+//! for instruction in module.instructions() {
+//!     println!("{} {}", instruction.offset, instruction.opcode);
+//! }
+//! std::fs::write("same.spv", module.write_parse_order()?)?;
+//! # Ok::<(), Box<dyn std::error::Error>>(())
+//! ```
+//!
+//! Linking needs the archive `libkollafrin.a`, made by `rt staticlib kollafrin` for x86-64. It is looked for in the folder
+//! `target/staticlib` of the repository, or where the environment variable `KOLLAFRIN_LIB` says.
+
+#![warn(missing_docs)]
+
+mod door;
+mod records;
+mod refusal;
+
+pub use records::{Instruction, Instructions, Operand, Operands, Value};
+pub use refusal::{sentence, Refusal};
+
+/// The longest module that is read, in bytes. A longer one is refused with 31.
+pub const MOST_MODULE_BYTES: usize = 67_108_864;
+
+/// The bytes of the built-in grammar, the one [`Module::load_builtin`] goes by.
+pub fn builtin() -> Vec<u8> {
+    let mut bytes = vec![0; door::builtin(&mut [])];
+    door::builtin(&mut bytes);
+    bytes
+}
+
+/// What a load keeps of a module: its five header words and four stores.
+///
+/// The stores are those of the library. Instructions: eight words each, which are opcode + 65536 × (1 for a result type, 2 for
+/// a result id), section tag, byte offset, result type or 0, result id or 0, start in the operand log, operand count, word
+/// count. The operand log: a kind byte, then 4 bytes, 8 for kinds 36, 38 and 40. String bytes without their zeros. Types: id,
+/// width, and 1 for unsigned, 2 for signed, 3 for float.
+#[derive(Clone, Debug, Default, PartialEq, Eq, Hash)]
+pub struct Module {
+    header: [u32; 5],
+    instructions: Vec<u32>,
+    log: Vec<u8>,
+    strings: Vec<u8>,
+    types: Vec<u32>,
+}
+
+impl Module {
+    /// Loads a module by the bytes of a grammar.
+    pub fn load(bytes: &[u8], grammar: &[u8]) -> Result<Module, Refusal> {
+        whole(Module::load_kept(bytes, grammar))
+    }
+
+    /// Loads a module by the built-in grammar.
+    pub fn load_builtin(bytes: &[u8]) -> Result<Module, Refusal> {
+        whole(Module::load_builtin_kept(bytes))
+    }
+
+    /// As [`Module::load`], with the records of the instructions before the fault where the module is refused.
+    pub fn load_kept(bytes: &[u8], grammar: &[u8]) -> (Module, Option<Refusal>) {
+        Module::with_room(bytes, |m, answer| {
+            door::load(bytes, grammar, &mut m.instructions, &mut m.log, &mut m.strings, &mut m.types, answer)
+        })
+    }
+
+    /// As [`Module::load_builtin`], with the records of the instructions before the fault where the module is refused.
+    pub fn load_builtin_kept(bytes: &[u8]) -> (Module, Option<Refusal>) {
+        Module::with_room(bytes, |m, answer| {
+            door::load_builtin(bytes, &mut m.instructions, &mut m.log, &mut m.strings, &mut m.types, answer)
+        })
+    }
+
+    /// Stores that suffice for any module of this length, filled by the call and cut to what it kept.
+    fn with_room(bytes: &[u8], call: impl FnOnce(&mut Module, &mut [u32; 16]) -> u32) -> (Module, Option<Refusal>) {
+        let words = if bytes.len() > MOST_MODULE_BYTES { 0 } else { (bytes.len() / 4).saturating_sub(5) };
+        let mut module = Module {
+            header: [0; 5],
+            instructions: vec![0; 8 * words],
+            log: vec![0; 9 * words],
+            strings: vec![0; 4 * words],
+            types: vec![0; 3 * words],
+        };
+        let mut answer = [0; 16];
+        let number = call(&mut module, &mut answer);
+        module.header.copy_from_slice(&answer[8..13]);
+        module.instructions.truncate(8 * answer[4] as usize);
+        module.log.truncate(answer[5] as usize);
+        module.strings.truncate(answer[6] as usize);
+        module.types.truncate(3 * answer[7] as usize);
+        module.instructions.shrink_to_fit();
+        module.log.shrink_to_fit();
+        module.strings.shrink_to_fit();
+        module.types.shrink_to_fit();
+        let refusal = Refusal { number, offset: answer[1], index: answer[2], value: answer[3] };
+        (module, if number == 0 { None } else { Some(refusal) })
+    }
+
+    /// A module of records from elsewhere. Nothing is checked here: the writers and [`Module::standing`] refuse with 30 what
+    /// breaks the layout of the stores. Words past the last whole record of eight are left out.
+    pub fn from_stores(header: [u32; 5], mut instructions: Vec<u32>, log: Vec<u8>, strings: Vec<u8>, types: Vec<u32>) -> Module {
+        instructions.truncate(instructions.len() / 8 * 8);
+        Module { header, instructions, log, strings, types }
+    }
+
+    /// The bytes of the module: header words and instructions as they were read. Of a plain module (no bytes after the last
+    /// whole word, only zeros after the ends of strings, embedded opcodes below 65,536) these are the bytes it was loaded from.
+    pub fn write_parse_order(&self) -> Result<Vec<u8>, Refusal> {
+        self.write(door::write_parse_order)
+    }
+
+    /// The bytes of the module in the order of its sections, with the header that the crate rspirv writes.
+    pub fn write_module_order(&self) -> Result<Vec<u8>, Refusal> {
+        self.write(door::write_module_order)
+    }
+
+    fn write(&self, call: impl FnOnce(&Module, &mut [u8], &mut [u32; 4]) -> u32) -> Result<Vec<u8>, Refusal> {
+        // a word count over 65,535 is refused before anything is written
+        let words: usize = self.instructions.chunks_exact(8).map(|record| record[7].min(65_535) as usize).sum();
+        let mut bytes = vec![0; 20 + 4 * words];
+        let mut answer = [0; 4];
+        match call(self, &mut bytes, &mut answer) {
+            0 => {
+                bytes.truncate(answer[2] as usize + ((answer[3] as usize) << 32));
+                Ok(bytes)
+            }
+            number => Err(Refusal { number, offset: 0, index: answer[1], value: 0 }),
+        }
+    }
+
+    /// Whether the module stands: its sections come first and in order, no parameter follows a label in its function, and at
+    /// most one memory model is given. On a module that stands both orders of writing agree after the header.
+    pub fn standing(&self) -> Result<bool, Refusal> {
+        let mut answer = [0; 4];
+        match door::standing(self, &mut answer) {
+            0 => Ok(answer[2] == 1),
+            number => Err(Refusal { number, offset: 0, index: answer[1], value: 0 }),
+        }
+    }
+
+    /// The five header words: magic number, version, generator, bound, reserved.
+    pub fn header(&self) -> [u32; 5] {
+        self.header
+    }
+
+    /// Major and minor version.
+    pub fn version(&self) -> (u8, u8) {
+        ((self.header[1] >> 16) as u8, (self.header[1] >> 8) as u8)
+    }
+
+    /// The instructions in the order they were read.
+    pub fn instructions(&self) -> Instructions<'_> {
+        Instructions::of(&self.instructions, &self.log, &self.strings)
+    }
+
+    /// The words of the instruction records, eight each.
+    pub fn instruction_words(&self) -> &[u32] {
+        &self.instructions
+    }
+
+    /// The bytes of the operand log.
+    pub fn log(&self) -> &[u8] {
+        &self.log
+    }
+
+    /// The bytes of all strings, one after the other.
+    pub fn strings(&self) -> &[u8] {
+        &self.strings
+    }
+
+    /// The words of the type entries, three each.
+    pub fn type_words(&self) -> &[u32] {
+        &self.types
+    }
+}
+
+fn whole((module, refusal): (Module, Option<Refusal>)) -> Result<Module, Refusal> {
+    match refusal {
+        None => Ok(module),
+        Some(refusal) => Err(refusal),
+    }
+}

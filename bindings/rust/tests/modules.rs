@@ -1,0 +1,154 @@
+//! Modules through the safe crate: what is kept, what is refused and where, what is written.
+
+use kollafrin::{builtin, sentence, Module, Refusal, Value, MOST_MODULE_BYTES};
+use std::collections::HashSet;
+
+/// The header 07230203 00010000 0 0 0 and these words, as bytes.
+fn module(words: &[u32]) -> Vec<u8> {
+    [0x0723_0203, 0x0001_0000, 0, 0, 0].iter().chain(words).flat_map(|w| w.to_le_bytes()).collect()
+}
+
+fn refused(bytes: &[u8]) -> (u32, u32, u32, u32) {
+    let Refusal { number, offset, index, value } = Module::load_builtin(bytes).expect_err("a refusal");
+    (number, offset, index, value)
+}
+
+#[test]
+fn the_fourteen_fittings() {
+    let h = module(&[]);
+    let mut swapped = h.clone();
+    swapped[..4].reverse();
+    assert_eq!(refused(&[]), (1, 0, 0, 0));
+    assert_eq!(refused(&h[..19]), (1, 16, 0, 0));
+    assert_eq!(refused(&swapped), (3, 0, 0, 0));
+    let empty = Module::load_builtin(&h).unwrap();
+    assert_eq!(empty.header(), [0x0723_0203, 0x0001_0000, 0, 0, 0]);
+    assert_eq!(empty.instructions().len(), 0);
+    assert_eq!(Module::load_builtin(&[&h[..], &[1, 2, 3]].concat()).unwrap(), empty);
+    let model = Module::load_builtin(&module(&[0x0003_000E, 0, 1])).unwrap();
+    assert_eq!(model.instruction_words(), [14, 4, 20, 0, 0, 0, 2, 3]);
+    assert_eq!(model.log(), [0x0B, 0, 0, 0, 0, 0x0C, 1, 0, 0, 0]);
+    assert_eq!(refused(&module(&[0])), (4, 20, 1, 0));
+    assert_eq!(refused(&module(&[0x0001_FFFF])), (5, 20, 1, 65535));
+    assert_eq!(refused(&module(&[0x0002_000E, 0])), (6, 28, 1, 0));
+    assert_eq!(refused(&module(&[0x0004_000E, 0, 1, 0])), (7, 32, 1, 0));
+    assert_eq!(refused(&module(&[0x0003_000E, 0])), (9, 28, 1, 0));
+    let string = Module::load_builtin(&module(&[0x0003_0007, 1, 0x0000_6261])).unwrap();
+    assert_eq!(string.strings(), b"ab");
+    let padded = module(&[0x0003_0007, 1, 0x0100_6261]);
+    assert_eq!(Module::load_builtin(&padded).unwrap(), string);
+    assert_ne!(string.write_parse_order().unwrap(), padded);
+    let long = Module::load_builtin(&module(&[0x0004_0015, 2, 0x40, 0, 0x0005_002B, 2, 3, 7, 1])).unwrap();
+    assert_eq!(long.type_words(), [2, 64, 1, 3, 64, 1]);
+    let constant = long.instructions().nth(1).unwrap();
+    assert_eq!((constant.opcode, constant.result_type, constant.result_id, constant.word_count), (43, Some(2), Some(3), 5));
+    let operands: Vec<_> = constant.operands().map(|o| (o.kind, o.value)).collect();
+    assert_eq!(operands, [(36, Value::Long(4_294_967_303))]);
+}
+
+#[test]
+fn operands_of_each_form() {
+    // OpEntryPoint Fragment %4 "main" %5, OpSource GLSL 450
+    let words = [0x0006_000F, 4, 4, 0x6E69_616D, 0, 5, 0x0003_0003, 2, 450];
+    let module = Module::load_builtin(&module(&words)).unwrap();
+    let all: Vec<Vec<_>> = module.instructions().map(|i| i.operands().map(|o| (o.kind, o.value)).collect()).collect();
+    assert_eq!(
+        all,
+        [
+            vec![(10, Value::Word(4)), (33, Value::Word(4)), (40, Value::Text(b"main")), (33, Value::Word(5))],
+            vec![(9, Value::Word(2)), (34, Value::Word(450))]
+        ]
+    );
+}
+
+#[test]
+fn a_refused_load_keeps_what_came_before() {
+    let (kept, refusal) = Module::load_builtin_kept(&module(&[0x0002_0011, 0, 0x0001_0038]));
+    assert_eq!(refusal, Some(Refusal { number: 17, offset: 28, index: 2, value: 0 }));
+    assert_eq!(kept.instructions().map(|i| i.opcode).collect::<Vec<_>>(), [17]);
+    assert_eq!(kept.header()[0], 0x0723_0203);
+    let said = refusal.unwrap().to_string();
+    assert_eq!(said, "refused 17: a function ends where none has begun, at byte 28, instruction 2");
+}
+
+#[test]
+fn writing_gives_the_bytes_back() {
+    let plain = module(&[0x0003_000E, 0, 1, 0x0003_0007, 1, 0x0000_6261]);
+    let loaded = Module::load_builtin(&plain).unwrap();
+    assert_eq!(loaded.write_parse_order().unwrap(), plain);
+    let order = loaded.write_module_order().unwrap();
+    assert_eq!(order[20..], plain[20..]);
+    assert_eq!(order[8..12], 0x000F_0000u32.to_le_bytes());
+    assert_eq!(loaded.standing(), Ok(true));
+    // a capability after the memory model: module order puts it first, and the module does not stand
+    let mixed = Module::load_builtin(&module(&[0x0003_000E, 0, 1, 0x0002_0011, 0])).unwrap();
+    assert_eq!(mixed.write_module_order().unwrap()[20..], module(&[0x0002_0011, 0, 0x0003_000E, 0, 1])[20..]);
+    assert_eq!(mixed.standing(), Ok(false));
+}
+
+#[test]
+fn records_from_elsewhere_are_checked() {
+    let loaded = Module::load_builtin(&module(&[0x0003_000E, 0, 1])).unwrap();
+    let mut words = loaded.instruction_words().to_vec();
+    words[1] = 5;
+    let bad = Module::from_stores(loaded.header(), words, loaded.log().to_vec(), vec![], vec![]);
+    let refusal = Refusal { number: 30, offset: 0, index: 1, value: 0 };
+    assert_eq!(bad.write_parse_order(), Err(refusal));
+    assert_eq!(bad.write_module_order(), Err(refusal));
+    assert_eq!(bad.standing(), Err(refusal));
+    let left = [loaded.log(), &[33]].concat();
+    let over = Module::from_stores(loaded.header(), loaded.instruction_words().to_vec(), left, vec![], vec![]);
+    assert_eq!(over.standing(), Err(Refusal { index: 2, ..refusal }));
+    // the longest word count, and more than one can be
+    let mut huge = loaded.instruction_words().to_vec();
+    huge[7] = u32::MAX;
+    let huge = Module::from_stores(loaded.header(), huge, loaded.log().to_vec(), vec![], vec![]);
+    assert_eq!(huge.write_parse_order(), Err(refusal));
+}
+
+#[test]
+fn grammars() {
+    let grammar = builtin();
+    assert_eq!(grammar.len(), 12_251);
+    let bytes = module(&[0x0003_000E, 0, 1]);
+    assert_eq!(Module::load(&bytes, &grammar), Module::load_builtin(&bytes));
+    assert_eq!(Module::load(&bytes, &[5]).unwrap_err().number, 24);
+    let unknown = Module::load(&bytes, &[]).unwrap_err();
+    assert_eq!((unknown.number, unknown.offset, unknown.value), (5, 20, 14));
+}
+
+#[test]
+fn a_module_that_is_too_long() {
+    let refusal = Module::load_builtin(&vec![0; MOST_MODULE_BYTES + 1]).unwrap_err();
+    assert_eq!(refusal, Refusal { number: 31, offset: 0, index: 0, value: 0 });
+}
+
+#[test]
+fn every_number_has_its_own_sentence() {
+    let all: HashSet<&str> = (0..=32).map(sentence).collect();
+    assert_eq!(all.len(), 33);
+}
+
+/// Every module kept under samples/: loaded and written back, or refused without a panic.
+#[test]
+fn the_samples() {
+    let samples = concat!(env!("CARGO_MANIFEST_DIR"), "/../../samples");
+    let mut folders = vec![std::path::PathBuf::from(samples)];
+    let mut accepted = 0;
+    while let Some(folder) = folders.pop() {
+        let Ok(entries) = std::fs::read_dir(&folder) else { continue };
+        for entry in entries {
+            let path = entry.unwrap().path();
+            if path.is_dir() {
+                folders.push(path);
+            } else if path.extension().map_or(false, |e| e == "spv") {
+                let bytes = std::fs::read(&path).unwrap();
+                if let Ok(module) = Module::load_builtin(&bytes) {
+                    assert_eq!(module.write_parse_order().unwrap(), bytes, "{}", path.display());
+                    accepted += 1;
+                }
+            }
+        }
+    }
+    assert!(accepted > 0);
+}

@@ -1,0 +1,6 @@
+pub mod Spell
+pub mod Stores
+pub mod Place
+pub mod Orders
+pub mod Writing
+pub mod StandLaws

@@ -1,0 +1,286 @@
+-- Laws of the orders: what each index adds to what is written.
+use Prim.Native.Nat.{ℕ, zero, suc, _+_, _*_, _-_, _<_, _≤_, min}
+use mathlib.Core.Path.{_≡_, refl, ap, sym, _∙_}
+use mathlib.Core.Bool.{Bool, true, false}
+use mathlib.Core.List.{List, [], _∷_, _++_, append-nil, reverse, reverse-append}
+use native.Mathlib.Omega.{arith}
+use native.Mathlib.Numerals.{add-one}
+use borrow.Author.Tests.{eq-eqb, ne-eqb, le-leb, lt-leb}
+use lib.Dec.{leb, eqb}
+use lib.ListN.{length, take, drop, take-append-drop, drop-of-length-le}
+use lib.Seq.{drop-drop, take-add, take-all}
+use Rattle.spec.specs.declared.Fields.{Fields}
+use Rattle.spec.specs.Base.{if_then_else_, only}
+use Rattle.spec.specs.Records.{Placed, instrBytes}
+use Rattle.spec.specs.Check.{placedOf}
+use Rattle.spec.specs.Write.{bytesOfAll, hasTag, sectionOf, sections, parametersIn, functions, moduleOrder}
+use Rattle.operand.specs.Log.{kept}
+use Rattle.assemble.specs.Spelled.{saidBy}
+use Rattle.assemble.specs.Placing.{GoodStores, instrsOf, oneAt, tagged, laterOf, lastTagged, functionPart, ordered, largest, Room, Wrote}
+use Rattle.assemble.proofs.Spell.{length-said}
+use Rattle.assemble.proofs.Stores.{At, one-is, stores-length}
+
+-- ONE INSTRUCTION
+
+module _ {ws log strings : List ℕ} {count i : ℕ} {f : Fields} (a : At ws log strings count i f) where
+  -- its bytes
+  at-bytes : instrBytes (saidBy log strings f .instr) ≡ bytesOfAll (oneAt (instrsOf ws log strings count) i)
+  unfolding bytesOfAll
+  at-bytes = sym (ap bytesOfAll (one-is a) ∙ append-nil (instrBytes (saidBy log strings f .instr)))
+
+  -- how many they are
+  at-length : length (bytesOfAll (oneAt (instrsOf ws log strings count) i)) ≡ 4 * f .words
+  at-length = ap length (sym at-bytes) ∙ length-said log strings f (a .sound)
+
+  -- there is room for it
+  pub one-room : {keep : Bool} {out : List ℕ} {at : ℕ} → Room keep out at (oneAt (instrsOf ws log strings count) i) → keep ≡ true → at + 4 * f .words ≤ length out
+  one-room r e = omega (arith, r .room e, at-length)
+
+  -- it is written
+  pub one-wrote : (keep : Bool) (out : List ℕ) (at r : ℕ) (out' : List ℕ) → r ≡ min (at + 4 * f .words) largest
+      → out' ≡ kept keep out at (instrBytes (saidBy log strings f .instr)) → Wrote keep out at (oneAt (instrsOf ws log strings count) i) r out'
+  one-wrote keep out at r out' p e = record {
+    place = p ∙ ap (λ (n : ℕ). min (at + n) largest) (sym at-length);
+    stored = e ∙ ap (kept keep out at) at-bytes;
+  }
+
+-- PARSE ORDER
+
+-- the instruction at an index, and those after it
+pub all-more : (is : List Placed) (i : ℕ) → drop i is ≡ oneAt is i ++ drop (i + 1) is
+unfolding oneAt
+all-more is i = sym (take-append-drop 1 (drop i is)) ∙ ap (λ (z : List Placed). take 1 (drop i is) ++ z) (drop-drop 1 i is)
+
+-- none after the last
+pub all-end : (ws log strings : List ℕ) (count : ℕ) → GoodStores ws log strings count → (i : ℕ) → count ≤ i → drop i (instrsOf ws log strings count) ≡ []
+all-end ws log strings count g i h = drop-of-length-le (instrsOf ws log strings count) {i = i} (omega (arith, stores-length ws log strings count g))
+
+-- A TAG
+
+-- those that pass of two lists
+only-append : {A : Type 0} (f : A → Bool) (xs ys : List A) → only f (xs ++ ys) ≡ only f xs ++ only f ys
+only-append f [] ys = refl
+only-append f (x ∷ xs) ys = only-first (f x) x (only f xs) (only f ys) (only f (xs ++ ys)) (only-append f xs ys)
+  where
+    -- by whether the first passes
+    only-first : {A : Type 0} (t : Bool) (x : A) (l m n : List A) → n ≡ l ++ m → (if t then x ∷ n else n) ≡ (if t then x ∷ l else l) ++ m
+    only-first true x l m n e = ap (λ (z : List _). x ∷ z) e
+    only-first false x l m n e = e
+
+-- those with a tag at an index, and those after it
+pub tagged-more : (t : ℕ) (is : List Placed) (i : ℕ) → tagged t (drop i is) ≡ tagged t (oneAt is i) ++ tagged t (drop (i + 1) is)
+unfolding tagged
+tagged-more t is i = ap (only (hasTag t)) (all-more is i) ∙ only-append (hasTag t) (oneAt is i) (drop (i + 1) is)
+
+-- none of none
+pub tagged-end : (t : ℕ) (is : List Placed) → is ≡ [] → tagged t is ≡ []
+unfolding tagged
+tagged-end t is e = ap (only (hasTag t)) e
+
+module _ {ws log strings : List ℕ} {count i : ℕ} {f : Fields} (a : At ws log strings count i f) (t : ℕ) where
+  -- the instruction has the tag or has not
+  tagged-by : (b : Bool) → eqb (f .tag) t ≡ b → tagged t (oneAt (instrsOf ws log strings count) i) ≡ (if b then oneAt (instrsOf ws log strings count) i else [])
+  unfolding tagged saidBy placedOf
+  tagged-by true e = ap (only (hasTag t)) (one-is a) ∙ rw e (sym (one-is a))
+  tagged-by false e = ap (only (hasTag t)) (one-is a) ∙ rw e
+
+  -- it has
+  pub tagged-yes : f .tag ≡ t → tagged t (oneAt (instrsOf ws log strings count) i) ≡ oneAt (instrsOf ws log strings count) i
+  tagged-yes e = tagged-by true (eq-eqb (f .tag) t e)
+
+  -- it has not
+  pub tagged-no : (f .tag ≡ t → ⊥) → tagged t (oneAt (instrsOf ws log strings count) i) ≡ []
+  tagged-no n = tagged-by false (ne-eqb (f .tag) t n)
+
+-- the later index is the one
+pub later-yes : (a t i k : ℕ) → a ≡ t → i ≡ laterOf (eqb a t) i k
+unfolding laterOf
+later-yes a t i k e = rw (eq-eqb a t e)
+
+-- or the one before
+pub later-no : (a t i k : ℕ) → (a ≡ t → ⊥) → k ≡ laterOf (eqb a t) i k
+unfolding laterOf
+later-no a t i k n = rw (ne-eqb a t n)
+
+-- neither is too large
+later-few : (b : Bool) (i k n : ℕ) → i ≤ n → k ≤ n → laterOf b i k ≤ n
+unfolding laterOf
+later-few true i k n h g = h
+later-few false i k n h g = g
+
+-- THE LAST WITH A TAG
+
+-- the last of some and one more
+last-more : (xs ys : List Placed) (p : Placed) → ys ≡ p ∷ [] → take 1 (reverse (xs ++ ys)) ≡ ys
+last-more xs ys p e =
+    ap (λ (z : List Placed). take 1 (reverse (xs ++ z))) e ∙ ap (take 1) (reverse-append xs (p ∷ [])) ∙ sym e
+
+-- those up to an index
+tagged-up : (t : ℕ) (is : List Placed) (i : ℕ) → tagged t (take (i + 1) is) ≡ tagged t (take i is) ++ tagged t (oneAt is i)
+unfolding tagged oneAt
+tagged-up t is i = ap (only (hasTag t)) (take-add i 1 is) ∙ only-append (hasTag t) (take i is) (take 1 (drop i is))
+
+-- the last with a tag up to an index stands at another, or nowhere
+pub record Found (ws log strings : List ℕ) (count t i last : ℕ) : Type 0 where
+  pub is : lastTagged t (take i (instrsOf ws log strings count)) ≡ oneAt (instrsOf ws log strings count) last
+  pub within : last ≤ count
+
+-- nowhere at first
+pub found-starts : (ws log strings : List ℕ) (count : ℕ) → GoodStores ws log strings count → (t : ℕ) → Found ws log strings count t 0 count
+unfolding lastTagged tagged oneAt
+found-starts ws log strings count g t = record { is = sym (ap (take 1) (all-end ws log strings count g count (omega arith))); within = omega arith }
+
+module _ {ws log strings : List ℕ} {count i : ℕ} {f : Fields} (a : At ws log strings count i f) (t k : ℕ) where
+  -- by whether it has the tag
+  found-by : (b : Bool) → eqb (f .tag) t ≡ b → lastTagged t (take i (instrsOf ws log strings count)) ≡ oneAt (instrsOf ws log strings count) k
+      → lastTagged t (take (i + 1) (instrsOf ws log strings count)) ≡ oneAt (instrsOf ws log strings count) (laterOf b i k)
+  unfolding lastTagged laterOf
+  found-by true e h =
+      let is = instrsOf ws log strings count in
+      ap (λ (z : List Placed). take 1 (reverse z)) (tagged-up t is i ∙ ap (λ (z : List Placed). tagged t (take i is) ++ z) (tagged-by a t true e))
+      ∙ last-more (tagged t (take i is)) (oneAt is i) (saidBy log strings f) (one-is a)
+  found-by false e h =
+      let is = instrsOf ws log strings count in
+      ap (λ (z : List Placed). take 1 (reverse z))
+      (tagged-up t is i ∙ ap (λ (z : List Placed). tagged t (take i is) ++ z) (tagged-by a t false e) ∙ append-nil (tagged t (take i is)))
+      ∙ h
+
+  -- one index further
+  pub found-goes-on : (r : ℕ) → r ≡ laterOf (eqb (f .tag) t) i k → i < count → Found ws log strings count t i k → Found ws log strings count t (i + 1) r
+  found-goes-on r e h g = record {
+    is = found-by (eqb (f .tag) t) refl (g .is) ∙ ap (oneAt (instrsOf ws log strings count)) (sym e);
+    within = omega (arith, e, later-few (eqb (f .tag) t) i k count (omega arith) (g .within));
+  }
+
+-- all are passed
+pub found-ends : (ws log strings : List ℕ) (count : ℕ) → GoodStores ws log strings count → (t i k : ℕ) → Found ws log strings count t i k → count ≤ i
+    → oneAt (instrsOf ws log strings count) k ≡ lastTagged t (instrsOf ws log strings count)
+found-ends ws log strings count g t i k e h =
+    sym (e .is) ∙ ap (lastTagged t) (take-all i (instrsOf ws log strings count) (omega (arith, stores-length ws log strings count g)))
+
+-- past the last index there is none
+pub one-none : (ws log strings : List ℕ) (count : ℕ) → GoodStores ws log strings count → (k : ℕ) → count ≤ k → oneAt (instrsOf ws log strings count) k ≡ []
+unfolding oneAt
+one-none ws log strings count g k h = ap (take 1) (all-end ws log strings count g k h)
+
+-- THE SECTIONS
+
+-- of MemoryModel the last
+pub section-last : (t : ℕ) (is : List Placed) → t ≡ 4 → sectionOf t is ≡ lastTagged t is
+unfolding sectionOf lastTagged tagged
+section-last t is e = simp (eq-eqb t 4 e)
+
+-- of any other all
+pub section-all : (t : ℕ) (is : List Placed) → (t ≡ 4 → ⊥) → sectionOf t is ≡ tagged t is
+unfolding sectionOf tagged
+section-all t is n = simp (ne-eqb t 4 n)
+
+-- so many sections from a tag on
+unfoldable pub sectionsFrom : ℕ → ℕ → List Placed → List Placed
+sectionsFrom zero t is = []
+sectionsFrom (suc n) t is = sectionOf t is ++ sectionsFrom n (suc t) is
+
+-- all of them
+pub sections-all : (is : List Placed) → sections is ≡ sectionsFrom (12 - 1) 1 is
+unfolding sections sectionsFrom
+sections-all is = refl
+
+-- the first, and those after it
+pub sections-more : (t : ℕ) (is : List Placed) → t < 12 → sectionsFrom (12 - t) t is ≡ sectionOf t is ++ sectionsFrom (12 - (t + 1)) (t + 1) is
+unfolding sectionsFrom
+sections-more t is h =
+    let q : 12 - t ≡ suc (12 - (t + 1)) = omega arith in
+    ap (λ (n : ℕ). sectionsFrom n t is) q ∙ ap (λ (k : ℕ). sectionOf t is ++ sectionsFrom (12 - (t + 1)) k is) (sym (add-one t))
+
+-- none after the last
+pub sections-end : (t : ℕ) (is : List Placed) → 12 ≤ t → sectionsFrom (12 - t) t is ≡ []
+unfolding sectionsFrom
+sections-end t is h =
+    let q : 12 - t ≡ 0 = omega arith in
+    ap (λ (n : ℕ). sectionsFrom n t is) q
+
+-- THE FUNCTIONS
+
+-- no parameters of none
+pub parameters-end : (is : List Placed) → is ≡ [] → parametersIn is ≡ []
+unfolding parametersIn
+parameters-end is e = ap parametersIn e
+
+-- what the functions have first, and after it
+part-pick : (b c : Bool) (p : Placed) (ps more : List Placed)
+    → (if b then p ∷ ps ++ more else if c then p ∷ more else more) ≡ (if b then p ∷ ps else if c then p ∷ [] else []) ++ more
+part-pick true c p ps more = refl
+part-pick false true p ps more = refl
+part-pick false false p ps more = refl
+
+-- none of none
+pub functions-end : (is : List Placed) → is ≡ [] → functions is ≡ []
+unfolding functions
+functions-end is e = ap functions e
+
+-- parameters, by the tests of the first instruction
+parameters-pick : (b c : Bool) (p : Placed) (more : List Placed) → b ≡ false
+    → (if b then [] else if c then p ∷ more else more) ≡ (if c then p ∷ [] else []) ++ more
+parameters-pick true c p more e = let z : _≡_ {A = ℕ} 0 1 = cc in absurd (omega arith)
+parameters-pick false true p more e = refl
+parameters-pick false false p more e = refl
+
+module _ {ws log strings : List ℕ} {count i : ℕ} {f : Fields} (a : At ws log strings count i f) where
+  -- an end: no parameters
+  pub parameters-none : f .tag ≡ 16 → parametersIn (drop i (instrsOf ws log strings count)) ≡ []
+  unfolding parametersIn saidBy placedOf
+  parameters-none e = ap parametersIn (a .next) ∙ rw (eq-eqb (f .tag) 16 e)
+
+  -- no end: a parameter or not, and those after it
+  pub parameters-more : (f .tag ≡ 16 → ⊥)
+      → parametersIn (drop i (instrsOf ws log strings count))
+      ≡ tagged 13 (oneAt (instrsOf ws log strings count) i) ++ parametersIn (drop (i + 1) (instrsOf ws log strings count))
+  unfolding parametersIn tagged saidBy placedOf
+  parameters-more n =
+      ap parametersIn (a .next)
+      ∙ parameters-pick (eqb (f .tag) 16) (eqb (f .tag) 13) (saidBy log strings f) (parametersIn (drop (i + 1) (instrsOf ws log strings count))) (ne-eqb (f .tag) 16 n)
+      ∙ ap (λ (z : List Placed). tagged 13 z ++ parametersIn (drop (i + 1) (instrsOf ws log strings count))) (sym (one-is a))
+
+  -- what the functions have at an index, and after it
+  pub functions-more : functions (drop i (instrsOf ws log strings count))
+      ≡ functionPart (drop i (instrsOf ws log strings count)) ++ functions (drop (i + 1) (instrsOf ws log strings count))
+  unfolding functions functionPart
+  functions-more =
+      ap functions (a .next)
+      ∙ part-pick (hasTag 12 (saidBy log strings f)) (leb 14 (saidBy log strings f .tag)) (saidBy log strings f) (parametersIn (drop (i + 1) (instrsOf ws log strings count))) (functions (drop (i + 1) (instrsOf ws log strings count)))
+      ∙ ap (λ (z : List Placed). functionPart z ++ functions (drop (i + 1) (instrsOf ws log strings count))) (sym (a .next))
+
+  -- a definition
+  pub part-definition : f .tag ≡ 12 → functionPart (drop i (instrsOf ws log strings count))
+      ≡ oneAt (instrsOf ws log strings count) i ++ parametersIn (drop (i + 1) (instrsOf ws log strings count))
+  unfolding functionPart saidBy placedOf
+  part-definition e =
+      ap functionPart (a .next) ∙ simp (eq-eqb (f .tag) 12 e)
+      (ap (λ (z : List Placed). z ++ parametersIn (drop (i + 1) (instrsOf ws log strings count))) (sym (one-is a)))
+
+  -- what comes as it is
+  pub part-one : (f .tag ≡ 12 → ⊥) → 14 ≤ f .tag → functionPart (drop i (instrsOf ws log strings count)) ≡ oneAt (instrsOf ws log strings count) i
+  unfolding functionPart saidBy placedOf
+  part-one n h = ap functionPart (a .next) ∙ simp (ne-eqb (f .tag) 12 n, le-leb 14 (f .tag) h) (sym (one-is a))
+
+  -- nothing
+  pub part-none : (f .tag ≡ 12 → ⊥) → f .tag < 14 → functionPart (drop i (instrsOf ws log strings count)) ≡ []
+  unfolding functionPart saidBy placedOf
+  part-none n h = ap functionPart (a .next) ∙ simp (ne-eqb (f .tag) 12 n, lt-leb 14 (f .tag) h)
+
+-- THE ORDER
+
+-- sections and functions
+pub module-is : (is : List Placed) → moduleOrder is ≡ sections is ++ functions is
+unfolding moduleOrder
+module-is is = refl
+
+-- module order
+pub ordered-whole : (whole : Bool) (is : List Placed) → whole ≡ true → ordered whole is ≡ moduleOrder is
+unfolding ordered
+ordered-whole whole is e = rw e
+
+-- as read
+pub ordered-read : (whole : Bool) (is : List Placed) → whole ≡ false → ordered whole is ≡ is
+unfolding ordered
+ordered-read whole is e = rw e

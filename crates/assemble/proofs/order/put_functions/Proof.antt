@@ -1,0 +1,54 @@
+-- `assemble::order::put_functions` meets its contract: what some instructions add is placed, and the rest is known.
+-- Assumes nothing.
+use native.Mathlib.Omega.{arith}
+use Prim.Native.Nat.{_-_}
+use lib.ListN.{drop}
+use mathlib.Core.Path.{refl}
+use Rattle.spec.specs.Write.{functions}
+use Rattle.assemble.specs.Placing.{instrsOf}
+use Rattle.assemble.proofs.Orders.{all-end, functions-more, functions-end}
+use Rattle.assemble.proofs.Place.{Going, going-starts, going-length, going-ends, going-room, going-on}
+use Rattle.assemble.proofs.Stores.{stores-at}
+use Rattle.assemble.proofs.order.put_functions.Statement.{statement}
+use Rattle.assemble.proofs.order.put_functions.Tie as tie
+
+abbrev Inv-loop : tie.InvT-loop
+Inv-loop instructions log strings count out₀ start keep i₀ at₀ out i at = Going keep out₀ start (functions (instrsOf instructions log strings count)) (functions (drop i (instrsOf instructions log strings count))) at out
+
+abbrev μ-loop : tie.MeasureT-loop
+μ-loop instructions log strings count out₀ start keep i₀ at₀ out i at = count - i
+
+loop-holds : tie.Need-loop-holds Inv-loop μ-loop
+loop-holds c = going-starts _ _ _ _ (omega arith) (c .before .before .before .before .pre .1)
+
+put-part-requires : tie.Need-put-part-requires Inv-loop μ-loop
+put-part-requires c κs = (c .before .before .before .before .before .before .before .pre .0, (c .before .loop-test .taken, going-room (c .before .before .loop .inv) _ _ (functions-more (stores-at _ _ _ _ (c .before .before .before .before .before .before .before .pre .0) _ (c .before .loop-test .taken) _ refl))))
+
+add-i : tie.Need-add-i Inv-loop μ-loop
+add-i c = omega arith
+
+loop-less : tie.Need-loop-less Inv-loop μ-loop
+loop-less c = omega arith
+
+loop-again : tie.Need-loop-again Inv-loop μ-loop
+loop-again c = going-on (c .before .before .before .before .before .loop .inv) _ _ (functions-more (stores-at _ _ _ _ (c .before .before .before .before .before .before .before .before .before .before .pre .0) _ (c .before .before .before .before .loop-test .taken) _ refl)) (c .before .before .put-part .ensures)
+
+same-length : tie.Need-same-length Inv-loop μ-loop
+same-length c = going-length (c .before .loop .inv)
+
+returns : tie.Need-returns Inv-loop μ-loop
+returns c = going-ends (c .before .loop .inv) (functions-end _ (all-end _ _ _ _ (c .before .before .before .before .before .before .pre .0) _ (c .loop-test .left)))
+
+pub put-functions-spec : {M : Type 1} → statement M
+put-functions-spec =
+    tie.close
+    (tie.spec
+    Inv-loop
+    μ-loop
+    loop-holds
+    put-part-requires
+    add-i
+    loop-less
+    loop-again
+    same-length
+    returns)

@@ -1,0 +1,59 @@
+-- `assemble::order::put_last` meets its contract: the last with the tag up to an index, then that one is placed.
+-- Assumes nothing.
+use native.Mathlib.Omega.{arith}
+use Prim.Native.Nat.{_-_}
+use mathlib.Core.Path.{refl, sym, _∙_}
+use Rattle.assemble.proofs.Place.{room-as, wrote-as, wrote-none, wrote-length}
+use Rattle.assemble.proofs.Orders.{Found, found-starts, found-goes-on, found-ends, one-none}
+use Rattle.assemble.proofs.Stores.{stores-at, stores-in}
+use Rattle.assemble.proofs.order.put_last.Statement.{statement}
+use Rattle.assemble.proofs.order.put_last.Tie as tie
+
+abbrev Inv-loop : tie.InvT-loop
+Inv-loop instructions log strings count tag out at keep last₀ k₀ last k = Found instructions log strings count tag k last
+
+abbrev μ-loop : tie.MeasureT-loop
+μ-loop instructions log strings count tag out at keep last₀ k₀ last k = count - k
+
+loop-holds : tie.Need-loop-holds Inv-loop μ-loop
+loop-holds c = found-starts _ _ _ _ (c .before .before .before .before .pre .0) _
+
+later-requires : tie.Need-later-requires Inv-loop μ-loop
+later-requires c κs = stores-in _ _ _ _ (c .before .before .before .before .before .before .pre .0) _ (omega (arith, c .before .loop .inv .within))
+
+add-k : tie.Need-add-k Inv-loop μ-loop
+add-k c = omega (arith, c .before .before .loop .inv .within)
+
+loop-less : tie.Need-loop-less Inv-loop μ-loop
+loop-less c = omega (arith, c .before .before .loop .inv .within)
+
+loop-again : tie.Need-loop-again Inv-loop μ-loop
+loop-again c = found-goes-on (stores-at _ _ _ _ (c .before .before .before .before .before .before .before .pre .0) (c .before .before .loop .k) (omega (arith, c .before .before .loop .inv .within)) _ refl) _ _ _ (c .later .ensures) (omega (arith, c .before .before .loop .inv .within)) (c .before .before .loop .inv)
+
+put-one-requires : tie.Need-put-one-requires Inv-loop μ-loop
+put-one-requires c κs = (c .before .before .before .before .before .before .before .before .pre .0, (c .before .if1 .taken, room-as _ _ (sym (found-ends _ _ _ _ (c .before .before .before .before .before .before .before .before .pre .0) _ _ _ (c .before .before .before .loop .inv) (c .before .before .loop-test .left))) (c .before .before .before .before .before .before .before .before .pre .1)))
+
+same-length : tie.Need-same-length Inv-loop μ-loop
+same-length c = wrote-length (c .before .before .put-one .ensures)
+
+returns : tie.Need-returns Inv-loop μ-loop
+returns c = wrote-as _ _ (found-ends _ _ _ _ (c .before .before .before .before .before .before .before .before .before .before .before .pre .0) _ _ _ (c .before .before .before .before .before .before .loop .inv) (c .before .before .before .before .before .loop-test .left)) (c .before .before .put-one .ensures)
+
+returns-2 : tie.Need-returns-2 Inv-loop μ-loop
+returns-2 c = wrote-as _ _ (sym (one-none _ _ _ _ (c .before .before .before .before .before .before .before .pre .0) _ (c .if1 .left)) ∙ found-ends _ _ _ _ (c .before .before .before .before .before .before .before .pre .0) _ _ _ (c .before .before .loop .inv) (c .before .loop-test .left)) (wrote-none _ _ _ (omega arith))
+
+pub put-last-spec : {M : Type 1} → statement M
+put-last-spec =
+    tie.close
+    (tie.spec
+    Inv-loop
+    μ-loop
+    loop-holds
+    later-requires
+    add-k
+    loop-less
+    loop-again
+    put-one-requires
+    same-length
+    returns
+    returns-2)

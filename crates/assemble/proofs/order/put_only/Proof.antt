@@ -1,0 +1,51 @@
+-- `assemble::order::put_only` meets its contract: some of those with the tag are placed, and the rest is known.
+-- Assumes nothing.
+use native.Mathlib.Omega.{arith}
+use Prim.Native.Nat.{_-_}
+use lib.ListN.{drop}
+use Rattle.assemble.specs.Placing.{instrsOf, tagged}
+use Rattle.assemble.proofs.Orders.{all-end, tagged-more, tagged-end}
+use Rattle.assemble.proofs.Place.{Going, going-starts, going-length, going-ends, going-room, going-on}
+use Rattle.assemble.proofs.order.put_only.Statement.{statement}
+use Rattle.assemble.proofs.order.put_only.Tie as tie
+
+abbrev Inv-loop : tie.InvT-loop
+Inv-loop instructions log strings count tag out₀ start keep i₀ at₀ out i at = Going keep out₀ start (tagged tag (instrsOf instructions log strings count)) (tagged tag (drop i (instrsOf instructions log strings count))) at out
+
+abbrev μ-loop : tie.MeasureT-loop
+μ-loop instructions log strings count tag out₀ start keep i₀ at₀ out i at = count - i
+
+loop-holds : tie.Need-loop-holds Inv-loop μ-loop
+loop-holds c = going-starts _ _ _ _ (omega arith) (c .before .before .before .before .pre .1)
+
+put-tagged-requires : tie.Need-put-tagged-requires Inv-loop μ-loop
+put-tagged-requires c κs = (c .before .before .before .before .before .before .before .pre .0, (c .before .loop-test .taken, going-room (c .before .before .loop .inv) _ _ (tagged-more _ _ _)))
+
+add-i : tie.Need-add-i Inv-loop μ-loop
+add-i c = omega arith
+
+loop-less : tie.Need-loop-less Inv-loop μ-loop
+loop-less c = omega arith
+
+loop-again : tie.Need-loop-again Inv-loop μ-loop
+loop-again c = going-on (c .before .before .before .before .before .loop .inv) _ _ (tagged-more _ _ _) (c .before .before .put-tagged .ensures)
+
+same-length : tie.Need-same-length Inv-loop μ-loop
+same-length c = going-length (c .before .loop .inv)
+
+returns : tie.Need-returns Inv-loop μ-loop
+returns c = going-ends (c .before .loop .inv) (tagged-end _ _ (all-end _ _ _ _ (c .before .before .before .before .before .before .pre .0) _ (c .loop-test .left)))
+
+pub put-only-spec : {M : Type 1} → statement M
+put-only-spec =
+    tie.close
+    (tie.spec
+    Inv-loop
+    μ-loop
+    loop-holds
+    put-tagged-requires
+    add-i
+    loop-less
+    loop-again
+    same-length
+    returns)

@@ -1,0 +1,47 @@
+-- `assemble::order::put_part` meets its contract: by the tag.
+-- Assumes nothing.
+use native.Mathlib.Omega.{arith}
+use mathlib.Core.Path.{sym}
+use Rattle.assemble.proofs.Place.{room-as, wrote-as, wrote-none}
+use Rattle.assemble.proofs.Orders.{part-definition, part-one, part-none}
+use Rattle.assemble.proofs.Stores.{stores-at, stores-in}
+use borrow.Author.Needs.{needs}
+use Rattle.assemble.proofs.order.put_part.Statement.{statement}
+use Rattle.assemble.proofs.order.put_part.Tie as tie
+
+record-at-requires : tie.Need-record-at-requires
+record-at-requires c κs = stores-in _ _ _ _ (c .before .before .before .before .pre .0) _ (c .before .before .before .before .pre .1 .0)
+
+put-definition-requires : tie.Need-put-definition-requires
+put-definition-requires c κs = (c .before .before .before .before .before .before .before .before .pre .0, (c .before .before .before .before .before .before .before .before .pre .1 .0, room-as _ _ (part-definition (stores-at _ _ _ _ (c .before .before .before .before .before .before .before .before .pre .0) _ (c .before .before .before .before .before .before .before .before .pre .1 .0) _ (c .before .before .before .record-at .ensures)) (c .before .if1 .taken)) (c .before .before .before .before .before .before .before .before .pre .1 .1)))
+
+same-length : tie.Need-same-length
+same-length c = search needs
+
+returns : tie.Need-returns
+returns c = wrote-as _ _ (sym (part-definition (stores-at _ _ _ _ (c .before .before .before .before .before .before .before .before .before .before .before .pre .0) _ (c .before .before .before .before .before .before .before .before .before .before .before .pre .1 .0) _ (c .before .before .before .before .before .before .record-at .ensures)) (c .before .before .before .before .if1 .taken))) (c .before .before .put-definition .ensures)
+
+put-one-requires : tie.Need-put-one-requires
+put-one-requires c κs = (c .before .before .before .before .before .before .before .before .before .before .pre .0, (c .before .before .before .before .before .before .before .before .before .before .pre .1 .0, room-as _ _ (part-one (stores-at _ _ _ _ (c .before .before .before .before .before .before .before .before .before .before .pre .0) _ (c .before .before .before .before .before .before .before .before .before .before .pre .1 .0) _ (c .before .before .before .before .before .record-at .ensures)) (c .before .before .before .if1 .left) (c .before .if2 .taken)) (c .before .before .before .before .before .before .before .before .before .before .pre .1 .1)))
+
+same-length-2 : tie.Need-same-length-2
+same-length-2 c = search needs
+
+returns-2 : tie.Need-returns-2
+returns-2 c = wrote-as _ _ (sym (part-one (stores-at _ _ _ _ (c .before .before .before .before .before .before .before .before .before .before .before .before .before .pre .0) _ (c .before .before .before .before .before .before .before .before .before .before .before .before .before .pre .1 .0) _ (c .before .before .before .before .before .before .before .before .record-at .ensures)) (c .before .before .before .before .before .before .if1 .left) (c .before .before .before .before .if2 .taken))) (c .before .before .put-one .ensures)
+
+returns-3 : tie.Need-returns-3
+returns-3 c = wrote-as _ _ (sym (part-none (stores-at _ _ _ _ (c .before .before .before .before .before .before .before .before .before .pre .0) _ (c .before .before .before .before .before .before .before .before .before .pre .1 .0) _ (c .before .before .before .before .record-at .ensures)) (c .before .before .if1 .left) (c .if2 .left))) (wrote-none _ _ _ (omega arith))
+
+pub put-part-spec : {M : Type 1} → statement M
+put-part-spec =
+    tie.close
+    (tie.spec
+    record-at-requires
+    put-definition-requires
+    same-length
+    returns
+    put-one-requires
+    same-length-2
+    returns-2
+    returns-3)

@@ -1,0 +1,51 @@
+-- `assemble::order::put_sections` meets its contract: some sections are placed, and the rest is known.
+-- Assumes nothing.
+use native.Mathlib.Omega.{arith}
+use Prim.Native.Nat.{_-_}
+use Rattle.spec.specs.Write.{sections}
+use Rattle.assemble.specs.Placing.{instrsOf}
+use Rattle.assemble.proofs.Orders.{sectionsFrom, sections-all, sections-more, sections-end}
+use Rattle.assemble.proofs.Place.{Going, going-starts, going-as, going-length, going-ends, going-room, going-on}
+use Rattle.assemble.proofs.order.put_sections.Statement.{statement}
+use Rattle.assemble.proofs.order.put_sections.Tie as tie
+
+abbrev Inv-loop : tie.InvT-loop
+Inv-loop instructions log strings count out₀ start keep tag₀ at₀ out tag at = Going keep out₀ start (sections (instrsOf instructions log strings count)) (sectionsFrom (12 - tag) tag (instrsOf instructions log strings count)) at out
+
+abbrev μ-loop : tie.MeasureT-loop
+μ-loop instructions log strings count out₀ start keep tag₀ at₀ out tag at = 12 - tag
+
+loop-holds : tie.Need-loop-holds Inv-loop μ-loop
+loop-holds c = going-as (going-starts _ _ (c .before .before .before .before .args .start) _ (omega arith) (c .before .before .before .before .pre .1)) (sections-all _)
+
+put-section-requires : tie.Need-put-section-requires Inv-loop μ-loop
+put-section-requires c κs = (c .before .before .before .before .before .before .before .pre .0, going-room (c .before .before .loop .inv) _ _ (sections-more _ _ (c .before .loop-test .taken)))
+
+add-tag : tie.Need-add-tag Inv-loop μ-loop
+add-tag c = omega arith
+
+loop-less : tie.Need-loop-less Inv-loop μ-loop
+loop-less c = omega arith
+
+loop-again : tie.Need-loop-again Inv-loop μ-loop
+loop-again c = going-on (c .before .before .before .before .before .loop .inv) _ _ (sections-more _ _ (c .before .before .before .before .loop-test .taken)) (c .before .before .put-section .ensures)
+
+same-length : tie.Need-same-length Inv-loop μ-loop
+same-length c = going-length (c .before .loop .inv)
+
+returns : tie.Need-returns Inv-loop μ-loop
+returns c = going-ends (c .before .loop .inv) (sections-end _ _ (c .loop-test .left))
+
+pub put-sections-spec : {M : Type 1} → statement M
+put-sections-spec =
+    tie.close
+    (tie.spec
+    Inv-loop
+    μ-loop
+    loop-holds
+    put-section-requires
+    add-tag
+    loop-less
+    loop-again
+    same-length
+    returns)

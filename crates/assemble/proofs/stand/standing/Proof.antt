@@ -1,0 +1,77 @@
+-- `assemble::stand::standing` meets its contract: where some records are passed, all stand where those that are left stand after them.
+-- Assumes nothing.
+use Rattle.records.specs.Steps.{given}
+use Rattle.assemble.proofs.StandLaws.{Passing, stands-bad, pass-starts, in-store, pass-stops, pass-goes-on, pass-ends}
+use native.Mathlib.Omega.{arith}
+use borrow.Author.Needs.{needs}
+use borrow.Author.Tests.{not-true, not-false}
+use mathlib.Core.Path.{sym, _∙_}
+use Prim.Native.Nat.{_-_}
+use Rattle.assemble.proofs.stand.standing.Statement.{statement}
+use Rattle.assemble.proofs.stand.standing.Tie as tie
+
+abbrev Inv-loop : tie.InvT-loop
+Inv-loop instructions log strings instruction-count log-count string-count o₀ i₀ o i =
+    Passing (given instructions log strings instruction-count log-count string-count) o i
+
+abbrev μ-loop : tie.MeasureT-loop
+μ-loop instructions log strings instruction-count log-count string-count o₀ i₀ o i = instruction-count - i
+
+check-requires : tie.Need-check-requires Inv-loop μ-loop
+check-requires c κs = search needs
+
+enum-known-checked : tie.Need-enum-known-checked Inv-loop μ-loop
+enum-known-checked c = search needs
+
+returns : tie.Need-returns Inv-loop μ-loop
+returns c = stands-bad _ _ _ (c .before .before .before .check .ensures) (c .before .checked .given .1)
+
+enum-told : tie.Need-enum-told Inv-loop μ-loop
+enum-told c = search needs
+
+loop-holds : tie.Need-loop-holds Inv-loop μ-loop
+loop-holds c = pass-starts _ _ (c .before .before .check .ensures) (c .enum-told .given .1)
+
+record-at-requires : tie.Need-record-at-requires Inv-loop μ-loop
+record-at-requires c κs = in-store (c .before .loop .inv) (c .loop-test .taken)
+
+may-come-requires : tie.Need-may-come-requires Inv-loop μ-loop
+may-come-requires c κs = search needs
+
+returns-2 : tie.Need-returns-2 Inv-loop μ-loop
+returns-2 c = pass-stops (c .before .before .before .before .loop .inv) (c .before .before .before .loop-test .taken) _ (c .before .before .record-at .ensures) (sym (c .before .may-come .ensures) ∙ not-true _ (c .if1 .taken))
+
+order-after-requires : tie.Need-order-after-requires Inv-loop μ-loop
+order-after-requires c κs = search needs
+
+add-i : tie.Need-add-i Inv-loop μ-loop
+add-i c = omega arith
+
+loop-less : tie.Need-loop-less Inv-loop μ-loop
+loop-less c = omega arith
+
+loop-again : tie.Need-loop-again Inv-loop μ-loop
+loop-again c = pass-goes-on (c .before .before .before .before .before .loop .inv) (c .before .before .before .before .loop-test .taken) _ (c .before .before .before .record-at .ensures) (sym (c .before .before .may-come .ensures) ∙ not-false _ (c .before .if1 .left)) _ (c .order-after .ensures)
+
+returns-3 : tie.Need-returns-3 Inv-loop μ-loop
+returns-3 c = pass-ends (c .before .loop .inv) (c .loop-test .left)
+
+pub standing-spec : {M : Type 1} → statement M
+standing-spec =
+    tie.close
+    (tie.spec
+    Inv-loop
+    μ-loop
+    check-requires
+    enum-known-checked
+    returns
+    enum-told
+    loop-holds
+    record-at-requires
+    may-come-requires
+    returns-2
+    order-after-requires
+    add-i
+    loop-less
+    loop-again
+    returns-3)

@@ -1,0 +1,30 @@
+-- Standing as one pass over the tags.
+use Prim.Native.Nat.{ℕ}
+use mathlib.Core.Bool.{Bool, not, _&&_, _||_}
+use mathlib.Core.List.{List}
+use lib.Dec.{leb, eqb}
+use lib.ListN.{length}
+use Rattle.spec.specs.Base.{if_then_else_, only}
+use Rattle.spec.specs.Records.{Placed}
+use Rattle.spec.specs.Write.{hasTag, neverFalls, parametersFirst}
+use Rattle.assemble.specs.declared.stand.Order.{Order}
+
+-- a tag that may come: a section's that does not fall, or a function's; no parameter after a label; no second MemoryModel
+unfoldable pub mayCome : Order → ℕ → Bool
+mayCome o t = (leb 12 t || leb (o .before) t) && not (eqb t 13 && o .label) && not (eqb t 4 && o .model)
+
+-- where the pass is after a tag
+unfoldable pub orderAfter : Order → ℕ → Order
+orderAfter o t =
+    record {
+      before = if leb t 11 then t else 12;
+      label = not (eqb t 12) && (o .label || eqb t 14);
+      model = o .model || eqb t 4;
+    }
+
+-- whether the instructions that are left stand: tags go on from the one before, a label may have come, and one MemoryModel less may
+-- come where one came
+unfoldable pub standsAfter : Order → List Placed → Bool
+standsAfter o is =
+    neverFalls (o .before) is && parametersFirst (o .label) is
+    && leb (length (only (hasTag 4) is)) (if o .model then 0 else 1)

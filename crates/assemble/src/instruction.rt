@@ -1,0 +1,137 @@
+// One instruction as bytes: its first word, its result words, its operands.
+ghost use mathlib.Core.Path.{_≡_};
+ghost use mathlib.Core.Bool.{true};
+ghost use Prim.Native.Nat.{_+_, _*_, _≤_};
+ghost use lib.ListN.{length, replicate};
+ghost use lib.Seq.{sets};
+ghost use Rattle.spec.specs.Base.{joined};
+ghost use Rattle.spec.specs.Text.{padded};
+ghost use Rattle.spec.specs.Records.{idBytes, operandBytes, instrBytes};
+ghost use Rattle.spec.specs.Check.{fieldIn};
+ghost use Rattle.records.specs.Good.{operandAt};
+ghost use Rattle.records.specs.Steps.{wordIf, resultWords};
+ghost use Rattle.assemble.specs.Spelled.{Readable, operandAfter, operandsFrom, AllReadable, headBytes, saidBy, Sound};
+use operand::is_two;
+use operand::keep_bytes;
+use operand::put_word;
+use spec::Fields;
+
+// OPERANDS
+
+// So many zero bytes, stored at a place.
+fn put_zeros(out: &mut [u8], at: usize, n: usize)
+    requires { ⌜ at + n ≤ length (now out) ⌝ }
+    ensures { λ _. ⌜ now (out .exit) ≡ sets (now (out .entry)) at (replicate n 0) ⌝ }
+{
+    let mut i = 0;
+    while i < n {
+        out[at + i] = 0;
+        i += 1;
+    }
+}
+
+// A string: its bytes, its zero, and zeros to the end of the last word.
+fn put_text(out: &mut [u8], s: &[u8]) -> usize
+    requires { ⌜ length (padded (now s)) ≤ length (now out) ⌝ }
+    ensures { λ r. ⌜ r ≡ length (padded (now (s .entry))) ⌝ }
+    ensures { λ _. ⌜ now (out .exit) ≡ sets (now (out .entry)) 0 (padded (now (s .entry))) ⌝ }
+{
+    let n = s.len();
+    let zeros = 4 - n % 4;
+    keep_bytes(out, 0, s, true);
+    put_zeros(out, n, zeros);
+    n + zeros
+}
+
+// The operand at a place of the log: one word, two words or a string.
+fn put_operand(log: &[u8], strings: &[u8], a: usize, out: &mut [u8]) -> usize
+    requires { ⌜ Readable (now log) (now strings) a ⌝ }
+    requires { ⌜ length (operandBytes (operandAt (now log) (now strings) a)) ≤ length (now out) ⌝ }
+    ensures { λ r. ⌜ r ≡ length (operandBytes (operandAt (now (log .entry)) (now (strings .entry)) a)) ⌝ }
+    ensures { λ _. ⌜ now (out .exit) ≡ sets (now (out .entry)) 0 (operandBytes (operandAt (now (log .entry)) (now (strings .entry)) a)) ⌝ }
+{
+    let kind = log[a];
+    let low = decoder::word_at(log, a + 1);
+    if !is_two(kind) {
+        put_word(out, 0, low);
+        return 4;
+    }
+    let high = decoder::word_at(log, a + 5);
+    if kind == 40 {
+        let start = low as usize;
+        let end = start + (high as usize);
+        return put_text(out, &strings[start..end]);
+    }
+    put_word(out, 0, low);
+    put_word(out, 4, high);
+    8
+}
+
+// The place of the log after the operand at a place.
+fn operand_after(log: &[u8], a: usize) -> usize
+    requires { ⌜ a + 5 ≤ length (now log) ⌝ }
+    ensures { λ r. ⌜ r ≡ operandAfter (now (log .entry)) a ⌝ }
+{
+    if is_two(log[a]) {
+        return a + 9;
+    }
+    a + 5
+}
+
+// So many operands from a place of the log on, each into the rest of the output.
+fn put_operands(log: &[u8], strings: &[u8], count: usize, start: usize, out: &mut [u8])
+    requires { ⌜ AllReadable count (now log) (now strings) start ⌝ }
+    requires { ⌜ length (joined operandBytes (operandsFrom count (now log) (now strings) start)) ≤ length (now out) ⌝ }
+    ensures { λ _. ⌜ now (out .exit) ≡ sets (now (out .entry)) 0 (joined operandBytes (operandsFrom count (now (log .entry)) (now (strings .entry)) start)) ⌝ }
+{
+    let mut i = 0;
+    let mut a = start;
+    let mut at = 0;
+    while i < count {
+        let n = put_operand(log, strings, a, &mut out[at..]);
+        at += n;
+        a = operand_after(log, a);
+        i += 1;
+    }
+}
+
+// THE INSTRUCTION
+
+// A result word that is there, stored at a place: the place after it.
+fn put_result(out: &mut [u8], at: usize, word: u32, there: bool) -> usize
+    requires { ⌜ at ≤ 8 ⌝ }
+    requires { ⌜ at + 4 * wordIf there ≤ length (now out) ⌝ }
+    ensures { λ r. ⌜ r ≡ at + 4 * wordIf there ⌝ }
+    ensures { λ _. ⌜ now (out .exit) ≡ sets (now (out .entry)) at (idBytes (fieldIn there word)) ⌝ }
+{
+    if there {
+        put_word(out, at, word);
+        return at + 4;
+    }
+    at
+}
+
+// First word and result words: how many bytes they are.
+fn put_head(f: Fields, out: &mut [u8]) -> usize
+    requires { ⌜ f .words ≤ 65535 ⌝ }
+    requires { ⌜ 4 + 4 * resultWords f ≤ length (now out) ⌝ }
+    ensures { λ r. ⌜ r ≡ 4 + 4 * resultWords f ⌝ }
+    ensures { λ _. ⌜ now (out .exit) ≡ sets (now (out .entry)) 0 (headBytes f) ⌝ }
+{
+    let bits = f.head / 65536;
+    put_word(out, 0, f.head % 65536 + 65536 * f.words);
+    let at = put_result(out, 4, f.rtype, bits % 2 == 1);
+    put_result(out, at, f.rid, 2 <= bits)
+}
+
+// The instruction of a record, at the start of the output.
+pub fn put_instruction(log: &[u8], strings: &[u8], f: Fields, out: &mut [u8])
+    requires { ⌜ Sound (now log) (now strings) f ⌝ }
+    requires { ⌜ 4 * f .words ≤ length (now out) ⌝ }
+    ensures { λ _. ⌜ now (out .exit) ≡ sets (now (out .entry)) 0 (instrBytes (saidBy (now (log .entry)) (now (strings .entry)) f .instr)) ⌝ }
+{
+    let at = put_head(f, out);
+    let count = f.count as usize;
+    let start = f.start as usize;
+    put_operands(log, strings, count, start, &mut out[at..]);
+}

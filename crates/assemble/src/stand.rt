@@ -1,0 +1,95 @@
+// Whether a module is standing: tags 1 to 11 come first and never fall, no parameter follows a label in its function, and tag 4
+// occurs at most once.
+ghost use mathlib.Core.Path.{_≡_};
+ghost use Rattle.spec.specs.Write.{standing as standingOf};
+ghost use Rattle.records.specs.Steps.{given};
+ghost use Rattle.assemble.specs.Stand.{mayCome, orderAfter};
+use records::Checked;
+use spec::Stands;
+
+// Where a pass over the tags is: the tag before, 12 after the first instruction of a function; whether a label came in the
+// function; whether a MemoryModel came.
+struct Order {
+    before: u32,
+    label: bool,
+    model: bool,
+}
+
+// Whether a tag may come there.
+fn may_come(o: Order, tag: u32) -> bool
+    ensures { λ r. ⌜ r ≡ mayCome o tag ⌝ }
+{
+    ((12 <= tag) | (o.before <= tag)) & !((tag == 13) & o.label) & !((tag == 4) & o.model)
+}
+
+// Where the pass is after a tag.
+fn order_after(o: Order, tag: u32) -> Order
+    ensures { λ r. ⌜ r ≡ orderAfter o tag ⌝ }
+{
+    let label = !(tag == 12) & (o.label | (tag == 14));
+    let model = o.model | (tag == 4);
+    if tag <= 11 {
+        return Order {
+            before: tag,
+            label,
+            model,
+        };
+    }
+    Order {
+        before: 12,
+        label,
+        model,
+    }
+}
+
+// Whether the records are those of a standing module: a yes or no, or 30 with the index of the first bad record.
+pub fn standing(
+    instructions: &[u32],
+    log: &[u8],
+    strings: &[u8],
+    instruction_count: usize,
+    log_count: usize,
+    string_count: usize,
+) -> Stands
+    ensures { λ r. ⌜ r ≡ standingOf (given (now (instructions .entry)) (now (log .entry)) (now (strings .entry)) «instruction_count» «log_count» «string_count») ⌝ }
+{
+    let checked = records::check(
+        true,
+        instructions,
+        log,
+        strings,
+        instruction_count,
+        log_count,
+        string_count,
+    );
+    if let Checked::Bad(index) = checked {
+        return Stands {
+            number: 30,
+            index,
+            yes: false,
+        };
+    }
+    let mut o = Order {
+        before: 0,
+        label: false,
+        model: false,
+    };
+    let mut i = 0;
+    while i < instruction_count {
+        let f = records::record_at(instructions, i);
+        if !may_come(o, f.tag) {
+            return Stands {
+                number: 0,
+                index: 0,
+                yes: false,
+            };
+        }
+        o = order_after(o, f.tag);
+        i += 1;
+    }
+    Stands {
+        number: 0,
+        index: 0,
+        yes: true,
+    }
+}

@@ -1,0 +1,18 @@
+-- `fittings::by_bytes` shows what the table says: the grammar is the built-in one.
+use Rattle.fittings.proofs.Telling.{told}
+use borrow.Author.Needs.{needs}
+use Rattle.fittings.proofs.by_bytes.Statement.{statement}
+use Rattle.fittings.proofs.by_bytes.Tie as tie
+
+pub by-bytes-spec : {M : Type 1} → statement M
+by-bytes-spec =
+    tie.close
+    (tie.spec
+    (λ c κs. search needs)
+    (λ c. search needs)
+    (λ c κs. search needs)
+    (λ c. search needs)
+    (λ c. search needs)
+    (λ c. search needs)
+    (λ c. search needs)
+    (λ c. told _ _ _ _ _ _ (c .before .before .before .before .before .before .before .before .before .before .before .before .before .before .table .ensures) (c .before .before .before .before .before .before .before .before .before .before .before .before .before .before .before .before .before .before .before .before .pre) _ _ _ _ _ (c .before .before .before .before .before .before .before .before .load .ensures)))

@@ -1,0 +1,17 @@
+-- `fittings::prepared` shows what the table says.
+use mathlib.Core.Path.{refl}
+use Rattle.fittings.proofs.Telling.{told}
+use borrow.Author.Needs.{needs}
+use Rattle.fittings.proofs.prepared.Statement.{statement}
+use Rattle.fittings.proofs.prepared.Tie as tie
+
+pub prepared-spec : {M : Type 1} → statement M
+prepared-spec =
+    tie.close
+    (tie.spec
+    (λ c κs. search needs)
+    (λ c. search needs)
+    (λ c. search needs)
+    (λ c. search needs)
+    (λ c. search needs)
+    (λ c. told _ _ _ _ _ _ refl (c .before .before .before .before .before .before .before .before .before .before .before .before .before .before .before .before .before .before .pre) _ _ _ _ _ (c .before .before .before .before .before .before .before .before .load-builtin .ensures)))

@@ -1,0 +1,15 @@
+-- `kollafrin::kollafrin_builtin`: the table is the built-in grammar.
+use borrow.Author.Needs.{needs}
+use Rattle.kollafrin.proofs.Laws.{table-put}
+use Rattle.kollafrin.proofs.kollafrin_builtin.Statement.{statement}
+use Rattle.kollafrin.proofs.kollafrin_builtin.Tie as tie
+
+pub kollafrin-builtin-spec : {M : Type 1} → statement M
+kollafrin-builtin-spec =
+    tie.close
+    (tie.spec
+    (λ c κs. search needs)
+    (λ c. search needs)
+    (λ c κs. search needs)
+    (λ c. search needs)
+    (λ c. table-put _ (c .before .before .put-where-fits .ensures) (c .before .before .before .before .before .table .ensures)))

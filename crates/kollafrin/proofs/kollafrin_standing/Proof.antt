@@ -1,0 +1,14 @@
+-- `kollafrin::kollafrin_standing`: the answer is that of standing, and fits its words.
+use borrow.Author.Needs.{needs}
+use Rattle.kollafrin.proofs.Laws.{standing-small, standing-said}
+use Rattle.kollafrin.proofs.kollafrin_standing.Statement.{statement}
+use Rattle.kollafrin.proofs.kollafrin_standing.Tie as tie
+
+pub kollafrin-standing-spec : {M : Type 1} → statement M
+kollafrin-standing-spec =
+    tie.close
+    (tie.spec
+    (λ c κs. search needs)
+    (λ c κs.
+    standing-small _ _ (c .before .standing .ensures) (λ i. c .before .before .before .before .shared-slice-known .given i .fits))
+    (λ c. standing-said (c .say-standing .ensures) (c .before .before .standing .ensures)))

@@ -1,0 +1,23 @@
+-- `kollafrin::say_loaded`: each word of the answer is cast from what fits it.
+use borrow.Author.Needs.{needs}
+use Rattle.kollafrin.specs.Answers.{loadAnswer}
+use Rattle.kollafrin.proofs.say_loaded.Statement.{statement}
+use Rattle.kollafrin.proofs.say_loaded.Tie as tie
+
+pub say-loaded-spec : {M : Type 1} → statement M
+unfolding loadAnswer
+say-loaded-spec =
+    tie.close
+    (tie.spec
+    (λ c. search needs)
+    (λ c. search needs)
+    (λ c. search needs)
+    (λ c. search needs)
+    (λ c. search needs)
+    (λ c. search needs)
+    (λ c. search needs)
+    (λ c. search needs)
+    (λ c. search needs)
+    (λ c. search needs)
+    (λ c. search needs)
+    (λ c. search needs))

@@ -1,0 +1,29 @@
+-- The answers as the words that a caller is lent, and a store that bytes are put into where they fit.
+use Prim.Native.Nat.{ℕ, _/_, _%_}
+use mathlib.Core.List.{List, [], _∷_}
+use lib.Dec.{leb}
+use lib.ListN.{length, getD}
+use Rattle.spec.specs.declared.Loaded.{Loaded}
+use Rattle.spec.specs.declared.Written.{Written}
+use Rattle.spec.specs.declared.Stands.{Stands}
+use Rattle.spec.specs.Base.{if_then_else_}
+use Rattle.spec.specs.Load.{laidOver}
+
+-- number, offset, index, value; counts of instructions, log bytes, string bytes, type entries; five header words; three zeros
+unfoldable pub loadAnswer : Loaded → List ℕ
+loadAnswer x =
+    x .number ∷ x .offset ∷ x .index ∷ x .value ∷ x .counts .instructions ∷ x .counts .log ∷ x .counts .strings
+    ∷ x .counts .types ∷ getD (x .header) 0 0 ∷ getD (x .header) 1 0 ∷ getD (x .header) 2 0 ∷ getD (x .header) 3 0
+    ∷ getD (x .header) 4 0 ∷ 0 ∷ 0 ∷ 0 ∷ []
+
+-- number, index, bytes written: the low word, then the high word
+unfoldable pub writeAnswer : Written → List ℕ
+writeAnswer x = x .number ∷ x .index ∷ x .bytes % 4294967296 ∷ x .bytes / 4294967296 ∷ []
+
+-- number, index, 1 for yes and 0 for no, 0
+unfoldable pub standAnswer : Stands → List ℕ
+standAnswer x = x .number ∷ x .index ∷ (if x .yes then 1 else 0) ∷ 0 ∷ []
+
+-- bytes at the start of a store where they fit, else the store as it was
+unfoldable pub laidIn : List ℕ → List ℕ → List ℕ
+laidIn store bs = if leb (length bs) (length store) then laidOver store bs else store

@@ -1,0 +1,233 @@
+// The library as other languages call it (include/kollafrin.h): each function is a thin call over a proved one. A slice passes as its
+// pointer and its length, a store as the words or bytes that it is, and an answer is written into words that the caller lends.
+//
+// A word of an answer is the number itself, never its low bits. Place, index and counts of a load fit 32 bits, since a module has at
+// most 67,108,864 bytes. So does the index of a bad record, for stores and counts of any size: the offset of a good record is a word
+// of 32 bits and each good record moves it by four bytes or more, so that no more than 2^30 records are good.
+// The bytes written may be more, and take two words.
+ghost use mathlib.Core.Path.{_≡_};
+ghost use Prim.Native.Nat.{_<_};
+ghost use lib.ListN.{length};
+ghost use Rattle.spec.specs.Base.{if_then_else_};
+ghost use Rattle.spec.specs.Builtin.{builtin};
+ghost use Rattle.spec.specs.Load.{storesOf, laidOver};
+ghost use Rattle.spec.specs.Write.{writeParse, writeModule, standing as standingOf};
+ghost use Rattle.records.specs.Steps.{given};
+ghost use Rattle.loader.specs.Loading.{loading};
+ghost use Rattle.demands.proofs.Bounds.{Small};
+ghost use Rattle.kollafrin.specs.Answers.{loadAnswer, writeAnswer, standAnswer, laidIn};
+use spec::Loaded;
+use spec::Stands;
+use spec::Written;
+
+// A load's answer into words.
+fn say_loaded(x: Loaded, answer: &mut [u32; 16]) -> u32
+    requires { ⌜ Small x ⌝ }
+    ensures { λ r. ⌜ r ≡ x .number ⌝ }
+    ensures { λ _. ⌜ now (answer .exit) ≡ loadAnswer x ⌝ }
+{
+    let c = x.counts;
+    let h = x.header;
+    *answer = [
+        x.number,
+        x.offset as u32,
+        x.index as u32,
+        x.value,
+        c.instructions as u32,
+        c.log as u32,
+        c.strings as u32,
+        c.types as u32,
+        h[0],
+        h[1],
+        h[2],
+        h[3],
+        h[4],
+        0,
+        0,
+        0,
+    ];
+    x.number
+}
+
+// A writer's answer into words: the bytes written take two.
+fn say_written(x: Written, answer: &mut [u32; 4]) -> u32
+    requires { ⌜ x .index < 4294967296 ⌝ }
+    ensures { λ r. ⌜ r ≡ x .number ⌝ }
+    ensures { λ _. ⌜ now (answer .exit) ≡ writeAnswer x ⌝ }
+{
+    *answer = [
+        x.number,
+        x.index as u32,
+        (x.bytes % 4294967296) as u32,
+        (x.bytes / 4294967296) as u32,
+    ];
+    x.number
+}
+
+// Yes as 1, no as 0.
+fn yes_or_no(yes: bool) -> u32
+    ensures { λ r. ⌜ r ≡ (if yes then 1 else 0) ⌝ }
+{
+    if yes { 1 } else { 0 }
+}
+
+// The answer of standing into words.
+fn say_standing(x: Stands, answer: &mut [u32; 4]) -> u32
+    requires { ⌜ x .index < 4294967296 ⌝ }
+    ensures { λ r. ⌜ r ≡ x .number ⌝ }
+    ensures { λ _. ⌜ now (answer .exit) ≡ standAnswer x ⌝ }
+{
+    let yes = yes_or_no(x.yes);
+    *answer = [x.number, x.index as u32, yes, 0];
+    x.number
+}
+
+// Bytes at the start of `out` where they fit, and their length.
+fn put_where_fits(bytes: &[u8], out: &mut [u8]) -> usize
+    ensures { λ r. ⌜ r ≡ length (now (bytes .entry)) ⌝ }
+    ensures { λ _. ⌜ now (out .exit) ≡ laidIn (now (out .entry)) (now (bytes .entry)) ⌝ }
+{
+    let fits = bytes.len() <= out.len();
+    operand::keep_bytes(out, 0, bytes, fits);
+    bytes.len()
+}
+
+// The length of the built-in grammar; its bytes go to the start of `out` where they fit, else `out` stays.
+#[no_mangle]
+pub extern "C" fn kollafrin_builtin(out: &mut [u8]) -> usize
+    ensures { λ r. ⌜ r ≡ length builtin ⌝ }
+    ensures { λ _. ⌜ now (out .exit) ≡ laidIn (now (out .entry)) builtin ⌝ }
+{
+    let table = builtin::table();
+    put_where_fits(&table, out)
+}
+
+// Loads a module by the bytes of a grammar: the number, and the whole answer in `answer`.
+#[no_mangle]
+pub extern "C" fn kollafrin_load(
+    module: &[u8],
+    grammar: &[u8],
+    instructions: &mut [u32],
+    log: &mut [u8],
+    strings: &mut [u8],
+    types: &mut [u32],
+    answer: &mut [u32; 16],
+) -> u32
+    ensures { λ r. ⌜ r ≡ loading (now («module» .entry)) (now (grammar .entry)) (now (instructions .entry)) (now (log .entry)) (now (strings .entry)) (now (types .entry)) .said .number ⌝ }
+    ensures { λ _. ⌜ now (answer .exit) ≡ loadAnswer (loading (now («module» .entry)) (now (grammar .entry)) (now (instructions .entry)) (now (log .entry)) (now (strings .entry)) (now (types .entry)) .said) ⌝ }
+    ensures { λ _. ⌜ now (instructions .exit) ≡ laidOver (now (instructions .entry)) (storesOf (loading (now («module» .entry)) (now (grammar .entry)) (now (instructions .entry)) (now (log .entry)) (now (strings .entry)) (now (types .entry))) .instructions) ⌝ }
+    ensures { λ _. ⌜ now (log .exit) ≡ laidOver (now (log .entry)) (storesOf (loading (now («module» .entry)) (now (grammar .entry)) (now (instructions .entry)) (now (log .entry)) (now (strings .entry)) (now (types .entry))) .log) ⌝ }
+    ensures { λ _. ⌜ now (strings .exit) ≡ laidOver (now (strings .entry)) (storesOf (loading (now («module» .entry)) (now (grammar .entry)) (now (instructions .entry)) (now (log .entry)) (now (strings .entry)) (now (types .entry))) .strings) ⌝ }
+    ensures { λ _. ⌜ now (types .exit) ≡ laidOver (now (types .entry)) (storesOf (loading (now («module» .entry)) (now (grammar .entry)) (now (instructions .entry)) (now (log .entry)) (now (strings .entry)) (now (types .entry))) .types) ⌝ }
+{
+    let x = loader::load(module, grammar, instructions, log, strings, types);
+    say_loaded(x, answer)
+}
+
+// Loads a module by the built-in grammar.
+#[no_mangle]
+pub extern "C" fn kollafrin_load_builtin(
+    module: &[u8],
+    instructions: &mut [u32],
+    log: &mut [u8],
+    strings: &mut [u8],
+    types: &mut [u32],
+    answer: &mut [u32; 16],
+) -> u32
+    ensures { λ r. ⌜ r ≡ loading (now («module» .entry)) builtin (now (instructions .entry)) (now (log .entry)) (now (strings .entry)) (now (types .entry)) .said .number ⌝ }
+    ensures { λ _. ⌜ now (answer .exit) ≡ loadAnswer (loading (now («module» .entry)) builtin (now (instructions .entry)) (now (log .entry)) (now (strings .entry)) (now (types .entry)) .said) ⌝ }
+    ensures { λ _. ⌜ now (instructions .exit) ≡ laidOver (now (instructions .entry)) (storesOf (loading (now («module» .entry)) builtin (now (instructions .entry)) (now (log .entry)) (now (strings .entry)) (now (types .entry))) .instructions) ⌝ }
+    ensures { λ _. ⌜ now (log .exit) ≡ laidOver (now (log .entry)) (storesOf (loading (now («module» .entry)) builtin (now (instructions .entry)) (now (log .entry)) (now (strings .entry)) (now (types .entry))) .log) ⌝ }
+    ensures { λ _. ⌜ now (strings .exit) ≡ laidOver (now (strings .entry)) (storesOf (loading (now («module» .entry)) builtin (now (instructions .entry)) (now (log .entry)) (now (strings .entry)) (now (types .entry))) .strings) ⌝ }
+    ensures { λ _. ⌜ now (types .exit) ≡ laidOver (now (types .entry)) (storesOf (loading (now («module» .entry)) builtin (now (instructions .entry)) (now (log .entry)) (now (strings .entry)) (now (types .entry))) .types) ⌝ }
+{
+    let x = loader::load_builtin(module, instructions, log, strings, types);
+    say_loaded(x, answer)
+}
+
+// Writes the header words and the instructions as read: the number, and the whole answer in `answer`.
+#[no_mangle]
+pub extern "C" fn kollafrin_write_parse_order(
+    header: &[u32; 5],
+    instructions: &[u32],
+    log: &[u8],
+    strings: &[u8],
+    instruction_count: usize,
+    log_count: usize,
+    string_count: usize,
+    out: &mut [u8],
+    answer: &mut [u32; 4],
+) -> u32
+    ensures { λ r. ⌜ r ≡ writeParse (now (header .entry)) (given (now (instructions .entry)) (now (log .entry)) (now (strings .entry)) «instruction_count» «log_count» «string_count») (now (out .entry)) .said .number ⌝ }
+    ensures { λ _. ⌜ now (answer .exit) ≡ writeAnswer (writeParse (now (header .entry)) (given (now (instructions .entry)) (now (log .entry)) (now (strings .entry)) «instruction_count» «log_count» «string_count») (now (out .entry)) .said) ⌝ }
+    ensures { λ _. ⌜ now (out .exit) ≡ writeParse (now (header .entry)) (given (now (instructions .entry)) (now (log .entry)) (now (strings .entry)) «instruction_count» «log_count» «string_count») (now (out .entry)) .output ⌝ }
+{
+    let words = *header;
+    let x = assemble::write_parse_order(
+        words,
+        instructions,
+        log,
+        strings,
+        instruction_count,
+        log_count,
+        string_count,
+        out,
+    );
+    say_written(x, answer)
+}
+
+// Writes in module order.
+#[no_mangle]
+pub extern "C" fn kollafrin_write_module_order(
+    header: &[u32; 5],
+    instructions: &[u32],
+    log: &[u8],
+    strings: &[u8],
+    instruction_count: usize,
+    log_count: usize,
+    string_count: usize,
+    out: &mut [u8],
+    answer: &mut [u32; 4],
+) -> u32
+    ensures { λ r. ⌜ r ≡ writeModule (now (header .entry)) (given (now (instructions .entry)) (now (log .entry)) (now (strings .entry)) «instruction_count» «log_count» «string_count») (now (out .entry)) .said .number ⌝ }
+    ensures { λ _. ⌜ now (answer .exit) ≡ writeAnswer (writeModule (now (header .entry)) (given (now (instructions .entry)) (now (log .entry)) (now (strings .entry)) «instruction_count» «log_count» «string_count») (now (out .entry)) .said) ⌝ }
+    ensures { λ _. ⌜ now (out .exit) ≡ writeModule (now (header .entry)) (given (now (instructions .entry)) (now (log .entry)) (now (strings .entry)) «instruction_count» «log_count» «string_count») (now (out .entry)) .output ⌝ }
+{
+    let words = *header;
+    let x = assemble::write_module_order(
+        words,
+        instructions,
+        log,
+        strings,
+        instruction_count,
+        log_count,
+        string_count,
+        out,
+    );
+    say_written(x, answer)
+}
+
+// Whether the records of a module are standing: the number, and the whole answer in `answer`.
+#[no_mangle]
+pub extern "C" fn kollafrin_standing(
+    instructions: &[u32],
+    log: &[u8],
+    strings: &[u8],
+    instruction_count: usize,
+    log_count: usize,
+    string_count: usize,
+    answer: &mut [u32; 4],
+) -> u32
+    ensures { λ r. ⌜ r ≡ standingOf (given (now (instructions .entry)) (now (log .entry)) (now (strings .entry)) «instruction_count» «log_count» «string_count») .number ⌝ }
+    ensures { λ _. ⌜ now (answer .exit) ≡ standAnswer (standingOf (given (now (instructions .entry)) (now (log .entry)) (now (strings .entry)) «instruction_count» «log_count» «string_count»)) ⌝ }
+{
+    let x = assemble::standing(
+        instructions,
+        log,
+        strings,
+        instruction_count,
+        log_count,
+        string_count,
+    );
+    say_standing(x, answer)
+}

@@ -1,0 +1,146 @@
+-- The records of a load, read back: their lines are those of the instructions kept.
+use Prim.Native.Nat.{ℕ, suc, _+_, _*_, _%_, _≤_, _<_}
+use mathlib.Core.Path.{_≡_, refl, ap, ap₂, _∙_}
+use mathlib.Core.List.{List, [], _∷_, _++_}
+use native.Mathlib.Omega.{arith}
+use native.Mathlib.Nat.{zero-add}
+use borrow.Author.Tests.{lt-ltb, le-ltb}
+use lib.Dec.{ltb}
+use lib.ListN.{length, getD, drop, length-append}
+use lib.Seq.{sets-eq}
+use Rattle.spec.specs.declared.State.{State}
+use Rattle.spec.specs.declared.Counts.{Counts}
+use Rattle.spec.specs.declared.Loaded.{Loaded}
+use Rattle.spec.specs.Builtin.{builtin}
+use Rattle.spec.specs.Records.{Placed, presence, fieldsOf, fieldWords, fieldsAt, recordsFrom, operandsLog}
+use Rattle.spec.specs.Load.{Outcome, enough, roomOf, load, storesOf, laidOver}
+use Rattle.spec.specs.Listing.{numbersLine, moduleLine, recordLines, lastLine, outcomeText, listing}
+use Rattle.demands.proofs.Bytes.{AllBytes}
+use Rattle.demands.proofs.Stores.{records-length}
+use Rattle.demands.proofs.Starts.{Loads, unformed, overlong, headless, opens, load-is}
+use Rattle.demands.proofs.Kept.{Follow, last, leading}
+use Rattle.demands.proofs.KeptSays.{takenBy, load-says}
+use Rattle.demands.proofs.Returns.{kept-is, sure, module-read}
+use Rattle.demands.proofs.Room.{load-covered}
+use Rattle.listed.proofs.Sentences.{few-both, module-few, record-lines-few, last-few}
+use Rattle.listed.specs.Lines.{Wrote, recordLine, linesOf}
+use Rattle.loader.specs.Loading.{loading}
+
+-- OPCODES
+
+-- each instruction has an opcode of sixteen bits
+unfoldable Short : List Placed → Type 0
+Short [] = Unit
+Short (p ∷ ps) = (p .instr .opcode < 65536) × Short ps
+
+-- instructions that follow on are so
+follow-short : {at : ℕ} {s e : State} {ps : List Placed} → Follow at s ps e → Short ps
+unfolding Short
+follow-short last = tt
+follow-short (leading g o t f) = (g .opcode, follow-short f)
+
+-- what a load keeps is so
+load-short : (g : List ℕ) (room : Counts) (s : List ℕ) → AllBytes s → Short (load g room s .kept)
+unfolding Short
+load-short g room s by = of (load-is g room s)
+  where
+    of : {o : Outcome} → Loads g room s o → Short (o .kept)
+    of (unformed e) = tt
+    of (overlong e) = tt
+    of (headless n at e f) = tt
+    of {o} (opens b run) =
+        let r = module-read g room s b run in
+        rw (kept-is g room s b o r) (follow-short (sure g room s b o r by .follow))
+
+-- the elements of a slice of bytes are bytes
+bytes-all : (l : List ℕ) → ((i : ℕ) → getD l i 0 < 256) → AllBytes l
+bytes-all [] h = tt
+bytes-all (b ∷ l) h = (h 0, bytes-all l (λ i. h (suc i)))
+
+-- LINES
+
+-- an opcode below the presence bits
+opcode-low : (op bits : ℕ) → op < 65536 → (op + 65536 * bits) % 65536 ≡ op
+opcode-low op bits h = omega arith
+
+-- the lines of records read back are those of their instructions
+lines-back : (index start : ℕ) (ps : List Placed) (more : List ℕ) → Short ps
+    → linesOf index (length ps) (recordsFrom start ps ++ more) ≡ recordLines index ps
+unfolding Short linesOf recordsFrom fieldWords fieldsAt fieldsOf recordLine recordLines
+lines-back index start [] more h = refl
+lines-back index start (p ∷ ps) more h =
+    let next : ℕ = start + length (operandsLog 0 (p .instr .operands)) in
+    ap₂ (λ (op : ℕ) (ls : List ℕ). numbersLine (index ∷ p .instr .offset ∷ p .tag ∷ op ∷ p .instr .words ∷ []) ++ ls)
+    (opcode-low (p .instr .opcode) (presence (p .instr .resultType) (p .instr .resultId)) (h .0))
+    (lines-back (suc index) next ps more (h .1))
+
+-- records that fit in a store, laid over it
+laid-front : (store bs : List ℕ) → length bs ≤ length store → laidOver store bs ≡ bs ++ drop (length bs) store
+unfolding laidOver
+laid-front store bs h = simp zero-add at (sets-eq bs store 0 (simp zero-add h))
+
+-- THE WHOLE
+
+-- a text written from the start
+from-start : {a b : List ℕ} {r : ℕ} {text : List ℕ} → Wrote a b 0 r text → (r ≡ length text) × (b ≡ laidOver a text)
+unfolding laidOver
+from-start {text = text} w = (w .ends ∙ zero-add (length text), w .is)
+
+-- a module that is too long
+pub listing-long : {a b : List ℕ} {r : ℕ} (s : List ℕ) → 4096 < length s
+    → Wrote a b 0 r (116 ∷ 111 ∷ 111 ∷ 32 ∷ 108 ∷ 111 ∷ 110 ∷ 103 ∷ 10 ∷ [])
+    → (r ≡ length (listing s)) × (b ≡ laidOver a (listing s))
+unfolding listing
+listing-long s h w = from-start (rw (lt-ltb 4096 (length s) h) w)
+
+-- stores that suffice for 1,019 words, lent to a load
+module _ (s i l t u : List ℕ) (hi : length i ≡ 8152) (hl : length l ≡ 9171) (ht : length t ≡ 4076) (hu : length u ≡ 3057) where
+  -- the load with that room
+  roomy : loading s builtin i l t u ≡ load builtin (enough 1019) s
+  unfolding loading roomOf enough
+  roomy = rw (hi, hl, ht, hu)
+
+  module _ (x : Loaded) (e : x ≡ loading s builtin i l t u .said) where
+    -- at most 1,019 instructions are kept
+    pub kept-few : x .counts .instructions ≤ 1019
+    unfolding enough
+    kept-few = rw (e, roomy) (load-covered builtin (enough 1019) s .instructions)
+
+    -- the listing, by the load's answer and its instruction records
+    pub listing-is : {a b : List ℕ} {r : ℕ} (j : List ℕ) → j ≡ laidOver i (storesOf (loading s builtin i l t u) .instructions)
+        → ((k : ℕ) → getD s k 0 < 256) → length s ≤ 4096
+        → Wrote a b 0 r (moduleLine (x .header) ++ linesOf 1 (x .counts .instructions) j ++ lastLine x)
+        → (r ≡ length (listing s)) × (b ≡ laidOver a (listing s))
+    unfolding listing outcomeText storesOf takenBy
+    listing-is j f by h w =
+        let o : Outcome = load builtin (enough 1019) s in
+        let said : x ≡ o .said = e ∙ ap (λ (y : Outcome). y .said) roomy in
+        let count : x .counts .instructions ≡ length (o .kept) =
+        ap (λ (y : Loaded). y .counts .instructions) said ∙ ap (λ (n : Counts). n .instructions) (load-says builtin (enough 1019) s .counts) in
+        let fits : length (recordsFrom 0 (o .kept)) ≤ length i = omega (arith, kept-few, records-length 0 (o .kept)) in
+        let stored : j ≡ recordsFrom 0 (o .kept) ++ drop (length (recordsFrom 0 (o .kept))) i =
+        f ∙ ap (λ (y : Outcome). laidOver i (recordsFrom 0 (y .kept))) roomy ∙ laid-front i (recordsFrom 0 (o .kept)) fits in
+        let lines : linesOf 1 (x .counts .instructions) j ≡ recordLines 1 (o .kept) =
+        ap₂ (linesOf 1) count stored
+        ∙ lines-back 1 0 (o .kept) (drop (length (recordsFrom 0 (o .kept))) i) (load-short builtin (enough 1019) s (bytes-all s by)) in
+        from-start (rw (le-ltb 4096 (length s) h, ← lines, ← said) w)
+
+-- a listing has at most 107,142 bytes
+listing-few : (s : List ℕ) → length (listing s) ≤ 107142
+unfolding listing outcomeText takenBy enough
+listing-few s =
+    let o : Outcome = load builtin (enough 1019) s in
+    let kept : o .said .counts .instructions ≡ length (o .kept) = ap (λ (n : Counts). n .instructions) (load-says builtin (enough 1019) s .counts) in
+    few-both (ltb 4096 (length s)) 107142 _ _ (omega arith)
+    (simp length-append
+    (omega (
+      arith,
+      module-few (o .said .header),
+      record-lines-few 1 (o .kept),
+      last-few (o .said),
+      load-covered builtin (enough 1019) s .instructions,
+    )))
+
+-- and so has its length, as a call answers it
+pub listing-size : (r : ℕ) (s : List ℕ) → r ≡ length (listing s) → r ≤ 107142
+listing-size r s e = omega (arith, listing-few s)

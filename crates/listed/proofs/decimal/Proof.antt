@@ -1,0 +1,14 @@
+-- `listed::decimal` meets its contract.
+use borrow.Author.Needs.{needs}
+use Rattle.spec.specs.Listing.{decimal}
+use Rattle.listed.proofs.decimal.Statement.{statement}
+use Rattle.listed.proofs.decimal.Tie as tie
+
+pub decimal-spec : {M : Type 1} → statement M
+unfolding decimal
+decimal-spec =
+    tie.close
+    (tie.spec
+    (λ c κs. search needs)
+    (λ c. search needs)
+    (λ c. c .before .before .digits .ensures))

@@ -1,0 +1,28 @@
+-- `listed::record_lines` meets its contract.
+use Prim.Native.Nat.{_-_}
+use native.Mathlib.Omega.{arith}
+use Rattle.listed.proofs.Sentences.{Lined, lined-start, lined-room, lined-same, lined-more, lined-all}
+use Rattle.listed.proofs.record_lines.Statement.{statement}
+use Rattle.listed.proofs.record_lines.Tie as tie
+
+abbrev Inv-loop : tie.InvT-loop
+Inv-loop out₀ at instructions count i₀ end₀ out i end = Lined out₀ out instructions at end count i
+
+abbrev μ-loop : tie.MeasureT-loop
+μ-loop out₀ at instructions count i₀ end₀ out i end = count - i
+
+pub record-lines-spec : {M : Type 1} → statement M
+record-lines-spec =
+    tie.close
+    (tie.spec
+    Inv-loop
+    μ-loop
+    (λ c. lined-start _ _ _ _)
+    (λ c κs. omega arith)
+    (λ c. omega arith)
+    (λ c κs. lined-room (c .before .before .before .loop .inv) (c .before .before .loop-test .taken) (c .before .before .before .before .before .before .pre .1))
+    (λ c. omega arith)
+    (λ c. omega arith)
+    (λ c. lined-more (c .before .before .before .before .before .before .loop .inv) _ (c .before .before .before .before .before .loop-test .taken) (c .before .before .before .before .record-at .ensures) (c .before .before .record-line .ensures))
+    (λ c. lined-same (c .before .loop .inv))
+    (λ c. lined-all (c .before .loop .inv) (c .loop-test .left)))

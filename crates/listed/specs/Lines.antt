@@ -1,0 +1,44 @@
+-- The listing's text in a buffer, piece by piece, and the lines of records by their words.
+use Prim.Native.Nat.{ℕ, zero, suc, _+_, _%_}
+use mathlib.Core.Path.{_≡_}
+use mathlib.Core.List.{List, [], _∷_, _++_}
+use lib.ListN.{length, drop}
+use lib.Seq.{sets}
+use Rattle.spec.specs.declared.Fields.{Fields}
+use Rattle.spec.specs.Words.{major, minor}
+use Rattle.spec.specs.Records.{recordSize, fieldsAt}
+use Rattle.spec.specs.Listing.{decimal, numbersLine}
+
+-- a buffer before and after a text is written into it from a place on, and the place where the text ends
+pub record Wrote (before after : List ℕ) (at end : ℕ) (text : List ℕ) : Type 0 where
+  pub is : after ≡ sets before at text
+  pub ends : end ≡ at + length text
+
+-- a number in decimal, and a byte
+unfoldable pub numberThen : ℕ → ℕ → List ℕ
+numberThen v b = decimal v ++ (b ∷ [])
+
+-- "module M.m bound B" of a version and a bound
+unfoldable pub versionLine : ℕ → ℕ → List ℕ
+versionLine version bound =
+    109 ∷ 111 ∷ 100 ∷ 117 ∷ 108 ∷ 101 ∷ 32
+    ∷ decimal (major version) ++ (46 ∷ decimal (minor version))
+    ++ (32 ∷ 98 ∷ 111 ∷ 117 ∷ 110 ∷ 100 ∷ 32 ∷ numbersLine (bound ∷ []))
+
+-- "accepted N"
+unfoldable pub acceptedLine : ℕ → List ℕ
+acceptedLine n = 97 ∷ 99 ∷ 99 ∷ 101 ∷ 112 ∷ 116 ∷ 101 ∷ 100 ∷ 32 ∷ numbersLine (n ∷ [])
+
+-- "`refused`, number, offset, index"
+unfoldable pub refusedLine : ℕ → ℕ → ℕ → List ℕ
+refusedLine n offset index =
+    114 ∷ 101 ∷ 102 ∷ 117 ∷ 115 ∷ 101 ∷ 100 ∷ 32 ∷ numbersLine (n ∷ offset ∷ index ∷ [])
+
+-- "index, offset, tag, opcode, words" of a record's fields
+unfoldable pub recordLine : ℕ → Fields → List ℕ
+recordLine index f = numbersLine (index ∷ f .offset ∷ f .tag ∷ f .head % 65536 ∷ f .words ∷ [])
+
+-- the lines of the first n records in some words, the first of them at an index
+unfoldable pub linesOf : ℕ → ℕ → List ℕ → List ℕ
+linesOf index zero ws = []
+linesOf index (suc n) ws = recordLine index (fieldsAt ws) ++ linesOf (suc index) n (drop recordSize ws)

@@ -1,0 +1,6 @@
+pub mod Fitting
+pub mod Judging
+pub mod Keeping
+pub mod Growing
+pub mod Running
+pub mod Beginning

@@ -1,0 +1,60 @@
+-- `loader::load` meets its contract: the grammar is checked first, then indexed.
+use borrow.Author.Tests.{not-true, not-false}
+use Rattle.loader.proofs.Beginning.{load-unformed, load-formed}
+use mathlib.Core.Path.{sym, _∙_}
+use borrow.Author.Needs.{needs}
+use Rattle.loader.proofs.load.Statement.{statement}
+use Rattle.loader.proofs.load.Tie as tie
+
+well-formed-requires : tie.Need-well-formed-requires
+well-formed-requires c κs = search needs
+
+no-instruction-requires : tie.Need-no-instruction-requires
+no-instruction-requires c κs = search needs
+
+returns : tie.Need-returns
+returns c = load-unformed _ _ _ _ _ _ (sym (c .before .before .well-formed .ensures) ∙ not-true _ (c .before .if1 .taken)) _ (c .no-instruction .ensures)
+
+slice-aggregate-fill-index : tie.Need-slice-aggregate-fill-index
+slice-aggregate-fill-index c = search needs
+
+fill-index-requires : tie.Need-fill-index-requires
+fill-index-requires c κs = (sym (c .before .before .well-formed .ensures) ∙ not-false _ (c .before .if1 .left), search needs)
+
+slice-aggregate-load-with : tie.Need-slice-aggregate-load-with
+slice-aggregate-load-with c = search needs
+
+load-with-requires : tie.Need-load-with-requires
+load-with-requires c κs = search needs
+
+same-length : tie.Need-same-length
+same-length c = search needs
+
+same-length-2 : tie.Need-same-length-2
+same-length-2 c = search needs
+
+same-length-3 : tie.Need-same-length-3
+same-length-3 c = search needs
+
+same-length-4 : tie.Need-same-length-4
+same-length-4 c = search needs
+
+returns-2 : tie.Need-returns-2
+returns-2 c = load-formed _ _ _ _ _ _ (sym (c .before .before .before .before .before .before .before .before .before .before .before .before .before .before .before .before .before .before .well-formed .ensures) ∙ not-false _ (c .before .before .before .before .before .before .before .before .before .before .before .before .before .before .before .before .before .if1 .left)) _ _ _ _ _ (c .before .before .before .before .before .before .before .before .load-with .ensures)
+
+pub load-spec : {M : Type 1} → statement M
+load-spec =
+    tie.close
+    (tie.spec
+    well-formed-requires
+    no-instruction-requires
+    returns
+    slice-aggregate-fill-index
+    fill-index-requires
+    slice-aggregate-load-with
+    load-with-requires
+    same-length
+    same-length-2
+    same-length-3
+    same-length-4
+    returns-2)

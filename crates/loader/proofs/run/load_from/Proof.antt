@@ -1,0 +1,117 @@
+-- `loader::run::load_from` meets its contract: the invariant is that the load from where it stands is the load of the whole.
+use mathlib.Core.Path.{_∙_}
+use Rattle.loader.proofs.Running.{Running, start, same-instructions, same-log, same-strings, same-types, room-now, bounded, few-kept, ends, step-halts, step-goes, step-fewer}
+use Rattle.spec.specs.Load.{roomOf, emptyBook, loadFrom}
+use Rattle.spec.specs.Grammar.{grammarOf}
+use Rattle.spec.specs.Reader.{readerAt}
+use Rattle.spec.specs.declared.Limit.the-variants.{Unlimited}
+use borrow.Author.Needs.{needs}
+use lib.ListN.{length}
+use Prim.Native.Nat.{_/_, _-_}
+use Rattle.loader.proofs.run.load_from.Statement.{statement}
+use Rattle.loader.proofs.run.load_from.Tie as tie
+
+abbrev Inv-loop : tie.InvT-loop
+Inv-loop s g index header instructions₀ log₀ strings₀ types₀ room table p₀ instructions log strings types p =
+    Running s g room header
+    (loadFrom (grammarOf g) (roomOf (length instructions₀) (length log₀) (length strings₀) (length types₀)) header (length s / 4) emptyBook (readerAt s 20 Unlimited))
+    instructions₀ log₀ strings₀ types₀ instructions log strings types p
+
+abbrev μ-loop : tie.MeasureT-loop
+μ-loop s g index header instructions₀ log₀ strings₀ types₀ room table p₀ instructions log strings types p =
+    length s - p .at
+
+room-in-requires : tie.Need-room-in-requires Inv-loop μ-loop
+room-in-requires c κs = search needs
+
+table-requires : tie.Need-table-requires Inv-loop μ-loop
+table-requires c κs = search needs
+
+loop-holds : tie.Need-loop-holds Inv-loop μ-loop
+loop-holds c = start _ _ _ _ _ _ _ _ (c .before .room-in .ensures) (c .before .before .before .before .before .before .before .before .before .pre .1 .0)
+
+sub-if1 : tie.Need-sub-if1 Inv-loop μ-loop
+sub-if1 c = c .before .loop .inv .inside
+
+take-requires : tie.Need-take-requires Inv-loop μ-loop
+take-requires c κs = (c .before .before .before .before .before .before .before .before .before .before .before .before .before .before .before .before .before .pre .0, (bounded (c .before .before .before .before .before .before .before .loop .inv) (c .before .before .before .before .before .before .before .before .before .before .before .before .before .before .before .before .before .pre .1 .1) (c .before .before .before .before .before .if1 .taken), (room-now (c .before .before .before .before .before .before .before .loop .inv), c .before .before .before .before .before .before .before .before .table .ensures)))
+
+enum-known-step : tie.Need-enum-known-step Inv-loop μ-loop
+enum-known-step c = search needs
+
+stopped-requires : tie.Need-stopped-requires Inv-loop μ-loop
+stopped-requires c κs = few-kept (c .before .before .before .before .before .before .before .before .before .before .before .before .before .before .before .before .before .before .before .loop .inv) (c .before .before .before .before .before .before .before .before .before .before .before .before .before .before .before .before .before .before .before .before .before .before .before .before .before .before .before .before .before .pre .1 .1)
+
+same-length : tie.Need-same-length Inv-loop μ-loop
+same-length c = c .before .before .before .before .before .before .before .before .before .before .before .instructions .given ∙ same-instructions (c .before .before .before .before .before .before .before .before .before .before .before .before .before .before .before .before .before .before .before .before .loop .inv)
+
+same-length-2 : tie.Need-same-length-2 Inv-loop μ-loop
+same-length-2 c = c .before .before .before .before .before .before .before .before .before .log .given ∙ same-log (c .before .before .before .before .before .before .before .before .before .before .before .before .before .before .before .before .before .before .before .before .loop .inv)
+
+same-length-3 : tie.Need-same-length-3 Inv-loop μ-loop
+same-length-3 c = c .before .before .before .before .before .before .before .strings .given ∙ same-strings (c .before .before .before .before .before .before .before .before .before .before .before .before .before .before .before .before .before .before .before .before .loop .inv)
+
+same-length-4 : tie.Need-same-length-4 Inv-loop μ-loop
+same-length-4 c = c .before .before .before .before .before .types .given ∙ same-types (c .before .before .before .before .before .before .before .before .before .before .before .before .before .before .before .before .before .before .before .before .loop .inv)
+
+returns : tie.Need-returns Inv-loop μ-loop
+returns c = step-halts (c .before .before .before .before .before .before .before .before .before .before .before .before .before .before .before .before .before .before .before .before .loop .inv) (c .before .before .before .before .before .before .before .before .before .before .before .before .before .before .before .before .before .before .if1 .taken) _ _ _ _ _ (c .before .before .before .before .before .before .before .before .before .before .before .before .take .ensures) _ (c .before .before .step .given .1) _ (c .stopped .ensures)
+
+enum-known-step-2 : tie.Need-enum-known-step-2 Inv-loop μ-loop
+enum-known-step-2 c = search needs
+
+loop-less : tie.Need-loop-less Inv-loop μ-loop
+loop-less c = step-fewer (c .before .before .before .before .before .before .before .before .before .before .before .before .before .before .before .before .before .before .before .loop .inv) (c .before .before .before .before .before .before .before .before .before .before .before .before .before .before .before .before .before .if1 .taken) _ _ _ _ _ (c .before .before .before .before .before .before .before .before .before .before .before .take .ensures) _ (c .before .step2 .given .1)
+
+loop-again : tie.Need-loop-again Inv-loop μ-loop
+loop-again c = step-goes (c .before .before .before .before .before .before .before .before .before .before .before .before .before .before .before .before .before .before .before .loop .inv) (c .before .before .before .before .before .before .before .before .before .before .before .before .before .before .before .before .before .if1 .taken) _ _ _ _ _ (c .before .before .before .before .before .before .before .before .before .before .before .take .ensures) _ (c .before .step2 .given .1)
+
+end-number-requires : tie.Need-end-number-requires Inv-loop μ-loop
+end-number-requires c κs = search needs
+
+stopped-requires-2 : tie.Need-stopped-requires-2 Inv-loop μ-loop
+stopped-requires-2 c κs = few-kept (c .before .before .before .loop .inv) (c .before .before .before .before .before .before .before .before .before .before .before .before .before .pre .1 .1)
+
+same-length-5 : tie.Need-same-length-5 Inv-loop μ-loop
+same-length-5 c = same-instructions (c .before .before .before .before .loop .inv)
+
+same-length-6 : tie.Need-same-length-6 Inv-loop μ-loop
+same-length-6 c = same-log (c .before .before .before .before .loop .inv)
+
+same-length-7 : tie.Need-same-length-7 Inv-loop μ-loop
+same-length-7 c = same-strings (c .before .before .before .before .loop .inv)
+
+same-length-8 : tie.Need-same-length-8 Inv-loop μ-loop
+same-length-8 c = same-types (c .before .before .before .before .loop .inv)
+
+returns-2 : tie.Need-returns-2 Inv-loop μ-loop
+returns-2 c = ends (c .before .before .before .before .loop .inv) (c .before .before .if1 .left) _ (c .before .end-number .ensures) _ (c .stopped2 .ensures)
+
+pub load-from-spec : {M : Type 1} → statement M
+load-from-spec =
+    tie.close
+    (tie.spec
+    Inv-loop
+    μ-loop
+    room-in-requires
+    table-requires
+    loop-holds
+    sub-if1
+    take-requires
+    enum-known-step
+    stopped-requires
+    same-length
+    same-length-2
+    same-length-3
+    same-length-4
+    returns
+    enum-known-step-2
+    loop-less
+    loop-again
+    end-number-requires
+    stopped-requires-2
+    same-length-5
+    same-length-6
+    same-length-7
+    same-length-8
+    returns-2)

@@ -1,0 +1,55 @@
+// Loading: a module's instructions into lent stores, each decoded, placed in the layout and given room, or the first fault.
+ghost use mathlib.Core.Path.{_≡_};
+ghost use Rattle.spec.specs.Builtin.{builtin};
+ghost use Rattle.spec.specs.Load.{storesOf, laidOver};
+ghost use Rattle.loader.specs.Loading.{loading};
+
+mod parts;
+mod run;
+mod step;
+
+use parts::no_instruction;
+use run::load_with;
+use spec::Loaded;
+
+// Loads a module by the bytes of a grammar.
+pub fn load(
+    module: &[u8],
+    grammar: &[u8],
+    instructions: &mut [u32],
+    log: &mut [u8],
+    strings: &mut [u8],
+    types: &mut [u32],
+) -> Loaded
+    ensures { λ r. ⌜ r ≡ loading (now («module» .entry)) (now (grammar .entry)) (now (instructions .entry)) (now (log .entry)) (now (strings .entry)) (now (types .entry)) .said ⌝ }
+    ensures { λ _. ⌜ now (instructions .exit) ≡ laidOver (now (instructions .entry)) (storesOf (loading (now («module» .entry)) (now (grammar .entry)) (now (instructions .entry)) (now (log .entry)) (now (strings .entry)) (now (types .entry))) .instructions) ⌝ }
+    ensures { λ _. ⌜ now (log .exit) ≡ laidOver (now (log .entry)) (storesOf (loading (now («module» .entry)) (now (grammar .entry)) (now (instructions .entry)) (now (log .entry)) (now (strings .entry)) (now (types .entry))) .log) ⌝ }
+    ensures { λ _. ⌜ now (strings .exit) ≡ laidOver (now (strings .entry)) (storesOf (loading (now («module» .entry)) (now (grammar .entry)) (now (instructions .entry)) (now (log .entry)) (now (strings .entry)) (now (types .entry))) .strings) ⌝ }
+    ensures { λ _. ⌜ now (types .exit) ≡ laidOver (now (types .entry)) (storesOf (loading (now («module» .entry)) (now (grammar .entry)) (now (instructions .entry)) (now (log .entry)) (now (strings .entry)) (now (types .entry))) .types) ⌝ }
+{
+    if !grammar::well_formed(grammar) {
+        return no_instruction(24, 0);
+    }
+    let mut index = [0u16; grammar::SIZE];
+    grammar::fill_index(grammar, &mut index);
+    load_with(module, grammar, &index, instructions, log, strings, types)
+}
+
+// Loads a module by the built-in grammar, for which nothing is checked or indexed at run time.
+pub fn load_builtin(
+    module: &[u8],
+    instructions: &mut [u32],
+    log: &mut [u8],
+    strings: &mut [u8],
+    types: &mut [u32],
+) -> Loaded
+    ensures { λ r. ⌜ r ≡ loading (now («module» .entry)) builtin (now (instructions .entry)) (now (log .entry)) (now (strings .entry)) (now (types .entry)) .said ⌝ }
+    ensures { λ _. ⌜ now (instructions .exit) ≡ laidOver (now (instructions .entry)) (storesOf (loading (now («module» .entry)) builtin (now (instructions .entry)) (now (log .entry)) (now (strings .entry)) (now (types .entry))) .instructions) ⌝ }
+    ensures { λ _. ⌜ now (log .exit) ≡ laidOver (now (log .entry)) (storesOf (loading (now («module» .entry)) builtin (now (instructions .entry)) (now (log .entry)) (now (strings .entry)) (now (types .entry))) .log) ⌝ }
+    ensures { λ _. ⌜ now (strings .exit) ≡ laidOver (now (strings .entry)) (storesOf (loading (now («module» .entry)) builtin (now (instructions .entry)) (now (log .entry)) (now (strings .entry)) (now (types .entry))) .strings) ⌝ }
+    ensures { λ _. ⌜ now (types .exit) ≡ laidOver (now (types .entry)) (storesOf (loading (now («module» .entry)) builtin (now (instructions .entry)) (now (log .entry)) (now (strings .entry)) (now (types .entry))) .types) ⌝ }
+{
+    let table = builtin::table();
+    let index = builtin::prepared();
+    load_with(module, &table, &index, instructions, log, strings, types)
+}

@@ -1,0 +1,91 @@
+// The instructions of a module, one after the other, and a load by a grammar that is indexed.
+ghost use mathlib.Core.Path.{_≡_};
+ghost use Prim.Native.Nat.{_/_, _≤_};
+ghost use lib.ListN.{length};
+ghost use Rattle.spec.specs.declared.Limit.the-variants.{Unlimited};
+ghost use Rattle.spec.specs.Reader.{readerAt};
+ghost use Rattle.spec.specs.Grammar.{grammarOf};
+ghost use Rattle.spec.specs.Load.{roomOf, emptyBook, loadFrom, loadWith};
+ghost use Rattle.grammar.specs.Index.{Indexed};
+ghost use Rattle.loader.specs.Steps.{Leaves};
+use crate::parts::Progress;
+use crate::parts::end_number;
+use crate::parts::no_instruction;
+use crate::parts::room_in;
+use crate::parts::stopped;
+use crate::step::Step;
+use crate::step::take;
+use spec::Loaded;
+use spec::State;
+
+// The instructions after the header, to the first refusal or the end.
+fn load_from(
+    s: &[u8],
+    g: &[u8],
+    index: &[u16],
+    header: [u32; 5],
+    instructions: &mut [u32],
+    log: &mut [u8],
+    strings: &mut [u8],
+    types: &mut [u32],
+) -> Loaded
+    requires { ⌜ Indexed (now g) (now index) ⌝ }
+    requires { ⌜ (20 ≤ length (now s)) × (length (now s) ≤ 67108864) ⌝ }
+    ensures { λ r. ⌜ Leaves (loadFrom (grammarOf (now (g .entry))) (roomOf (length (now (instructions .entry))) (length (now (log .entry))) (length (now (strings .entry))) (length (now (types .entry)))) header (length (now (s .entry)) / 4) emptyBook (readerAt (now (s .entry)) 20 Unlimited)) (now (instructions .entry)) (now (log .entry)) (now (strings .entry)) (now (types .entry)) (now (instructions .exit)) (now (log .exit)) (now (strings .exit)) (now (types .exit)) r ⌝ }
+{
+    let room = room_in(instructions.len(), log.len(), strings.len(), types.len());
+    let table = reflect::table();
+    let mut p = Progress {
+        at: 20,
+        instructions: 0,
+        log: 0,
+        strings: 0,
+        types: 0,
+        state: State::Outside,
+    };
+    while 4 <= s.len() - p.at {
+        let step = take(
+            &table,
+            s,
+            g,
+            index,
+            instructions,
+            log,
+            strings,
+            types,
+            room,
+            p,
+        );
+        match step {
+            Step::Stop(x) => return stopped(header, p, x.number, x.place, x.value),
+            Step::On(next) => p = next,
+        }
+    }
+    let state = p.state;
+    stopped(header, p, end_number(state), p.at, 0)
+}
+
+// A load by the bytes of a grammar and its index.
+pub fn load_with(
+    s: &[u8],
+    g: &[u8],
+    index: &[u16],
+    instructions: &mut [u32],
+    log: &mut [u8],
+    strings: &mut [u8],
+    types: &mut [u32],
+) -> Loaded
+    requires { ⌜ Indexed (now g) (now index) ⌝ }
+    ensures { λ r. ⌜ Leaves (loadWith (grammarOf (now (g .entry))) (roomOf (length (now (instructions .entry))) (length (now (log .entry))) (length (now (strings .entry))) (length (now (types .entry)))) (now (s .entry))) (now (instructions .entry)) (now (log .entry)) (now (strings .entry)) (now (types .entry)) (now (instructions .exit)) (now (log .exit)) (now (strings .exit)) (now (types .exit)) r ⌝ }
+{
+    if 67108864 < s.len() {
+        return no_instruction(31, 0);
+    }
+    let header = decoder::header(s);
+    let refusal = header.refusal;
+    if refusal.number != 0 {
+        return no_instruction(refusal.number, refusal.place);
+    }
+    let words = header.words;
+    load_from(s, g, index, words, instructions, log, strings, types)
+}

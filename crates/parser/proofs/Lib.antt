@@ -1,0 +1,10 @@
+pub mod UsedLaws
+pub mod Walk
+pub mod One
+pub mod Carried
+pub mod Values
+pub mod TypeLaws
+pub mod Once
+pub mod SlotLaws
+pub mod RowLaws
+pub mod InstLaws

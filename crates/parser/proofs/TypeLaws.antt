@@ -1,0 +1,180 @@
+-- Laws of literals by the type of an id.
+use Prim.Native.Nat.{ℕ}
+use mathlib.Core.Path.{_≡_, refl, ap, sym, _∙_}
+use mathlib.Core.Bool.{Bool, true, false, _||_}
+use mathlib.Core.List.{List, [], _∷_}
+use mathlib.Core.Option.{Option, none, some}
+use native.Mathlib.Omega.{arith}
+use borrow.Author.Tests.{eq-eqb, ne-eqb, eqb-true}
+use mathlib.Core.Logic.{_⊎_, inl, inr}
+use lib.Dec.{eqb}
+use Rattle.spec.specs.declared.Refusal.{Refusal}
+use Rattle.spec.specs.Base.{isIn}
+use Rattle.spec.specs.Kinds.{isLong}
+use Rattle.spec.specs.Records.{Operand, narrow, wide, Entry}
+use Rattle.spec.specs.Types.{entryOf}
+use Rattle.spec.specs.Reader.{Reader, Read, got, refused, after, give, refusal, readWord, readLong, readerAt}
+use Rattle.spec.specs.Grammar.{Grammar}
+use Rattle.spec.specs.Match.{readOne, readEach, literalKind, literalKindOf, typeOf, readLiteralAs, readLiteral}
+use Rattle.decoder.specs.declared.Decoder.{Decoder}
+use Rattle.decoder.specs.declared.LongRead.the-variants.{Got as Long, Refused as NoLong}
+use Rattle.decoder.specs.Answer.{readerOf, longFrom}
+use Rattle.decoder.proofs.Laws.{long-got, long-refused}
+use Rattle.tracker.specs.declared.Id.{Id}
+use Rattle.tracker.specs.declared.Id.the-variants.{Absent, Is}
+use Rattle.tracker.specs.declared.Resolved.{Resolved}
+use Rattle.tracker.specs.declared.Resolved.the-variants.{«Type», Unknown}
+use Rattle.tracker.specs.Entries.{resolvedIs}
+use Rattle.tracker.specs.Track.{idIs}
+use Rattle.parser.specs.Parse.{prefix, isSingle, kindIs, isLiteral, literalAlone, pairAlone}
+
+-- THE KIND
+
+in-two : (a b : Bool) → (a || (b || false)) ≡ (a || b)
+in-two true b = refl
+in-two false true = refl
+in-two false false = refl
+
+-- one of three, as a list is searched
+pub in-three : (a b c : Bool) → (a || (b || (c || false))) ≡ (a || b || c)
+in-three true b c = refl
+in-three false true c = refl
+in-three false false true = refl
+in-three false false false = refl
+
+-- a float of one word
+pub float-one : (w : ℕ) → (eqb w 16 || eqb w 32) ≡ true → (kindIs 37 ≡ literalKind w 3) × (isLiteral 37 ≡ true)
+unfolding kindIs isLiteral
+float-one w h = let z : isIn w (16 ∷ 32 ∷ []) ≡ true = in-two (eqb w 16) (eqb w 32) ∙ h in (simp z, refl)
+
+-- a float of two
+pub float-two : (w : ℕ) → (eqb w 16 || eqb w 32) ≡ false → w ≡ 64 → (kindIs 38 ≡ literalKind w 3) × (isLiteral 38 ≡ true)
+unfolding kindIs isLiteral
+float-two w h e = let z : isIn w (16 ∷ 32 ∷ []) ≡ false = in-two (eqb w 16) (eqb w 32) ∙ h in (simp (z, eq-eqb w 64 e), refl)
+
+-- a float of another width
+pub float-none : (w : ℕ) → (eqb w 16 || eqb w 32) ≡ false → (w ≡ 64 → ⊥) → (kindIs 0 ≡ literalKind w 3) × (isLiteral 0 ≡ true)
+unfolding kindIs isLiteral
+float-none w h e = let z : isIn w (16 ∷ 32 ∷ []) ≡ false = in-two (eqb w 16) (eqb w 32) ∙ h in (simp (z, ne-eqb w 64 e), refl)
+
+-- an integer of one word
+pub integer-one : (w : ℕ) → (eqb w 8 || eqb w 16 || eqb w 32) ≡ true → (kindIs 34 ≡ literalKind w 1) × (isLiteral 34 ≡ true)
+unfolding kindIs isLiteral
+integer-one w h = let z : isIn w (8 ∷ 16 ∷ 32 ∷ []) ≡ true = in-three (eqb w 8) (eqb w 16) (eqb w 32) ∙ h in (simp z, refl)
+
+-- an integer of two
+pub integer-two : (w : ℕ) → (eqb w 8 || eqb w 16 || eqb w 32) ≡ false → w ≡ 64 → (kindIs 36 ≡ literalKind w 1) × (isLiteral 36 ≡ true)
+unfolding kindIs isLiteral
+integer-two w h e =
+    let z : isIn w (8 ∷ 16 ∷ 32 ∷ []) ≡ false = in-three (eqb w 8) (eqb w 16) (eqb w 32) ∙ h in (simp (z, eq-eqb w 64 e), refl)
+
+-- an integer of another width
+pub integer-none : (w : ℕ) → (eqb w 8 || eqb w 16 || eqb w 32) ≡ false → (w ≡ 64 → ⊥) → (kindIs 0 ≡ literalKind w 1) × (isLiteral 0 ≡ true)
+unfolding kindIs isLiteral
+integer-none w h e =
+    let z : isIn w (8 ∷ 16 ∷ 32 ∷ []) ≡ false = in-three (eqb w 8) (eqb w 16) (eqb w 32) ∙ h in (simp (z, ne-eqb w 64 e), refl)
+
+-- no id: one word
+pub kind-absent : (types : List Entry) (id : Id) → id ≡ Absent → (kindIs 34 ≡ literalKindOf (typeOf (idIs id) types)) × (isLiteral 34 ≡ true)
+unfolding idIs kindIs isLiteral
+kind-absent types id e = (rw e, refl)
+
+module _ (types : List Entry) (id : Id) (i : ℕ) (e : id ≡ Is i) (r : Resolved) (h : resolvedIs i r ≡ entryOf i types) where
+  -- an id whose type is not known: one word
+  pub kind-unknown : r ≡ Unknown → (kindIs 34 ≡ literalKindOf (typeOf (idIs id) types)) × (isLiteral 34 ≡ true)
+  unfolding idIs kindIs isLiteral resolvedIs
+  kind-unknown q = (rw e (ap literalKindOf (sym (ap (resolvedIs i) q) ∙ h)), refl)
+
+  type-is : (w s : ℕ) → r ≡ «Type» w s → literalKind w s ≡ literalKindOf (typeOf (idIs id) types)
+  unfolding idIs resolvedIs
+  type-is w s q = rw e (ap literalKindOf (sym (ap (resolvedIs i) q) ∙ h))
+
+  -- a float's
+  pub kind-float : (w s k : ℕ) → r ≡ «Type» w s → s ≡ 3 → (kindIs k ≡ literalKind w 3) × (isLiteral k ≡ true)
+      → (kindIs k ≡ literalKindOf (typeOf (idIs id) types)) × (isLiteral k ≡ true)
+  kind-float w s k q z p = (p .0 ∙ ap (literalKind w) (sym z) ∙ type-is w s q, p .1)
+
+  -- an integer's
+  pub kind-integer : (w s k : ℕ) → r ≡ «Type» w s → (s ≡ 3 → ⊥) → (kindIs k ≡ literalKind w 1) × (isLiteral k ≡ true)
+      → (kindIs k ≡ literalKindOf (typeOf (idIs id) types)) × (isLiteral k ≡ true)
+  kind-integer w s k q z p =
+      let same : literalKind w 1 ≡ literalKind w s = simp (ne-eqb s 3 z) in
+      (p .0 ∙ same ∙ type-is w s q, p .1)
+
+-- THE READ
+
+literal-cases : (k : ℕ) (a b c d e : Bool) → eqb k 0 ≡ a → eqb k 34 ≡ b → eqb k 36 ≡ c → eqb k 37 ≡ d → eqb k 38 ≡ e
+    → (a || (b || (c || (d || (e || false))))) ≡ true → a ≡ false → (c || e) ≡ false → (k ≡ 34) ⊎ (k ≡ 37)
+literal-cases k true b c d e ea eb ec ed ee h z l = let y : _≡_ {A = ℕ} 0 1 = cc in absurd (omega arith)
+literal-cases k false true c d e ea eb ec ed ee h z l = inl (eqb-true k 34 eb)
+literal-cases k false false true d e ea eb ec ed ee h z l = let y : _≡_ {A = ℕ} 0 1 = cc in absurd (omega arith)
+literal-cases k false false false true e ea eb ec ed ee h z l = inr (eqb-true k 37 ed)
+literal-cases k false false false false true ea eb ec ed ee h z l = let y : _≡_ {A = ℕ} 0 1 = cc in absurd (omega arith)
+literal-cases k false false false false false ea eb ec ed ee h z l = let y : _≡_ {A = ℕ} 0 1 = cc in absurd (omega arith)
+
+-- a literal of one word is an integer or a float
+pub one-word : (k : ℕ) → isLiteral k ≡ true → (k ≡ 0 → ⊥) → (eqb k 36 || eqb k 38) ≡ false → (k ≡ 34) ⊎ (k ≡ 37)
+unfolding isLiteral
+one-word k h z l = literal-cases k (eqb k 0) (eqb k 34) (eqb k 36) (eqb k 37) (eqb k 38) refl refl refl refl refl h (ne-eqb k 0 z) l
+
+-- which is one record
+pub literal-single : (k : ℕ) → (k ≡ 34) ⊎ (k ≡ 37) → isSingle k ≡ true
+unfolding isSingle
+literal-single k (inl e) = rw e
+literal-single k (inr e) = rw e
+
+module _ (s : List ℕ) (types : List Entry) (id : Option ℕ) (d : Decoder) (k : ℕ) (p : kindIs k ≡ literalKindOf (typeOf id types)) where
+  literal-by : (o : Option ℕ) → kindIs k ≡ o → literalAlone types id (readerOf s d) ≡ after (readLiteralAs o (readerOf s d)) (λ x. give (x ∷ []))
+  unfolding literalAlone readLiteral
+  literal-by o q = ap (λ (z : Option ℕ). after (readLiteralAs z (readerOf s d)) (λ x. give (x ∷ []))) (sym p ∙ q)
+
+  -- a width that is not supported
+  pub literal-none : k ≡ 0 → literalAlone types id (readerOf s d) ≡ refused (refusal 12 (d .offset) 0) (readerOf s d)
+  unfolding kindIs readLiteralAs readerOf readerAt
+  literal-none e = literal-by none (rw e)
+
+  module _ (z : k ≡ 0 → ⊥) where
+    kind-some : kindIs k ≡ some k
+    unfolding kindIs
+    kind-some = simp (ne-eqb k 0 z)
+
+    -- one word
+    pub literal-word : (g : Grammar) → (k ≡ 34) ⊎ (k ≡ 37) → literalAlone types id (readerOf s d) ≡ readEach g (k ∷ []) (readerOf s d)
+    unfolding readLiteralAs readEach readOne
+    literal-word g (inl e) = literal-by (some k) kind-some ∙ rw e refl
+    literal-word g (inr e) = literal-by (some k) kind-some ∙ rw e refl
+
+    module _ (l : isLong k ≡ true) where
+      literal-long : (y : Read ℕ) → readLong (readerOf s d) ≡ y
+          → literalAlone types id (readerOf s d) ≡ after (after y (λ v. give (wide k v))) (λ x. give (x ∷ []))
+      unfolding readLiteralAs
+      literal-long y h =
+          literal-by (some k) kind-some ∙ simp l (ap (λ (m : Read ℕ). after (after m (λ v. give (wide k v))) (λ x. give (x ∷ []))) h)
+
+      -- two words
+      pub long-good : (w : ℕ) (e : Decoder) → Long w e ≡ longFrom s d → literalAlone types id (readerOf s d) ≡ got (wide k w ∷ []) (readerOf s e)
+      long-good w e h = literal-long _ (long-got s d e w h .reads)
+
+      -- no two words
+      pub long-bad : (x : Refusal) (e : Decoder) → NoLong x e ≡ longFrom s d → literalAlone types id (readerOf s d) ≡ refused x (readerOf s e)
+      long-bad x e h = literal-long _ (long-refused s d e x h)
+
+-- PAIRS
+
+pair-word : (o : Operand) (y : Read ℕ)
+    → after y (λ w. give (o ∷ narrow 33 w ∷ [])) ≡ prefix (o ∷ []) (after (after y (λ w. give (narrow 33 w))) (λ x. give (x ∷ [])))
+unfolding prefix
+pair-word o (got w r) = refl
+pair-word o (refused x r) = refl
+
+pair-by : (g : Grammar) (m : Read Operand)
+    → after m (λ o r. after (readWord r) (λ w. give (o ∷ narrow 33 w ∷ []))) ≡ after (after m (λ o. give (o ∷ []))) (λ os q. prefix os (readEach g (33 ∷ []) q))
+unfolding readEach readOne
+pair-by g (got o r) = pair-word o (readWord r)
+pair-by g (refused x r) = refl
+
+-- a literal, then an id
+pub pair-is : (g : Grammar) (types : List Entry) (id : Option ℕ) (r : Reader)
+    → pairAlone types id r ≡ after (literalAlone types id r) (λ os q. prefix os (readEach g (33 ∷ []) q))
+unfolding pairAlone literalAlone
+pair-is g types id r = pair-by g (readLiteral types id r)

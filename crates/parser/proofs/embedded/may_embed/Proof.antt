@@ -1,0 +1,35 @@
+-- `parser::embedded::may_embed` meets its contract. Assumes nothing.
+use Prim.Native.Nat.{_-_, _≤_}
+use mathlib.Core.Path.{_≡_, refl}
+use native.Mathlib.Omega.{arith}
+use lib.ListN.{length}
+use Rattle.spec.specs.Base.{every}
+use Rattle.spec.specs.Match.{embeds}
+use Rattle.parser.specs.Parse.{slotsAt}
+use Rattle.parser.proofs.Once.{slot-told, end-told, three-told, end-past, none-bars, one-bars, one-may}
+use borrow.Author.Needs.{needs}
+use Rattle.parser.proofs.embedded.may_embed.Statement.{statement}
+use Rattle.parser.proofs.embedded.may_embed.Tie as tie
+
+abbrev Inv-loop : tie.InvT-loop
+Inv-loop g place p₀ p = (every embeds (slotsAt g place) ≡ every embeds (slotsAt g p)) × (p ≤ length g)
+
+abbrev μ-loop : tie.MeasureT-loop
+μ-loop g place p₀ p = length g - p
+
+pub may-embed-spec : {M : Type 1} → statement M
+may-embed-spec =
+    tie.close
+    (tie.spec
+    Inv-loop
+    μ-loop
+    (λ c. (refl, c .before .pre .1))
+    (λ c κs. search needs)
+    (λ c. search needs)
+    (λ c. search needs)
+    (λ c. none-bars _ _ (c .before .before .before .before .loop .inv .0) (end-told _ _ _ (c .before .before .slot-at .ensures .0) (c .enum-told .given .1)))
+    (λ c. one-bars _ _ _ _ _ (c .before .before .before .before .before .before .loop .inv .0) (slot-told _ _ _ (c .before .before .before .before .slot-at .ensures .0) _ _ (c .before .before .x .given .1)) (c .if1 .taken))
+    (λ c. omega (arith, c .before .before .before .before .before .loop-test .taken, c .before .before .before .before .before .before .before .before .pre .0))
+    (λ c. omega (arith, three-told _ _ _ _ (c .before .before .before .before .slot-at .ensures .1) (c .before .before .x .given .1)))
+    (λ c. (one-may _ _ _ _ _ (c .before .before .before .before .before .before .loop .inv .0) (slot-told _ _ _ (c .before .before .before .before .slot-at .ensures .0) _ _ (c .before .before .x .given .1)) (c .if1 .left), omega (arith, three-told _ _ _ _ (c .before .before .before .before .slot-at .ensures .1) (c .before .before .x .given .1))))
+    (λ c. none-bars _ _ (c .before .loop .inv .0) (end-past _ _ (c .loop-test .left))))

@@ -1,0 +1,27 @@
+-- `parser::inst::parse_body` meets its contract. Assumes nothing.
+use Rattle.parser.proofs.InstLaws.{row-limited, may-row, body-bad, body-left, body-got}
+use native.Mathlib.Omega.{arith}
+use borrow.Author.Needs.{needs}
+use Rattle.parser.proofs.inst.parse_body.Statement.{statement}
+use Rattle.parser.proofs.inst.parse_body.Tie as tie
+
+pub parse-body-spec : {M : Type 1} → statement M
+parse-body-spec =
+    tie.close
+    (tie.spec
+    (λ c. search needs)
+    (λ c. search needs)
+    (λ c κs. (c .before .before .before .before .before .before .before .before .pre .0, ((c .before .before .before .before .before .before .before .before .pre .1 .0 .0, c .before .before .before .before .before .before .before .before .pre .1 .0 .1, row-limited _, c .before .before .before .before .before .before .before .before .pre .1 .0 .3), ((omega arith, omega arith), (c .before .before .before .before .before .before .before .before .pre .1 .1 .1 .0, may-row _ _ _ _ _ _ _ _ _ _ _ _ (c .before .before .before .before .before .before .before .before .pre .1 .1 .1 .1))))))
+    (λ c. search needs)
+    (λ c. search needs)
+    (λ c κs. search needs)
+    (λ c. search needs)
+    (λ c. search needs)
+    (λ c. body-got _ _ _ _ _ _ _ _ _ _ _ _ _ _ _ (c .before .before .before .before .before .before .before .before .before .parse-operands .ensures) _ _ (c .before .before .before .parsed2 .given .1) _ (c .before .before .before .before .before .before .before .before .before .before .before .before .before .before .before .before .before .before .pre .1 .0 .2) (c .before .limit-reached .ensures) (c .if1 .taken))
+    (λ c κs. search needs)
+    (λ c. search needs)
+    (λ c. search needs)
+    (λ c. body-bad _ _ _ _ _ _ _ _ _ _ _ _ _ _ _ (c .before .before .before .before .before .before .before .parse-operands .ensures) _ _ (c .before .parsed .given .1))
+    (λ c. search needs)
+    (λ c. search needs)
+    (λ c. body-left _ _ _ _ _ _ _ _ _ _ _ _ _ _ _ (c .before .before .before .before .before .before .before .before .before .before .parse-operands .ensures) _ _ (c .before .before .before .before .parsed2 .given .1) _ _ _ _ (c .before .before .before .before .before .before .before .before .before .before .before .before .before .before .before .before .before .before .before .pre .1 .1 .1 .1) (c .before .before .limit-reached .ensures) (c .before .if1 .left) (c .no-inst .ensures)))

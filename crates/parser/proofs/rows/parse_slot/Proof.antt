@@ -1,0 +1,55 @@
+-- `parser::rows::parse_slot` meets its contract. Assumes nothing.
+use mathlib.Core.Path.{sym, _∙_}
+use Rattle.parser.proofs.SlotLaws.{walks-result, walks-none, walks-more}
+use borrow.Author.Needs.{needs}
+use Rattle.parser.proofs.rows.parse_slot.Statement.{statement}
+use Rattle.parser.proofs.rows.parse_slot.Tie as tie
+
+is-result-requires : tie.Need-is-result-requires
+is-result-requires c κs = search needs
+
+word-requires : tie.Need-word-requires
+word-requires c κs = search needs
+
+enum-known-w : tie.Need-enum-known-w
+enum-known-w c = search needs
+
+enum-known-w-2 : tie.Need-enum-known-w-2
+enum-known-w-2 c = search needs
+
+with-result-requires : tie.Need-with-result-requires
+with-result-requires c κs = search needs
+
+parse-kind-requires : tie.Need-parse-kind-requires
+parse-kind-requires c κs = (c .before .before .before .before .before .before .before .before .before .before .pre .0, ((c .before .before .before .before .before .before .before .before .before .before .pre .1 .0 .0, c .before .before .before .before .before .before .before .before .before .before .pre .1 .0 .1, c .before .before .before .before .before .before .before .before .before .before .pre .1 .0 .2, sym (c .before .before .before .is-result .ensures) ∙ c .before .before .if1 .left), c .before .before .before .before .before .before .before .before .before .before .pre .1 .1 (sym (c .before .before .before .is-result .ensures) ∙ c .before .before .if1 .left)))
+
+returns : tie.Need-returns
+returns c = walks-none _ _ _ _ _ _ _ _ _ _ (c .before .before .before .before .before .is-result .ensures) (c .before .before .before .before .if1 .taken) _ _ (sym (c .before .w .given .1) ∙ c .before .before .before .word .ensures)
+
+returns-2 : tie.Need-returns-2
+returns-2 c = walks-result _ _ _ _ _ _ _ _ _ _ (c .before .before .before .before .before .before .is-result .ensures) (c .before .before .before .before .before .if1 .taken) (c .before .before .before .before .before .before .before .before .before .before .before .before .before .pre .1 .0 .0) _ _ _ (sym (c .before .before .w2 .given .1) ∙ c .before .before .before .before .word .ensures) (c .with-result .ensures)
+
+same-length : tie.Need-same-length
+same-length c = search needs
+
+same-length-2 : tie.Need-same-length-2
+same-length-2 c = search needs
+
+returns-3 : tie.Need-returns-3
+returns-3 c = walks-more _ _ _ _ _ _ _ _ _ _ (c .before .before .before .before .before .before .before .before .is-result .ensures) (c .before .before .before .before .before .before .before .if1 .left) _ _ _ (c .before .before .before .before .parse-kind .ensures)
+
+pub parse-slot-spec : {M : Type 1} → statement M
+parse-slot-spec =
+    tie.close
+    (tie.spec
+    is-result-requires
+    word-requires
+    enum-known-w
+    enum-known-w-2
+    with-result-requires
+    parse-kind-requires
+    returns
+    returns-2
+    same-length
+    same-length-2
+    returns-3)

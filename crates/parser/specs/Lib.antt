@@ -1,0 +1,4 @@
+pub mod Parse
+pub mod Inst
+pub mod Body
+pub mod Slots

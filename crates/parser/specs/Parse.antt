@@ -1,0 +1,300 @@
+-- The parser's answers and stores, as what the reader of `spec` comes to.
+use Prim.Native.Nat.{ℕ, _+_, _*_, _-_, _%_, _≤_}
+use mathlib.Core.Path.{_≡_}
+use mathlib.Core.Bool.{Bool, true, false, _&&_, _||_}
+use mathlib.Core.List.{List, [], _∷_, _++_}
+use mathlib.Core.Option.{Option, none, some}
+use lib.Dec.{eqb}
+use lib.ListN.{length, drop}
+use Rattle.spec.specs.declared.Limit.{Limit}
+use Rattle.spec.specs.declared.Limit.the-variants.{Unlimited, Words}
+use Rattle.spec.specs.declared.Refusal.{Refusal}
+use Rattle.spec.specs.Base.{if_then_else_, within, isIn}
+use Rattle.spec.specs.Words.{bitsOf}
+use Rattle.spec.specs.Kinds.{isMask, isResult, mayBeOperand, mayBeParameter, mayEmbed}
+use Rattle.spec.specs.Grammar.{Grammar, Enumerant, Slot, slot, listed, parametersFor, parametersOf, slotsOf, items}
+use Rattle.spec.specs.Records.{narrow, operandsLog, operandsStrings, Entry}
+use Rattle.spec.specs.Records as records
+use Rattle.spec.specs.Reader.{Read, got, refused, Parse, _>>=_, _into_, give, readWord}
+use Rattle.spec.specs.Types.{literalInt}
+use Rattle.spec.specs.Match.{Seen, selector, known, readEnumerant, readLiteral, readOperand, readEmbedded}
+use Rattle.operand.specs.declared.Operand.{Operand}
+use Rattle.operand.specs.Parts.{parts}
+use Rattle.operand.specs.Log.{recordLength, kept}
+use Rattle.decoder.specs.declared.Decoder.{Decoder}
+use Rattle.decoder.specs.Answer.{readerOf}
+use Rattle.tracker.specs.declared.Id.{Id}
+use Rattle.tracker.specs.Track.{idIs, literalOf}
+use Rattle.parser.specs.declared.used.Used.{Used}
+use Rattle.parser.specs.declared.used.Parsed.{Parsed}
+use Rattle.parser.specs.declared.used.Parsed.the-variants.{Good, Bad}
+use Rattle.parser.specs.declared.operands.EnumRead.{EnumRead}
+use Rattle.parser.specs.declared.operands.EnumRead.the-variants.{Known as KnownAt, Unread}
+
+-- WHAT IS NOTED OF OPERANDS
+
+-- how many operands there are, the literal numbers of the first two, and the id that the first one is
+pub record Notes : Type 0 where
+  pub count : ℕ
+  pub first : Option ℕ
+  pub second : Option ℕ
+  pub id : Option ℕ
+
+-- the notes of what is in use
+unfoldable pub notesOf : Used → Notes
+notesOf u = record { count = u .operands; first = literalOf (u .first); second = literalOf (u .second); id = idIs (u .selector) }
+
+-- the notes with one operand more, of which the literal number and the id are known
+unfoldable pub noteAs : Option ℕ → Option ℕ → Notes → Notes
+noteAs a i n =
+    record {
+      count = n .count + 1;
+      first = if eqb (n .count) 0 then a else n .first;
+      second = if eqb (n .count) 1 then a else n .second;
+      id = if eqb (n .count) 0 then i else n .id;
+    }
+
+-- one operand more
+unfoldable pub note : records.Operand → Notes → Notes
+note o n = noteAs (literalInt o) (selector (o ∷ [])) n
+
+-- operands more
+unfoldable pub notes : List records.Operand → Notes → Notes
+notes [] n = n
+notes (o ∷ os) n = notes os (note o n)
+
+-- ONE RECORD MORE
+
+-- the same results and strings, one operand more, and the log up to a place
+pub record Noted (u : Used) (o : Operand) (i : Id) (log : ℕ) (r : Used) : Type 0 where
+  pub rtype : r .rtype ≡ u .rtype
+  pub rid : r .rid ≡ u .rid
+  pub strings : r .strings ≡ u .strings
+  pub log-is : r .log ≡ log
+  pub noted : notesOf r ≡ noteAs (literalOf o) (idIs i) (notesOf u)
+
+-- the value where the kind is that one
+unfoldable pub valueIf : ℕ → ℕ → ℕ → Option ℕ
+valueIf j k v = if eqb k j then some v else none
+
+-- the same results and strings, and one record of a kind and a value more
+pub record Pushed (k v : ℕ) (u r : Used) : Type 0 where
+  pub rtype : r .rtype ≡ u .rtype
+  pub rid : r .rid ≡ u .rid
+  pub strings : r .strings ≡ u .strings
+  pub log : r .log ≡ u .log + recordLength (parts k v)
+  pub noted : notesOf r ≡ noteAs (valueIf 34 k v) (valueIf 33 k v) (notesOf u)
+
+-- the same results, a string's record more, and so many bytes
+pub record Copied (size : ℕ) (u r : Used) : Type 0 where
+  pub rtype : r .rtype ≡ u .rtype
+  pub rid : r .rid ≡ u .rid
+  pub strings : r .strings ≡ u .strings + size
+  pub log : r .log ≡ u .log + 9
+  pub noted : notesOf r ≡ noteAs none none (notesOf u)
+
+-- READS AND STORES
+
+-- so many words were taken, all of them within the bytes; a limit had them, and lost them
+pub record Step (s : List ℕ) (d e : Decoder) (n : ℕ) : Type 0 where
+  pub next : e .offset ≡ d .offset + 4 * n
+  pub inside : e .offset ≤ length s
+  pub counted : (m : ℕ) → d .limit ≡ Words m → (n ≤ m) × (e .limit ≡ Words (m - n))
+
+-- the words that a limit has left
+unfoldable pub leftOf : Limit → ℕ
+leftOf Unlimited = 0
+leftOf (Words n) = n
+
+-- from a decoder to a later one, so many bytes on or more: the limit ends where it did
+pub record Went (d e : Decoder) (m : ℕ) : Type 0 where
+  pub pace : e .offset + 4 * leftOf (e .limit) ≡ d .offset + 4 * leftOf (d .limit)
+  pub forth : d .offset + m ≤ e .offset
+
+-- so little is in use that nothing wraps: a record of nine bytes at most for each word, a byte of string for each byte; and there is a limit
+pub record Few (s : List ℕ) (d : Decoder) (u : Used) : Type 0 where
+  pub short : length s ≤ 67108864
+  pub inside : d .offset ≤ length s
+  pub left : ℕ
+  pub limited : d .limit ≡ Words left
+  pub operands : 4 * u .operands ≤ d .offset
+  pub strings : u .strings ≤ d .offset
+  pub log : 4 * u .log ≤ 9 * d .offset
+
+-- operands are what was added to the stores and to what is in use
+pub record Held (k : Bool) (log₀ strs₀ log strs : List ℕ) (u n : Used) (os : List records.Operand) : Type 0 where
+  pub rtype : n .rtype ≡ u .rtype
+  pub rid : n .rid ≡ u .rid
+  pub nlog : n .log ≡ u .log + length (operandsLog (u .strings) os)
+  pub nstrings : n .strings ≡ u .strings + length (operandsStrings os)
+  pub noted : notesOf n ≡ notes os (notesOf u)
+  pub log-is : log ≡ kept k log₀ (u .log) (operandsLog (u .strings) os)
+  pub strings-is : strs ≡ kept k strs₀ (u .strings) (operandsStrings os)
+
+-- operands were read, and they are held
+pub record Accepted (s : List ℕ) (d : Decoder) (m : ℕ) (x : Read (List records.Operand)) (k : Bool) (log₀ strs₀ log strs : List ℕ) (u : Used) (e : Decoder) (n : Used) : Type 0 where
+  pub operands : List records.Operand
+  pub read : x ≡ got operands (readerOf s e)
+  pub held : Held k log₀ strs₀ log strs u n operands
+  pub few : Few s e n
+  pub went : Went d e m
+
+-- they were refused, and the stores are as they were
+pub record Denied (s : List ℕ) (x : Read (List records.Operand)) (log₀ strs₀ log strs : List ℕ) (y : Refusal) (e : Decoder) : Type 0 where
+  pub read : x ≡ refused y (readerOf s e)
+  pub log-is : log ≡ log₀
+  pub strings-is : strs ≡ strs₀
+
+-- the answer and the stores after a read that comes to x, so many bytes on or more
+unfoldable pub Parses : List ℕ → Decoder → ℕ → Read (List records.Operand) → Bool → List ℕ → List ℕ → List ℕ → List ℕ → Used → Parsed → Type 0
+Parses s d m x k log₀ strs₀ log strs u (Good e n) = Accepted s d m x k log₀ strs₀ log strs u e n
+Parses s d m x k log₀ strs₀ log strs u (Bad y e) = Denied s x log₀ strs₀ log strs y e
+
+-- the records of operands fit the stores
+unfoldable pub Fit : Used → ℕ → ℕ → List records.Operand → Type 0
+Fit u n m os = (u .log + length (operandsLog (u .strings) os) ≤ n) × (u .strings + length (operandsStrings os) ≤ m)
+
+-- a run that keeps is one whose records are known to fit
+unfoldable pub MayKeep : Bool → Used → ℕ → ℕ → Read (List records.Operand) → Type 0
+MayKeep false u n m x = Unit
+MayKeep true u n m (refused y r) = ⊥
+MayKeep true u n m (got os r) = Fit u n m os
+
+-- operands before those of the rest
+unfoldable pub prefix : List records.Operand → Read (List records.Operand) → Read (List records.Operand)
+prefix a (got os r) = got (a ++ os) r
+prefix a (refused y r) = refused y r
+
+-- KINDS
+
+-- the kinds of one record: a parameter's, or a float literal of one word
+unfoldable pub isSingle : ℕ → Bool
+isSingle k = mayBeParameter k || eqb k 37
+
+-- the kinds that `parse_operand` reads: one record and its parameters, or a pair
+unfoldable pub isPlain : ℕ → Bool
+isPlain k = mayBeParameter k || within 50 k 51
+
+-- what a row's operand may be
+unfoldable pub isOperand : Slot → Bool
+isOperand (slot k q) = mayBeOperand k
+
+-- ENUMERANTS
+
+-- a value that is known, with its parameters' kinds
+pub record KnownAs (s : List ℕ) (g : Grammar) (k : ℕ) (d : Decoder) (v : ℕ) (e : Decoder) : Type 0 where
+  pub parameters : List ℕ
+  pub listed : parametersFor k v g ≡ some parameters
+  pub read : readEnumerant g k (readerOf s d) ≡ got (known v parameters) (readerOf s e)
+  pub step : Step s d e 1
+
+-- what the read of an enumerant answers
+unfoldable pub EnumIs : List ℕ → Grammar → ℕ → Decoder → EnumRead → Type 0
+EnumIs s g k d (KnownAt v e) = KnownAs s g k d v e
+EnumIs s g k d (Unread y e) = readEnumerant g k (readerOf s d) ≡ refused y (readerOf s e)
+
+-- the parameters that are listed, or none
+unfoldable pub orNone : Option (List ℕ) → List ℕ
+orNone none = []
+orNone (some ps) = ps
+
+-- the parameters of each of some bits, in their order
+unfoldable pub bitParameters : ℕ → List Enumerant → List ℕ → List ℕ
+bitParameters k es [] = []
+bitParameters k es (b ∷ bs) = orNone (listed k b es) ++ bitParameters k es bs
+
+-- the parameters of a value: of each set bit for a mask
+unfoldable pub parametersAre : ℕ → ℕ → Grammar → List ℕ
+parametersAre k v g = if isMask k then bitParameters k (g .enumerants) (bitsOf v) else orNone (listed k v (g .enumerants))
+
+-- the parameters of a bit that is set
+unfoldable pub ifSet : ℕ → ℕ → ℕ → List Enumerant → List ℕ
+ifSet k b v es = if eqb (v % 2) 1 then orNone (listed k b es) else []
+
+-- the parameters from a place on
+unfoldable pub parametersAt : List ℕ → ℕ → List ℕ
+parametersAt g p = parametersOf (items (drop p g))
+
+-- LITERALS BY TYPE
+
+-- the kind that a number is, 0 for none
+unfoldable pub kindIs : ℕ → Option ℕ
+kindIs k = if eqb k 0 then none else some k
+
+-- none, or a kind of a literal by type
+unfoldable pub isLiteral : ℕ → Bool
+isLiteral k = isIn k (0 ∷ 34 ∷ 36 ∷ 37 ∷ 38 ∷ [])
+
+-- a literal by the type of an id, as the one operand
+unfoldable pub literalAlone : List Entry → Option ℕ → Parse (List records.Operand)
+literalAlone types id = readLiteral types id into (λ o. o ∷ [])
+
+-- a literal by the type of an id, then an id
+unfoldable pub pairAlone : List Entry → Option ℕ → Parse (List records.Operand)
+pairAlone types id = do
+  o ← readLiteral types id
+  w ← readWord
+  give (o ∷ narrow 33 w ∷ [])
+
+-- EMBEDDED OPERATIONS
+
+-- the operands from a place on
+unfoldable pub slotsAt : List ℕ → ℕ → List Slot
+slotsAt g p = slotsOf (items (drop p g))
+
+-- what an operand of an embedded row may be
+unfoldable pub isInner : ℕ → Bool
+isInner k = mayBeOperand k && mayEmbed k
+
+-- an operand of an embedded row, read once; a result is not there
+unfoldable pub onceAlone : Grammar → ℕ → Parse (List records.Operand)
+onceAlone g k = if isResult k then give [] else readOperand g k
+
+-- ROWS
+
+-- an operand that is no result, by the result type and the id that the first operand is
+unfoldable pub kindAlone : Grammar → List Entry → Option ℕ → Option ℕ → ℕ → Parse (List records.Operand)
+kindAlone g types t i k =
+    if eqb k 48 then literalAlone types t
+    else if eqb k 49 then pairAlone types i
+    else if eqb k 39 then readEmbedded g
+    else readOperand g k
+
+-- the notes of no operand
+unfoldable pub noNotes : Notes
+noNotes = record { count = 0; first = none; second = none; id = none }
+
+-- what was seen of a row is what was added to the stores, from these places on, and to what is in use
+pub record Walked (k : Bool) (log₀ strs₀ log strs : List ℕ) (a b : ℕ) (n : Used) (x : Seen) : Type 0 where
+  pub rtype : idIs (n .rtype) ≡ x .resultType
+  pub rid : idIs (n .rid) ≡ x .resultId
+  pub nlog : n .log ≡ a + length (operandsLog b (x .operands))
+  pub nstrings : n .strings ≡ b + length (operandsStrings (x .operands))
+  pub noted : notesOf n ≡ notes (x .operands) noNotes
+  pub log-is : log ≡ kept k log₀ a (operandsLog b (x .operands))
+  pub strings-is : strs ≡ kept k strs₀ b (operandsStrings (x .operands))
+
+-- a row was read to its end
+pub record RowRead (s : List ℕ) (d : Decoder) (x : Read Seen) (k : Bool) (log₀ strs₀ log strs : List ℕ) (a b : ℕ) (e : Decoder) (n : Used) : Type 0 where
+  pub seen : Seen
+  pub read : x ≡ got seen (readerOf s e)
+  pub walked : Walked k log₀ strs₀ log strs a b n seen
+  pub few : Few s e n
+  pub went : Went d e 0
+
+-- it was refused, and the stores are as they were
+pub record RowDenied (s : List ℕ) (x : Read Seen) (log₀ strs₀ log strs : List ℕ) (y : Refusal) (e : Decoder) : Type 0 where
+  pub read : x ≡ refused y (readerOf s e)
+  pub log-is : log ≡ log₀
+  pub strings-is : strs ≡ strs₀
+
+-- the answer and the stores after the walk of a row that comes to x
+unfoldable pub Walks : List ℕ → Decoder → Read Seen → Bool → List ℕ → List ℕ → List ℕ → List ℕ → ℕ → ℕ → Parsed → Type 0
+Walks s d x k log₀ strs₀ log strs a b (Good e n) = RowRead s d x k log₀ strs₀ log strs a b e n
+Walks s d x k log₀ strs₀ log strs a b (Bad y e) = RowDenied s x log₀ strs₀ log strs y e
+
+-- a walk that keeps is one whose records are known to fit
+unfoldable pub MayKeepRow : Bool → ℕ → ℕ → ℕ → ℕ → Read Seen → Type 0
+MayKeepRow false a b n m x = Unit
+MayKeepRow true a b n m (refused y r) = ⊥
+MayKeepRow true a b n m (got x r) = (a + length (operandsLog b (x .operands)) ≤ n) × (b + length (operandsStrings (x .operands)) ≤ m)

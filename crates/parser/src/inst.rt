@@ -1,0 +1,186 @@
+// One instruction.
+ghost use mathlib.Core.Path.{_≡_};
+ghost use mathlib.Core.Bool.{true};
+ghost use Prim.Native.Nat.{_+_, _*_, _≤_};
+ghost use lib.ListN.{length};
+ghost use Rattle.spec.specs.declared.Limit.the-variants.{Unlimited};
+ghost use Rattle.spec.specs.Base.{every};
+ghost use Rattle.spec.specs.Reader.{refusal, readerAt};
+ghost use Rattle.spec.specs.Grammar.{grammarOf};
+ghost use Rattle.spec.specs.Match.{readInstr};
+ghost use Rattle.grammar.specs.Index.{Indexed};
+ghost use Rattle.tracker.specs.Entries.{entriesOf};
+ghost use Rattle.parser.specs.Parse.{isOperand, slotsAt};
+ghost use Rattle.parser.specs.Inst.{Decodes, MayKeepInst};
+ghost use Rattle.parser.specs.Body.{bodyRead};
+use crate::rows::parse_operands;
+use crate::used::Parsed;
+use decoder::Decoder;
+use decoder::WordRead;
+use operand::Operand;
+use spec::Found;
+use spec::Limit;
+use spec::Refusal;
+use tracker::Id;
+use tracker::TypeTracker;
+
+// An instruction that was read: its opcode, results and word count, how many operands, the first two, and where log and strings go on
+// after its records.
+pub struct Decoded {
+    pub opcode: u16,
+    pub words: u16,
+    pub rtype: Id,
+    pub rid: Id,
+    pub operands: usize,
+    pub first: Operand,
+    pub second: Operand,
+    pub log: usize,
+    pub strings: usize,
+}
+
+// An instruction, or the first refusal in it.
+pub enum InstRead {
+    Got(Decoded),
+    Refused(Refusal),
+}
+
+// An instruction that is refused.
+fn no_inst(number: u32, place: usize, value: u32) -> InstRead
+    ensures { λ r. ⌜ r ≡ InstRead.Refused (refusal number place value) ⌝ }
+{
+    let refusal = Refusal {
+        number,
+        place,
+        value,
+    };
+    InstRead::Refused(refusal)
+}
+
+// The instruction at a place after its first word: the operands of the row that starts at a place of the grammar, then 7 where words
+// are left over.
+fn parse_body(
+    s: &[u8],
+    at: usize,
+    g: &[u8],
+    index: &[u16],
+    types: &[u32],
+    tracker: TypeTracker,
+    words: u16,
+    opcode: u16,
+    place: usize,
+    log: &mut [u8],
+    log_at: usize,
+    strings: &mut [u8],
+    strings_at: usize,
+    keep: bool,
+) -> InstRead
+    requires { ⌜ Indexed (now g) (now index) ⌝ }
+    requires { ⌜ (length (now s) ≤ 67108864) × (at + 4 ≤ length (now s)) × (1 ≤ words) × (3 * tracker .count ≤ length (now types)) ⌝ }
+    requires { ⌜ (4 * «log_at» ≤ 9 * at) × («strings_at» ≤ at) ⌝ }
+    requires { ⌜ (place ≤ length (now g)) × (every isOperand (slotsAt (now g) place) ≡ true) ⌝ }
+    requires { ⌜ MayKeepInst keep «log_at» «strings_at» (length (now log)) (length (now strings)) (bodyRead (grammarOf (now g)) (entriesOf (tracker .count) (now types)) at words opcode (slotsAt (now g) place) (readerAt (now s) (at + 4) Unlimited)) ⌝ }
+    ensures { λ r. ⌜ Decodes (now (s .entry)) at (bodyRead (grammarOf (now (g .entry))) (entriesOf (tracker .count) (now (types .entry))) at words opcode (slotsAt (now (g .entry)) place) (readerAt (now (s .entry)) (at + 4) Unlimited)) keep (now (log .entry)) (now (strings .entry)) (now (log .exit)) (now (strings .exit)) «log_at» «strings_at» r ⌝ }
+{
+    let start = Decoder {
+        offset: at + 4,
+        limit: Limit::Words((words as usize) - 1),
+    };
+    let parsed = parse_operands(
+        start,
+        s,
+        g,
+        index,
+        types,
+        tracker,
+        place,
+        log,
+        log_at,
+        strings,
+        strings_at,
+        keep,
+    );
+    match parsed {
+        Parsed::Bad(x, _) => InstRead::Refused(x),
+        Parsed::Good(e, u) => {
+            let rtype = u.rtype;
+            let rid = u.rid;
+            let operands = u.operands;
+            let first = u.first;
+            let second = u.second;
+            let log = u.log;
+            let strings = u.strings;
+            if e.limit_reached() {
+                return InstRead::Got(Decoded {
+                    opcode,
+                    words,
+                    rtype,
+                    rid,
+                    operands,
+                    first,
+                    second,
+                    log,
+                    strings,
+                });
+            }
+            no_inst(7, e.offset, 0)
+        }
+    }
+}
+
+// The instruction at a place, by the types known so far. Its operands' records go to the stores from the places given on, or are only
+// measured.
+pub fn parse_inst(
+    s: &[u8],
+    at: usize,
+    g: &[u8],
+    index: &[u16],
+    types: &[u32],
+    tracker: TypeTracker,
+    log: &mut [u8],
+    log_at: usize,
+    strings: &mut [u8],
+    strings_at: usize,
+    keep: bool,
+) -> InstRead
+    requires { ⌜ Indexed (now g) (now index) ⌝ }
+    requires { ⌜ (length (now s) ≤ 67108864) × (at ≤ length (now s)) × (3 * tracker .count ≤ length (now types)) ⌝ }
+    requires { ⌜ (4 * «log_at» ≤ 9 * at) × («strings_at» ≤ at) ⌝ }
+    requires { ⌜ MayKeepInst keep «log_at» «strings_at» (length (now log)) (length (now strings)) (readInstr (grammarOf (now g)) (entriesOf (tracker .count) (now types)) (readerAt (now s) at Unlimited)) ⌝ }
+    ensures { λ r. ⌜ Decodes (now (s .entry)) at (readInstr (grammarOf (now (g .entry))) (entriesOf (tracker .count) (now (types .entry))) (readerAt (now (s .entry)) at Unlimited)) keep (now (log .entry)) (now (strings .entry)) (now (log .exit)) (now (strings .exit)) «log_at» «strings_at» r ⌝ }
+{
+    let start = Decoder {
+        offset: at,
+        limit: Limit::Unlimited,
+    };
+    let first = start.word(s);
+    match first {
+        WordRead::Refused(x, _) => InstRead::Refused(x),
+        WordRead::Got(w, _) => {
+            let words = (w / 65536) as u16;
+            let opcode = (w % 65536) as u16;
+            if words == 0 {
+                return no_inst(4, at, 0);
+            }
+            let row = grammar::find_row(g, index, opcode);
+            let Found::At(place) = row else {
+                return no_inst(5, at, opcode as u32);
+            };
+            parse_body(
+                s,
+                at,
+                g,
+                index,
+                types,
+                tracker,
+                words,
+                opcode,
+                place,
+                log,
+                log_at,
+                strings,
+                strings_at,
+                keep,
+            )
+        }
+    }
+}

@@ -1,0 +1,11 @@
+// The parser: an instruction's operands matched against the row of its opcode, in one walk that keeps their records or only measures them.
+mod embedded;
+mod inst;
+mod literals;
+mod operands;
+mod rows;
+mod used;
+
+pub use inst::Decoded;
+pub use inst::InstRead;
+pub use inst::parse_inst;

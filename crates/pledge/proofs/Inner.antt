@@ -1,0 +1,172 @@
+-- The calls between the crates, which may ask something of their callers: where that is met, any two results that the contract
+-- allows coincide. `Asked` is what the contract's `requires` asks of a caller, `Learnt` what its `ensures` tells one.
+use Prim.Native.Nat.{ℕ}
+use mathlib.Core.Path.{_≡_, refl, ap, sym, _∙_}
+use mathlib.Core.List.{List}
+use native.Mathlib.Omega.{arith}
+use Rattle.spec.specs.Grammar.{Slot}
+use Rattle.grammar.specs.declared.find.SlotAt.{SlotAt}
+use Rattle.grammar.specs.declared.find.SlotAt.the-variants.{Slot as ASlot, End as NoSlot}
+use Rattle.grammar.specs.declared.find.ParameterAt.{ParameterAt}
+use Rattle.grammar.specs.declared.find.ParameterAt.the-variants.{Parameter as AParameter, End as NoParameter}
+use Rattle.grammar.specs.Find.{slotsThen, parametersThen}
+use Rattle.tracker.specs.declared.TypeTracker.{TypeTracker}
+use Rattle.tracker.specs.declared.Resolved.{Resolved}
+use Rattle.tracker.specs.declared.Resolved.the-variants.{«Type», Unknown}
+use Rattle.tracker.specs.Entries.{resolvedIs}
+use Rattle.decoder.proofs.word_at as word-at-call
+use Rattle.reflect.proofs.place as place-call
+use Rattle.grammar.proofs.item_at as item-at-call
+use Rattle.grammar.proofs.item_length as item-length-call
+use Rattle.grammar.proofs.slot_at as slot-at-call
+use Rattle.grammar.proofs.parameter_at as parameter-at-call
+use Rattle.grammar.proofs.is_known as is-known-call
+use Rattle.grammar.proofs.is_mask as is-mask-call
+use Rattle.grammar.proofs.is_enum as is-enum-call
+use Rattle.grammar.proofs.is_result as is-result-call
+use Rattle.tracker.proofs.TypeTracker.new as tracker-new-call
+use Rattle.tracker.proofs.TypeTracker.resolve as tracker-resolve-call
+use Rattle.tracker.proofs.TypeTracker.after as tracker-after-call
+use Rattle.tracker.proofs.TypeTracker.track as tracker-track-call
+use Rattle.records.proofs.fields_at as fields-at-call
+use Rattle.records.proofs.record_at as record-at-call
+use Rattle.records.proofs.operand_at as operand-at-call
+use Rattle.records.proofs.put_fields as put-fields-call
+use Rattle.operand.proofs.put_word as put-word-call
+use Rattle.operand.proofs.is_two as is-two-call
+use Rattle.operand.proofs.record_length as record-length-call
+use Rattle.operand.proofs.keep_record as keep-record-call
+use Rattle.operand.proofs.keep_bytes as keep-bytes-call
+use Rattle.listed.proofs.decimal as decimal-call
+use Rattle.listed.proofs.listing as listing-call
+use Rattle.pledge.proofs.Offered.{Determined, both, and}
+
+-- ANSWERS OF WHICH THE SAME IS TOLD
+
+-- operands of a row
+same-slot : (x y : SlotAt) (rest : List Slot) → slotsThen x rest ≡ slotsThen y rest → x ≡ y
+unfolding slotsThen
+same-slot (ASlot k q) (ASlot l r) rest e = cc
+same-slot (ASlot k q) NoSlot rest e = let z : _≡_ {A = ℕ} 0 1 = cc in absurd (omega arith)
+same-slot NoSlot (ASlot l r) rest e = let z : _≡_ {A = ℕ} 0 1 = cc in absurd (omega arith)
+same-slot NoSlot NoSlot rest e = refl
+
+-- parameters of an enumerant
+same-parameter : (x y : ParameterAt) (rest : List ℕ) → parametersThen x rest ≡ parametersThen y rest → x ≡ y
+unfolding parametersThen
+same-parameter (AParameter k) (AParameter l) rest e = cc
+same-parameter (AParameter k) NoParameter rest e = let z : _≡_ {A = ℕ} 0 1 = cc in absurd (omega arith)
+same-parameter NoParameter (AParameter l) rest e = let z : _≡_ {A = ℕ} 0 1 = cc in absurd (omega arith)
+same-parameter NoParameter NoParameter rest e = refl
+
+-- types of an id
+same-resolved : (i : ℕ) (x y : Resolved) → resolvedIs i x ≡ resolvedIs i y → x ≡ y
+unfolding resolvedIs
+same-resolved i («Type» w s) («Type» v r) e = cc
+same-resolved i («Type» w s) Unknown e = let z : _≡_ {A = ℕ} 0 1 = cc in absurd (omega arith)
+same-resolved i Unknown («Type» v r) e = let z : _≡_ {A = ℕ} 0 1 = cc in absurd (omega arith)
+same-resolved i Unknown Unknown e = refl
+
+-- trackers, which are a count
+same-tracker : {x y : TypeTracker} → x .count ≡ y .count → x ≡ y
+same-tracker e = ap (λ (n : ℕ). record { count = n }) e
+
+-- THE CALLS
+
+-- the word at a place
+pub word-at : Determined word-at-call.Kinds.ps word-at-call.Kinds.r word-at-call.Reads.Asked word-at-call.Reads.Learnt
+word-at = λ κs a x y after other ask p q. (both p q, refl)
+
+-- the cell of the layout table
+pub place : Determined place-call.Kinds.ps place-call.Kinds.r place-call.Reads.Asked place-call.Reads.Learnt
+place = λ κs a x y after other ask p q. (both p q, refl)
+
+-- the item at a place of a grammar
+pub item-at : Determined item-at-call.Kinds.ps item-at-call.Kinds.r item-at-call.Reads.Asked item-at-call.Reads.Learnt
+item-at = λ κs a x y after other ask p q. (both p q, refl)
+
+-- its length
+pub item-length : Determined item-length-call.Kinds.ps item-length-call.Kinds.r item-length-call.Reads.Asked item-length-call.Reads.Learnt
+item-length = λ κs a x y after other ask p q. (both p q, refl)
+
+-- the operand of a row at a place
+pub slot-at : Determined slot-at-call.Kinds.ps slot-at-call.Kinds.r slot-at-call.Reads.Asked slot-at-call.Reads.Learnt
+slot-at = λ κs a x y after other ask p q. (same-slot x y _ (sym (p .0) ∙ q .0), refl)
+
+-- the parameter of an enumerant at a place
+pub parameter-at : Determined parameter-at-call.Kinds.ps parameter-at-call.Kinds.r parameter-at-call.Reads.Asked parameter-at-call.Reads.Learnt
+parameter-at = λ κs a x y after other ask p q. (same-parameter x y _ (sym (p .0) ∙ q .0), refl)
+
+-- whether an enumerant is known
+pub is-known : Determined is-known-call.Kinds.ps is-known-call.Kinds.r is-known-call.Reads.Asked is-known-call.Reads.Learnt
+is-known = λ κs a x y after other ask p q. (both p q, refl)
+
+-- the tests on operand kinds
+pub is-mask : Determined is-mask-call.Kinds.ps is-mask-call.Kinds.r is-mask-call.Reads.Asked is-mask-call.Reads.Learnt
+is-mask = λ κs a x y after other ask p q. (both p q, refl)
+
+pub is-enum : Determined is-enum-call.Kinds.ps is-enum-call.Kinds.r is-enum-call.Reads.Asked is-enum-call.Reads.Learnt
+is-enum = λ κs a x y after other ask p q. (both p q, refl)
+
+pub is-result : Determined is-result-call.Kinds.ps is-result-call.Kinds.r is-result-call.Reads.Asked is-result-call.Reads.Learnt
+is-result = λ κs a x y after other ask p q. (both p q, refl)
+
+-- a tracker of no types
+pub tracker-new : Determined tracker-new-call.Kinds.ps tracker-new-call.Kinds.r tracker-new-call.Reads.Asked tracker-new-call.Reads.Learnt
+tracker-new = λ κs a x y after other ask p q. (same-tracker (both p q), refl)
+
+-- the type of an id
+pub tracker-resolve : Determined tracker-resolve-call.Kinds.ps tracker-resolve-call.Kinds.r tracker-resolve-call.Reads.Asked tracker-resolve-call.Reads.Learnt
+tracker-resolve = λ κs a x y after other ask p q. (same-resolved _ x y (both p q), refl)
+
+-- how many types there are after an instruction
+pub tracker-after : Determined tracker-after-call.Kinds.ps tracker-after-call.Kinds.r tracker-after-call.Reads.Asked tracker-after-call.Reads.Learnt
+tracker-after = λ κs a x y after other ask p q. (both p q, refl)
+
+-- the tracker and the types after an instruction
+pub tracker-track : Determined tracker-track-call.Kinds.ps tracker-track-call.Kinds.r tracker-track-call.Reads.Asked tracker-track-call.Reads.Learnt
+tracker-track = λ κs a x y after other ask p q.
+    (same-tracker (both (p .0) (q .0)), and refl (and (both (p .1) (q .1)) refl))
+
+-- the words of a record
+pub fields-at : Determined fields-at-call.Kinds.ps fields-at-call.Kinds.r fields-at-call.Reads.Asked fields-at-call.Reads.Learnt
+fields-at = λ κs a x y after other ask p q. (both p q, refl)
+
+pub record-at : Determined record-at-call.Kinds.ps record-at-call.Kinds.r record-at-call.Reads.Asked record-at-call.Reads.Learnt
+record-at = λ κs a x y after other ask p q. (both p q, refl)
+
+-- an operand of the log
+pub operand-at : Determined operand-at-call.Kinds.ps operand-at-call.Kinds.r operand-at-call.Reads.Asked operand-at-call.Reads.Learnt
+operand-at = λ κs a x y after other ask p q. (both (p .is) (q .is), refl)
+
+-- a record put into the store
+pub put-fields : Determined put-fields-call.Kinds.ps put-fields-call.Kinds.r put-fields-call.Reads.Asked put-fields-call.Reads.Learnt
+put-fields = λ κs a x y after other ask p q. (refl, and (both p q) refl)
+
+-- a word put into bytes
+pub put-word : Determined put-word-call.Kinds.ps put-word-call.Kinds.r put-word-call.Reads.Asked put-word-call.Reads.Learnt
+put-word = λ κs a x y after other ask p q. (refl, and (both p q) refl)
+
+-- whether a kind takes two words
+pub is-two : Determined is-two-call.Kinds.ps is-two-call.Kinds.r is-two-call.Reads.Asked is-two-call.Reads.Learnt
+is-two = λ κs a x y after other ask p q. (both p q, refl)
+
+-- the length of an operand in the log
+pub record-length : Determined record-length-call.Kinds.ps record-length-call.Kinds.r record-length-call.Reads.Asked record-length-call.Reads.Learnt
+record-length = λ κs a x y after other ask p q. (both p q, refl)
+
+-- an operand kept in the log
+pub keep-record : Determined keep-record-call.Kinds.ps keep-record-call.Kinds.r keep-record-call.Reads.Asked keep-record-call.Reads.Learnt
+keep-record = λ κs a x y after other ask p q. (both (p .0) (q .0), and (both (p .1) (q .1)) refl)
+
+-- bytes kept in a store
+pub keep-bytes : Determined keep-bytes-call.Kinds.ps keep-bytes-call.Kinds.r keep-bytes-call.Reads.Asked keep-bytes-call.Reads.Learnt
+keep-bytes = λ κs a x y after other ask p q. (refl, and (both p q) refl)
+
+-- a number in decimal, written into a buffer
+pub decimal : Determined decimal-call.Kinds.ps decimal-call.Kinds.r decimal-call.Reads.Asked decimal-call.Reads.Learnt
+decimal = λ κs a x y after other ask p q. (both (p .ends) (q .ends), and (both (p .is) (q .is)) refl)
+
+-- a module's listing, written into a buffer
+pub listing : Determined listing-call.Kinds.ps listing-call.Kinds.r listing-call.Reads.Asked listing-call.Reads.Learnt
+listing = λ κs a x y after other ask p q. (both (p .0) (q .0), and refl (and (both (p .1) (q .1)) refl))

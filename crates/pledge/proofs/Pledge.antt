@@ -1,0 +1,279 @@
+-- The fitter's pledge: every call that is offered takes any arguments, and any two results that its contract allows coincide. `Asked` is
+-- what the contract's `requires` asks of a caller, `Learnt` what its `ensures` tells one.
+use Prim.Native.Nat.{ℕ}
+use mathlib.Core.Path.{_≡_, refl, ap, ap₂, sym}
+use mathlib.Core.Bool.{Bool, true, false}
+use mathlib.Core.List.{List}
+use native.Mathlib.Omega.{arith}
+use Rattle.spec.specs.Load.{Stores}
+use Rattle.records.specs.declared.Checked.{Checked}
+use Rattle.records.specs.declared.Checked.the-variants.{Good, Bad}
+use Rattle.records.specs.Steps.{checkedIs}
+use Rattle.text.proofs.zero as zero-call
+use Rattle.text.proofs.utf8 as utf8-call
+use Rattle.decoder.proofs.header as header-call
+use Rattle.decoder.proofs.Decoder.new as new-call
+use Rattle.decoder.proofs.Decoder.offset as offset-call
+use Rattle.decoder.proofs.Decoder.set_limit as set-limit-call
+use Rattle.decoder.proofs.Decoder.clear_limit as clear-limit-call
+use Rattle.decoder.proofs.Decoder.has_limit as has-limit-call
+use Rattle.decoder.proofs.Decoder.limit_reached as limit-reached-call
+use Rattle.decoder.proofs.Decoder.word as word-call
+use Rattle.decoder.proofs.Decoder.int64 as int64-call
+use Rattle.decoder.proofs.Decoder.string as string-call
+use Rattle.reflect.proofs.opcode_kind as opcode-kind-call
+use Rattle.reflect.proofs.is_type as is-type-call
+use Rattle.reflect.proofs.table as layout-table-call
+use Rattle.operand.proofs.parts_of as parts-of-call
+use Rattle.grammar.proofs.well_formed as well-formed-call
+use Rattle.grammar.proofs.enumerant as enumerant-call
+use Rattle.builtin.proofs.table as builtin-table-call
+use Rattle.records.proofs.check as check-call
+use Rattle.loader.proofs.load as load-call
+use Rattle.loader.proofs.load_builtin as load-builtin-call
+use Rattle.assemble.proofs.write_parse_order as parse-call
+use Rattle.assemble.proofs.write_module_order as module-call
+use Rattle.assemble.proofs.standing as standing-call
+use Rattle.round_trip.proofs.round_trip as round-trip-call
+use Rattle.kollafrin.proofs.kollafrin_builtin as door-builtin-call
+use Rattle.kollafrin.proofs.kollafrin_load as door-load-call
+use Rattle.kollafrin.proofs.kollafrin_load_builtin as door-load-builtin-call
+use Rattle.kollafrin.proofs.kollafrin_write_parse_order as door-write-parse-call
+use Rattle.kollafrin.proofs.kollafrin_write_module_order as door-write-module-call
+use Rattle.kollafrin.proofs.kollafrin_standing as door-standing-call
+use Rattle.pledge.proofs.Offered.{Offered, both, and, both-stores}
+
+-- TEXT
+
+-- where the first zero byte is
+pub zero : Offered zero-call.Kinds.ps zero-call.Kinds.r zero-call.Reads.Asked zero-call.Reads.Learnt
+zero = record { free = λ κs a. tt; one = λ κs a x y after other p q. (both p q, refl) }
+
+-- whether bytes are UTF-8
+pub utf8 : Offered utf8-call.Kinds.ps utf8-call.Kinds.r utf8-call.Reads.Asked utf8-call.Reads.Learnt
+utf8 = record { free = λ κs a. tt; one = λ κs a x y after other p q. (both p q, refl) }
+
+-- THE DECODER, AND THE HEADER
+
+-- the five header words, or the refusal
+pub header : Offered header-call.Kinds.ps header-call.Kinds.r header-call.Reads.Asked header-call.Reads.Learnt
+header = record { free = λ κs a. tt; one = λ κs a x y after other p q. (both p q, refl) }
+
+-- a decoder at the start, with no limit
+pub new : Offered new-call.Kinds.ps new-call.Kinds.r new-call.Reads.Asked new-call.Reads.Learnt
+new = record { free = λ κs a. tt; one = λ κs a x y after other p q. (both p q, refl) }
+
+-- its position
+pub offset : Offered offset-call.Kinds.ps offset-call.Kinds.r offset-call.Reads.Asked offset-call.Reads.Learnt
+offset = record { free = λ κs a. tt; one = λ κs a x y after other p q. (both p q, refl) }
+
+-- the decoder with a limit
+pub set-limit : Offered set-limit-call.Kinds.ps set-limit-call.Kinds.r set-limit-call.Reads.Asked set-limit-call.Reads.Learnt
+set-limit = record { free = λ κs a. tt; one = λ κs a x y after other p q. (both p q, refl) }
+
+-- the decoder with none
+pub clear-limit :
+    Offered clear-limit-call.Kinds.ps clear-limit-call.Kinds.r clear-limit-call.Reads.Asked clear-limit-call.Reads.Learnt
+clear-limit = record { free = λ κs a. tt; one = λ κs a x y after other p q. (both p q, refl) }
+
+-- whether it has a limit
+pub has-limit : Offered has-limit-call.Kinds.ps has-limit-call.Kinds.r has-limit-call.Reads.Asked has-limit-call.Reads.Learnt
+has-limit = record { free = λ κs a. tt; one = λ κs a x y after other p q. (both p q, refl) }
+
+-- whether the limit is spent
+pub limit-reached :
+    Offered limit-reached-call.Kinds.ps limit-reached-call.Kinds.r limit-reached-call.Reads.Asked limit-reached-call.Reads.Learnt
+limit-reached = record { free = λ κs a. tt; one = λ κs a x y after other p q. (both p q, refl) }
+
+-- a word, or the refusal, with the decoder after it
+pub word : Offered word-call.Kinds.ps word-call.Kinds.r word-call.Reads.Asked word-call.Reads.Learnt
+word = record { free = λ κs a. tt; one = λ κs a x y after other p q. (both p q, refl) }
+
+-- a 64-bit literal, or the refusal, with the decoder after it
+pub int64 : Offered int64-call.Kinds.ps int64-call.Kinds.r int64-call.Reads.Asked int64-call.Reads.Learnt
+int64 = record { free = λ κs a. tt; one = λ κs a x y after other p q. (both p q, refl) }
+
+-- a string, or the refusal, with the decoder after it
+pub string : Offered string-call.Kinds.ps string-call.Kinds.r string-call.Reads.Asked string-call.Reads.Learnt
+string = record { free = λ κs a. tt; one = λ κs a x y after other p q. (both p q, refl) }
+
+-- OPCODES AND OPERANDS
+
+-- the kind of an opcode
+pub opcode-kind :
+    Offered opcode-kind-call.Kinds.ps opcode-kind-call.Kinds.r opcode-kind-call.Reads.Asked opcode-kind-call.Reads.Learnt
+opcode-kind = record { free = λ κs a. tt; one = λ κs a x y after other p q. (both p q, refl) }
+
+-- whether an opcode declares a type
+pub is-type : Offered is-type-call.Kinds.ps is-type-call.Kinds.r is-type-call.Reads.Asked is-type-call.Reads.Learnt
+is-type = record { free = λ κs a. tt; one = λ κs a x y after other p q. (both p q, refl) }
+
+-- the layout table
+pub layout-table :
+    Offered layout-table-call.Kinds.ps layout-table-call.Kinds.r layout-table-call.Reads.Asked layout-table-call.Reads.Learnt
+layout-table = record { free = λ κs a. tt; one = λ κs a x y after other p q. (both p q, refl) }
+
+-- an operand's kind and value
+pub parts-of : Offered parts-of-call.Kinds.ps parts-of-call.Kinds.r parts-of-call.Reads.Asked parts-of-call.Reads.Learnt
+parts-of = record { free = λ κs a. tt; one = λ κs a x y after other p q. (both p q, refl) }
+
+-- GRAMMARS
+
+-- whether bytes are a well-formed grammar
+pub well-formed :
+    Offered well-formed-call.Kinds.ps well-formed-call.Kinds.r well-formed-call.Reads.Asked well-formed-call.Reads.Learnt
+well-formed = record { free = λ κs a. tt; one = λ κs a x y after other p q. (both p q, refl) }
+
+-- an enumerant of a kind, or the refusal, with the decoder after it
+pub enumerant : Offered enumerant-call.Kinds.ps enumerant-call.Kinds.r enumerant-call.Reads.Asked enumerant-call.Reads.Learnt
+enumerant = record { free = λ κs a. tt; one = λ κs a x y after other p q. (both p q, refl) }
+
+-- the built-in grammar
+pub builtin-table :
+    Offered builtin-table-call.Kinds.ps builtin-table-call.Kinds.r builtin-table-call.Reads.Asked builtin-table-call.Reads.Learnt
+builtin-table = record { free = λ κs a. tt; one = λ κs a x y after other p q. (both p q, refl) }
+
+-- RECORDS
+
+-- two answers that name the same fault
+same-check : (x y : Checked) → checkedIs x ≡ checkedIs y → x ≡ y
+unfolding checkedIs
+same-check Good Good e = refl
+same-check Good (Bad i) e = let z : _≡_ {A = ℕ} 0 1 = cc in absurd (omega arith)
+same-check (Bad i) Good e = let z : _≡_ {A = ℕ} 0 1 = cc in absurd (omega arith)
+same-check (Bad i) (Bad j) e = cc
+
+-- the first record that breaks the store layout, or none
+pub check : Offered check-call.Kinds.ps check-call.Kinds.r check-call.Reads.Asked check-call.Reads.Learnt
+check = record { free = λ κs a. tt; one = λ κs a x y after other p q. (same-check x y (both p q), refl) }
+
+-- LOADING AND WRITING
+
+-- a load by the bytes of a grammar: the answer and all four stores after it
+pub load : Offered load-call.Kinds.ps load-call.Kinds.r load-call.Reads.Asked load-call.Reads.Learnt
+load =
+    record {
+      free = λ κs a. tt;
+      one = λ κs a x y after other p q. (both (p .0) (q .0), and refl (and refl (both-stores (p .1) (q .1) refl)));
+    }
+
+-- a load by the built-in grammar: the answer and all four stores after it
+pub load-builtin :
+    Offered load-builtin-call.Kinds.ps load-builtin-call.Kinds.r load-builtin-call.Reads.Asked load-builtin-call.Reads.Learnt
+load-builtin =
+    record {
+      free = λ κs a. tt;
+      one = λ κs a x y after other p q. (both (p .0) (q .0), and refl (both-stores (p .1) (q .1) refl));
+    }
+
+-- a write in the order read: the answer and the output after it
+pub write-parse-order : Offered parse-call.Kinds.ps parse-call.Kinds.r parse-call.Reads.Asked parse-call.Reads.Learnt
+write-parse-order =
+    record {
+      free = λ κs a. tt;
+      one = λ κs a x y after other p q.
+          (both (p .0) (q .0), ap (λ (o : List ℕ). (tt, (tt, (tt, (tt, (tt, (tt, (tt, (o, tt))))))))) (both (p .1) (q .1)));
+    }
+
+-- a write in module order: the answer and the output after it
+pub write-module-order : Offered module-call.Kinds.ps module-call.Kinds.r module-call.Reads.Asked module-call.Reads.Learnt
+write-module-order =
+    record {
+      free = λ κs a. tt;
+      one = λ κs a x y after other p q.
+          (both (p .0) (q .0), ap (λ (o : List ℕ). (tt, (tt, (tt, (tt, (tt, (tt, (tt, (o, tt))))))))) (both (p .1) (q .1)));
+    }
+
+-- whether records stand, or the refusal
+pub standing : Offered standing-call.Kinds.ps standing-call.Kinds.r standing-call.Reads.Asked standing-call.Reads.Learnt
+standing = record { free = λ κs a. tt; one = λ κs a x y after other p q. (both p q, refl) }
+
+-- two answers of which each is yes where the other is
+same-yes : (x y : Bool) → (x ≡ true → y ≡ true) → (y ≡ true → x ≡ true) → x ≡ y
+same-yes true y f g = sym (f refl)
+same-yes false true f g = g refl
+same-yes false false f g = refl
+
+-- two fours of stores, and what follows them
+and-stores : {A : Type 0} {t u : Stores} {x y : A} → t ≡ u → x ≡ y
+    → _≡_ {A = List ℕ × (List ℕ × (List ℕ × (List ℕ × A)))} (t .instructions, (t .log, (t .strings, (t .types, x))))
+    (u .instructions, (u .log, (u .strings, (u .types, y))))
+and-stores {A} p q = ap₂ (λ (t : Stores) (x : A). (t .instructions, (t .log, (t .strings, (t .types, x))))) p q
+
+-- a round trip: the answer, all eight stores and the output after it
+pub round-trip : Offered round-trip-call.Kinds.ps round-trip-call.Kinds.r round-trip-call.Reads.Asked round-trip-call.Reads.Learnt
+round-trip =
+    record {
+      free = λ κs a. tt;
+      one = λ κs a x y after other p q.
+          let t = both (p .loaded) (q .loaded) in
+          let u = both (p .again) (q .again) in (
+            same-yes x y (λ e. q .told (p .tells e)) (λ e. p .told (q .tells e)),
+            and refl (and refl (and-stores t (and (both (p .output) (q .output)) (and-stores u refl)))),
+          );
+    }
+
+-- THE DOOR FOR OTHER LANGUAGES
+
+-- the built-in grammar's length, and its bytes in the output where they fit
+pub door-builtin :
+    Offered door-builtin-call.Kinds.ps door-builtin-call.Kinds.r door-builtin-call.Reads.Asked door-builtin-call.Reads.Learnt
+door-builtin =
+    record { free = λ κs a. tt; one = λ κs a x y after other p q. (both (p .0) (q .0), and (both (p .1) (q .1)) refl) }
+
+-- a load: the number, all four stores and the words of the answer
+pub door-load : Offered door-load-call.Kinds.ps door-load-call.Kinds.r door-load-call.Reads.Asked door-load-call.Reads.Learnt
+door-load =
+    record {
+      free = λ κs a. tt;
+      one = λ κs a x y after other p q.
+          let words = both (p .1 .0) (q .1 .0) in
+          (both (p .0) (q .0), and refl (and refl (both-stores (p .1 .1) (q .1 .1) (and words refl))));
+    }
+
+-- the same by the built-in grammar
+pub door-load-builtin :
+    Offered door-load-builtin-call.Kinds.ps door-load-builtin-call.Kinds.r door-load-builtin-call.Reads.Asked door-load-builtin-call.Reads.Learnt
+door-load-builtin =
+    record {
+      free = λ κs a. tt;
+      one = λ κs a x y after other p q.
+          let words = both (p .1 .0) (q .1 .0) in
+          (both (p .0) (q .0), and refl (both-stores (p .1 .1) (q .1 .1) (and words refl)));
+    }
+
+-- a write in the order read: the number, the output and the words of the answer
+pub door-write-parse :
+    Offered door-write-parse-call.Kinds.ps door-write-parse-call.Kinds.r door-write-parse-call.Reads.Asked door-write-parse-call.Reads.Learnt
+door-write-parse =
+    record {
+      free = λ κs a. tt;
+      one = λ κs a x y after other p q. (
+        both (p .0) (q .0),
+        ap₂ (λ (o : List ℕ) (w : List ℕ). (tt, (tt, (tt, (tt, (tt, (tt, (tt, (o, (w, tt)))))))))) (both (p .1 .1) (q .1 .1))
+            (both (p .1 .0) (q .1 .0)),
+      );
+    }
+
+-- the same in module order
+pub door-write-module :
+    Offered door-write-module-call.Kinds.ps door-write-module-call.Kinds.r door-write-module-call.Reads.Asked door-write-module-call.Reads.Learnt
+door-write-module =
+    record {
+      free = λ κs a. tt;
+      one = λ κs a x y after other p q. (
+        both (p .0) (q .0),
+        ap₂ (λ (o : List ℕ) (w : List ℕ). (tt, (tt, (tt, (tt, (tt, (tt, (tt, (o, (w, tt)))))))))) (both (p .1 .1) (q .1 .1))
+            (both (p .1 .0) (q .1 .0)),
+      );
+    }
+
+-- whether records stand: the number, and the words of the answer
+pub door-standing :
+    Offered door-standing-call.Kinds.ps door-standing-call.Kinds.r door-standing-call.Reads.Asked door-standing-call.Reads.Learnt
+door-standing =
+    record {
+      free = λ κs a. tt;
+      one = λ κs a x y after other p q.
+          (both (p .0) (q .0), ap (λ (w : List ℕ). (tt, (tt, (tt, (tt, (tt, (tt, (w, tt)))))))) (both (p .1) (q .1)));
+    }

@@ -1,0 +1,1 @@
+// The fitter's pledge: any two results that an offered call's contract allows coincide, in proofs/.

@@ -1,0 +1,60 @@
+// The parts of an entry: fifteen words, then the module and what was kept of its answer, without gaps.
+ghost use mathlib.Core.Path.{_≡_};
+ghost use Prim.Native.Nat.{_+_, _≤_, _<_};
+ghost use lib.ListN.{length};
+ghost use Rattle.replay.specs.Entries.{HeadAt, endsOf};
+use decoder::word_at;
+
+// How many bytes the words take.
+pub const HEAD: usize = 60;
+
+// Where the parts after the words end, counted from the end of the words.
+pub struct Ends {
+    pub module: usize,
+    pub instructions: usize,
+    pub log: usize,
+    pub strings: usize,
+    pub types: usize,
+    pub order: usize,
+}
+
+// A word as a length.
+pub fn wide(x: u32) -> usize
+    ensures { λ r. ⌜ (r ≡ x) × (r < 4294967296) ⌝ }
+{
+    x as usize
+}
+
+// The fifteen words at a place.
+pub fn head_at(s: &[u8], at: usize) -> [u32; 15]
+    requires { ⌜ at + 60 ≤ length (now s) ⌝ }
+    ensures { λ r. ⌜ HeadAt at (now (s .entry)) r ⌝ }
+{
+    let mut head = [0u32; 15];
+    let mut i = 0;
+    while i < 15 {
+        head[i] = word_at(s, at + 4 * i);
+        i = i + 1;
+    }
+    head
+}
+
+// Where the parts end, by the lengths and counts among the words.
+pub fn ends_of(head: [u32; 15]) -> Ends
+    ensures { λ r. ⌜ r ≡ endsOf head ⌝ }
+{
+    let module = wide(head[0]);
+    let instructions = module + 32 * wide(head[5]);
+    let log = instructions + wide(head[6]);
+    let strings = log + wide(head[7]);
+    let types = strings + 12 * wide(head[8]);
+    let order = types + wide(head[9]);
+    Ends {
+        module,
+        instructions,
+        log,
+        strings,
+        types,
+        order,
+    }
+}

@@ -1,0 +1,217 @@
+-- What a round trip comes to.
+use Prim.Native.Nat.{ℕ, suc, _/_, _≤_, _<_}
+use mathlib.Core.Path.{_≡_, ap, ap₂, sym, _∙_}
+use mathlib.Core.Bool.{Bool, true, false, _&&_}
+use mathlib.Core.List.{List, [], _∷_}
+use native.Mathlib.Omega.{arith}
+use mir.Syntax.{w8}
+use mir.Val.{Fits}
+use borrow.Author.Tests.{eqb-true, eq-eqb, ltb-true, ltb-false, lt-ltb}
+use lib.Dec.{ltb, eqb}
+use lib.ListN.{length, take, getD}
+use lib.Seq.{take-append-seam, length-take-le, length-sets}
+use Rattle.spec.specs.declared.Loaded.{Loaded}
+use Rattle.spec.specs.declared.Written.{Written}
+use Rattle.spec.specs.Records.{Placed}
+use Rattle.spec.specs.Load.{Outcome, load, Stores, storesOf, laidOver}
+use Rattle.spec.specs.Plain.{plainBy, isPlain}
+use Rattle.spec.specs.Check.{Given, Checked, bad, good, check}
+use Rattle.spec.specs.Write.{parseBytes, Writing, unwritten, writeBy, writeParse}
+use Rattle.loader.specs.Loading.{loading}
+use Rattle.records.specs.Steps.{given}
+use Rattle.demands.proofs.Bytes.{AllBytes}
+use Rattle.demands.proofs.Choice.{left, right, both, cases}
+use Rattle.demands.proofs.Stores.{BeginWith}
+use Rattle.demands.proofs.Leaves.{roomIn, laidOn, load-leaves, leaves-begin}
+use Rattle.demands.proofs.ReadBack.{givenBy, reads-back}
+use Rattle.demands.proofs.Room.{load-roomy}
+use Rattle.demands.proofs.WriteBack.{written, wrote}
+use Rattle.demands.proofs.Demand3.{ComesBack, comes-back, writes, plain-is-written}
+use Rattle.round_trip.specs.Trip.{lent, first, back, second, CameBack, Suited, RoundTrip}
+use Rattle.round_trip.proofs.Rooms.{Roomy, accepted-opens, any-room}
+
+-- BYTES
+
+-- the elements of a slice of bytes
+all-bytes : (s : List ℕ) → ((i : ℕ) → Fits w8 (getD s i 0)) → AllBytes s
+all-bytes [] h = tt
+all-bytes (b ∷ s) h = (h 0 .fits, all-bytes s (λ i. h (suc i)))
+
+-- THE OUTPUT
+
+-- no more bytes are written than the output has
+put-within : (c : Checked) (f : List Placed → List ℕ) (out : List ℕ)
+    → writeBy c f out .said .bytes ≤ length (writeBy c f out .output)
+unfolding laidOver
+put-within (bad i) f out = omega arith
+put-within (good is) f out =
+    cases (ltb (length out) (length (f is))) (λ e. rw e (omega arith))
+    (λ e. rw e (rw length-sets (ltb-false (length out) (length (f is)) e)))
+
+pub parse-within : (h : List ℕ) (x : Given) (out : List ℕ) → writeParse h x out .said .bytes ≤ length (writeParse h x out .output)
+unfolding writeParse
+parse-within h x out = put-within (check false x) (parseBytes h) out
+
+-- THE TRIP
+
+-- an accepted load is not refused for room
+accepted-roomy : (o : Outcome) → o .said .number ≡ 0 → Roomy o
+accepted-roomy o z = rw z
+
+module _ (g s : List ℕ) (by : AllBytes s) (t : Stores) (out : List ℕ) (u : Stores) where
+  -- the outcome of the module's load
+  abbrev X : Outcome
+  X = load g (roomIn t) s
+
+  -- the stores begin with its records
+  begins : BeginWith (laidOn t (storesOf X)) (storesOf X)
+  begins = leaves-begin (load-leaves g s t)
+
+  -- bytes that fit are written
+  back-fits : length (written X) ≤ length out → back g s t out u ≡ wrote (written X) out
+  unfolding back first
+  back-fits h = writes g (roomIn t) s by (laidOn t (storesOf X)) begins out h
+
+  -- bytes that do not are refused
+  back-full : length out < length (written X) → back g s t out u ≡ unwritten 29 0 out
+  unfolding back first writeParse
+  back-full h = rw (reads-back g (roomIn t) s by (laidOn t (storesOf X)) begins, lt-ltb (length out) (length (written X)) h)
+
+  -- so what was written fits
+  written-fits : back g s t out u .said .number ≡ 0 → length (written X) ≤ length out
+  written-fits z =
+      cases (ltb (length out) (length (written X)))
+      (λ e. let full = back-full (ltb-true (length out) (length (written X)) e) in
+      absurd (omega (arith, ap (λ (w : Writing). w .said .number) full)))
+      (λ e. ltb-false (length out) (length (written X)) e)
+
+  -- what is loaded again is what was written
+  second-fits : length (written X) ≤ length out → second g s t out u ≡ load g (roomIn u) (written X)
+  unfolding second
+  second-fits h =
+      ap (λ (w : Writing). load g (roomIn u) (take (w .said .bytes) (w .output))) (back-fits h)
+      ∙ ap (load g (roomIn u)) (take-append-seam (written X) _)
+
+  -- an accepted module, whose bytes fit the output and are not refused for room, came back
+  returned : X .said .number ≡ 0 → length (written X) ≤ length out → Roomy (load g (roomIn u) (written X)) → CameBack g s t out u
+  unfolding first isPlain
+  returned z h f =
+      let c : ComesBack g (roomIn t) s (written X) = comes-back g (roomIn t) s by z in
+      let again : load g (roomIn t) (written X) .said .number ≡ 0 = ap (λ (o : Outcome). o .said .number) (c .same) ∙ z in
+      let room : load g (roomIn u) (written X) ≡ load g (roomIn t) (written X) =
+      any-room g (written X) (accepted-opens g (written X) (roomIn t) again) (roomIn u) (roomIn t) f
+      (accepted-roomy (load g (roomIn t) (written X)) again) in
+      let same : second g s t out u ≡ X = second-fits h ∙ room ∙ c .same in
+      record {
+        accepted = z;
+        output = back-fits h;
+        itself = λ p. sym (plain-is-written g (roomIn t) s by p);
+        plain = ap (plainBy (written X)) room ∙ c .plain;
+        same = same;
+        stores = ap storesOf same;
+      }
+
+  -- a module whose three numbers are 0 came back
+  three-zeros : first g s t out u .said .number ≡ 0 → back g s t out u .said .number ≡ 0 → second g s t out u .said .number ≡ 0
+      → CameBack g s t out u
+  unfolding first
+  three-zeros a b c =
+      let h = written-fits b in
+      returned a h
+      (accepted-roomy (load g (roomIn u) (written X)) (ap (λ (o : Outcome). o .said .number) (sym (second-fits h)) ∙ c))
+
+  -- so does one that is suited
+  suited : Suited g s t out u → CameBack g s t out u
+  unfolding first
+  suited q =
+      let long = comes-back g (roomIn t) s by (q .accepted) .long in
+      let fits : length (written X) ≤ length out = omega (arith, long, q .output) in
+      let words : length (written X) / 4 ≡ length s / 4 = omega (arith, long) in
+      returned (q .accepted) fits (load-roomy g (roomIn u) (written X) (rw words (q .room)))
+
+  -- and its three numbers are 0
+  zeros : CameBack g s t out u
+      → (eqb (first g s t out u .said .number) 0 && eqb (back g s t out u .said .number) 0 && eqb (second g s t out u .said .number) 0)
+      ≡ true
+  zeros c =
+      both
+      (both (eq-eqb _ 0 (c .accepted)) (eq-eqb _ 0 (ap (λ (w : Writing). w .said .number) (c .output))))
+      (eq-eqb _ 0 (ap (λ (o : Outcome). o .said .number) (c .same) ∙ c .accepted))
+
+  -- what the answer tells, by the three numbers, with what is left
+  closes : {yes : Bool} {t' u' : Stores} {out' : List ℕ}
+      → yes ≡
+      (eqb (first g s t out u .said .number) 0 && eqb (back g s t out u .said .number) 0 && eqb (second g s t out u .said .number) 0)
+      → t' ≡ laidOn t (storesOf (first g s t out u)) → out' ≡ back g s t out u .output
+      → u' ≡ laidOn u (storesOf (second g s t out u))
+      → RoundTrip g s t out u yes t' out' u'
+  closes {yes} n p q r =
+      let a : Bool = eqb (first g s t out u .said .number) 0 in
+      let b : Bool = eqb (back g s t out u .said .number) 0 in
+      let c : Bool = eqb (second g s t out u .said .number) 0 in
+      record {
+        tells = λ e.
+            let all : (a && b && c) ≡ true = sym n ∙ e in
+            let two : (a && b) ≡ true = left (a && b) c all in
+            three-zeros (eqb-true _ 0 (left a b two)) (eqb-true _ 0 (right a b two)) (eqb-true _ 0 (right (a && b) c all));
+        told = λ x. n ∙ zeros x;
+        suited = λ x. n ∙ zeros (suited x);
+        loaded = p;
+        output = q;
+        again = r;
+      }
+
+-- THE ANSWERS OF THE CALLS
+
+-- what was written fits the output
+pub answer-within : (h : List ℕ) (x : Given) (out : List ℕ) {out' : List ℕ} {w : Written}
+    → (w ≡ writeParse h x out .said) × (out' ≡ writeParse h x out .output) → w .bytes ≤ length out'
+answer-within h x out e = rw (e .0, e .1) (parse-within h x out)
+
+-- so many elements are taken
+pub taken : (n : ℕ) (l : List ℕ) → n ≤ length l → n ≡ length (take n l)
+taken n l h = sym (length-take-le n l h)
+
+-- four stores after records were laid over each
+pub laid-each : (t v : Stores) {i' l' s' t' : List ℕ} → i' ≡ laidOver (t .instructions) (v .instructions)
+    → l' ≡ laidOver (t .log) (v .log) → s' ≡ laidOver (t .strings) (v .strings) → t' ≡ laidOver (t .types) (v .types)
+    → lent i' l' s' t' ≡ laidOn t v
+unfolding laidOn
+laid-each t v p q r x = rw (p, q, r, x)
+
+-- what a load tells of its answer and of four stores after it
+abbrev LoadTells : (s g i l st ty : List ℕ) (a : Loaded) (i' l' st' ty' : List ℕ) → Type 0
+LoadTells s g i l st ty a i' l' st' ty' =
+    (a ≡ loading s g i l st ty .said) × ((i' ≡ laidOver i (storesOf (loading s g i l st ty) .instructions))
+    × ((l' ≡ laidOver l (storesOf (loading s g i l st ty) .log))
+    × ((st' ≡ laidOver st (storesOf (loading s g i l st ty) .strings))
+    × (ty' ≡ laidOver ty (storesOf (loading s g i l st ty) .types)))))
+
+-- the three calls, and the test of their numbers
+pub trips : {g s i l st ty out j m r q i' l' st' ty' out' j' m' r' q' : List ℕ} {a b : Loaded} {w : Written} {yes : Bool}
+    → ((n : ℕ) → Fits w8 (getD s n 0)) → LoadTells s g i l st ty a i' l' st' ty'
+    → let x : Writing =
+    writeParse (a .header) (given i' l' st' (a .counts .instructions) (a .counts .log) (a .counts .strings)) out in
+    (w ≡ x .said) × (out' ≡ x .output)
+    → LoadTells (take (w .bytes) out') g j m r q b j' m' r' q'
+    → yes ≡ (eqb (a .number) 0 && eqb (w .number) 0 && eqb (b .number) 0)
+    → RoundTrip g s (lent i l st ty) out (lent j m r q) yes (lent i' l' st' ty') out' (lent j' m' r' q')
+unfolding loading first back second givenBy roomIn
+trips {g} {s} {i} {l} {st} {ty} {out} {j} {m} {r} {q} {out' = out'} {b = b} {w = w} bytes p e f y =
+    let t : Stores = lent i l st ty in
+    let u : Stores = lent j m r q in
+    let loaded = laid-each t (storesOf (first g s t out u)) (p .1 .0) (p .1 .1 .0) (p .1 .1 .1 .0) (p .1 .1 .1 .1) in
+    let x =
+    ap₂ (λ (a : Loaded) (t' : Stores). writeParse (a .header) (givenBy t' (a .counts)) out) (p .0) loaded in
+    let said = e .0 ∙ ap (λ (w : Writing). w .said) x in
+    let output = e .1 ∙ ap (λ (w : Writing). w .output) x in
+    let z =
+    ap₂ (λ (n : ℕ) (o : List ℕ). load g (roomIn u) (take n o)) (ap (λ (w : Written). w .bytes) said) output in
+    closes g s (all-bytes s bytes) t out u
+    (y ∙ ap₂ (λ (a : Loaded) (w : Written). eqb (a .number) 0 && eqb (w .number) 0 && eqb (b .number) 0) (p .0) said
+    ∙ ap (λ (n : ℕ). eqb (first g s t out u .said .number) 0 && eqb (back g s t out u .said .number) 0 && eqb n 0)
+    (ap (λ (b : Loaded). b .number) (f .0) ∙ ap (λ (o : Outcome). o .said .number) z))
+    loaded
+    output
+    (laid-each u (storesOf (loading (take (w .bytes) out') g j m r q)) (f .1 .0) (f .1 .1 .0) (f .1 .1 .1 .0) (f .1 .1 .1 .1)
+    ∙ ap (λ (o : Outcome). laidOn u (storesOf o)) z)

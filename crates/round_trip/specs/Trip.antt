@@ -1,0 +1,58 @@
+-- A round trip: a module is loaded, its records are written in the order read, and what was written is loaded into other stores.
+use Prim.Native.Nat.{ℕ, _-_, _*_, _/_, _≤_}
+use mathlib.Core.Path.{_≡_}
+use mathlib.Core.Bool.{Bool, true}
+use mathlib.Core.List.{List}
+use lib.ListN.{length, take}
+use Rattle.spec.specs.Load.{enough, Outcome, load, Stores, storesOf}
+use Rattle.spec.specs.Plain.{isPlain}
+use Rattle.spec.specs.Write.{Writing, writeParse}
+use Rattle.demands.proofs.Room.{Covers}
+use Rattle.demands.proofs.Leaves.{roomIn, laidOn}
+use Rattle.demands.proofs.ReadBack.{givenBy}
+use Rattle.demands.proofs.WriteBack.{written, wrote}
+
+-- stores that are lent
+abbrev pub lent : List ℕ → List ℕ → List ℕ → List ℕ → Stores
+lent i l s t = record { instructions = i; log = l; strings = s; types = t }
+
+-- by a grammar, of a module, with stores, an output and other stores
+module _ (grammar s : List ℕ) (t : Stores) (out : List ℕ) (u : Stores) where
+  -- the module's load
+  unfoldable pub first : Outcome
+  first = load grammar (roomIn t) s
+
+  -- the writing of its records
+  unfoldable pub back : Writing
+  back = writeParse (first .said .header) (givenBy (laidOn t (storesOf first)) (first .said .counts)) out
+
+  -- the load of what was written
+  unfoldable pub second : Outcome
+  second = load grammar (roomIn u) (take (back .said .bytes) (back .output))
+
+  -- the module came back: it was accepted; its records were written as bytes, which are itself where it is plain; those are plain,
+  -- and load to the same outcome (header words, counts, instructions, type entries) and the same records
+  pub record CameBack : Type 0 where
+    pub accepted : first .said .number ≡ 0
+    pub output : back ≡ wrote (written first) out
+    pub itself : isPlain grammar (roomIn t) s ≡ true → written first ≡ s
+    pub plain : isPlain grammar (roomIn u) (written first) ≡ true
+    pub same : second ≡ first
+    pub stores : storesOf second ≡ storesOf first
+
+  -- what is asked for that: the module is accepted, its whole words fit the output, and the other stores have the room that always
+  -- suffices
+  pub record Suited : Type 0 where
+    pub accepted : first .said .number ≡ 0
+    pub output : 4 * (length s / 4) ≤ length out
+    pub room : Covers (roomIn u) (enough (length s / 4 - 5))
+
+  -- what a round trip answers, and leaves in the stores, the output and the other stores: yes exactly when the module came back;
+  -- and it comes back where that is suited
+  pub record RoundTrip (yes : Bool) (t' : Stores) (out' : List ℕ) (u' : Stores) : Type 0 where
+    pub tells : yes ≡ true → CameBack
+    pub told : CameBack → yes ≡ true
+    pub suited : Suited → yes ≡ true
+    pub loaded : t' ≡ laidOn t (storesOf first)
+    pub output : out' ≡ back .output
+    pub again : u' ≡ laidOn u (storesOf second)

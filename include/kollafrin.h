@@ -1,0 +1,132 @@
+/* kollafrin: a SPIR-V module into records in lent stores, and back into bytes.
+ *
+ * The functions are in libkollafrin.a (`rt staticlib kollafrin`). Each is proved against its contract in
+ * crates/kollafrin/src/lib.rt: the number that it returns, each word of `answer` and each store after it follow from what goes in,
+ * refused or not. None allocates, fails in another way than by its number, or keeps what it is lent.
+ *
+ * A store passes as a pointer and the number of its elements (words of a uint32_t store, bytes of a uint8_t store). What a caller
+ * owes: every pointer is valid for its length, aligned for its type and not null, even where the length is 0; and a store that is
+ * written (no `const`) overlaps no other store of the same call.
+ *
+ * Plain C99; also C++.
+ */
+#ifndef KOLLAFRIN_H
+#define KOLLAFRIN_H
+
+#include <stddef.h>
+#include <stdint.h>
+
+#ifdef __cplusplus
+extern "C" {
+#endif
+
+/* The numbers that the functions return. The offset of a load's answer is where each is found; where nothing is said of offset or
+ * value, they are 0. "Its instruction" is where the instruction starts. */
+enum kollafrin_number {
+    KOLLAFRIN_ACCEPTED = 0,                     /* Accepted. Load: the offset is the end of the whole words. */
+    KOLLAFRIN_HEADER_INCOMPLETE = 1,            /* The header has less than five words. Offset of the missing word. */
+    KOLLAFRIN_HEADER_INCORRECT = 2,             /* The first word is not the magic number. */
+    KOLLAFRIN_HEADER_SWAPPED = 3,               /* The first word is the magic number with its bytes swapped. */
+    KOLLAFRIN_WORD_COUNT_ZERO = 4,              /* An instruction says that it has no words. Its instruction. */
+    KOLLAFRIN_OPCODE_UNKNOWN = 5,               /* The grammar has no such opcode. Its instruction; value: the opcode. */
+    KOLLAFRIN_OPERAND_EXPECTED = 6,             /* An operand is missing at the end of an instruction. Where it should be. */
+    KOLLAFRIN_OPERAND_EXCEEDED = 7,             /* An instruction has words left over. Where they begin. */
+    KOLLAFRIN_LIMIT_REACHED = 8,                /* An operand runs past the words of its instruction. Where they end. */
+    KOLLAFRIN_STREAM_ENDED = 9,                 /* A word or string runs past the module's bytes, or an enumerant is missing. Where. */
+    KOLLAFRIN_ENUMERANT_UNKNOWN = 10,           /* The grammar has no such enumerant. Offset of its word; value: the word. */
+    KOLLAFRIN_STRING_NOT_UTF8 = 11,             /* A string is not well-formed UTF-8. Where it starts. */
+    KOLLAFRIN_TYPE_UNSUPPORTED = 12,            /* A literal's type has a width that is not read. Where the literal starts. */
+    KOLLAFRIN_EMBEDDED_OPCODE_UNKNOWN = 13,     /* The opcode in an OpSpecConstantOp is unknown. Offset after its word. */
+    KOLLAFRIN_EMBEDDED_ROW_UNFIT = 14,          /* That opcode's operands cannot be embedded. Offset after its word. */
+    KOLLAFRIN_NESTED_FUNCTION = 15,             /* An OpFunction within a function. Its instruction. */
+    KOLLAFRIN_UNCLOSED_FUNCTION = 16,           /* The module ends within a function. The end of the whole words. */
+    KOLLAFRIN_MISMATCHED_FUNCTION_END = 17,     /* An OpFunctionEnd outside functions. Its instruction. */
+    KOLLAFRIN_DETACHED_FUNCTION_PARAMETER = 18, /* An OpFunctionParameter outside functions. Its instruction. */
+    KOLLAFRIN_DETACHED_BLOCK = 19,              /* An OpLabel outside functions. Its instruction. */
+    KOLLAFRIN_NESTED_BLOCK = 20,                /* An OpLabel within a block. Its instruction. */
+    KOLLAFRIN_UNCLOSED_BLOCK = 21,              /* An OpFunctionEnd, or the end of the whole words, within a block. Where. */
+    KOLLAFRIN_MISMATCHED_TERMINATOR = 22,       /* A terminator outside blocks. Its instruction. */
+    KOLLAFRIN_DETACHED_INSTRUCTION = 23,        /* Any other instruction that must stand in a block. Its instruction. */
+    KOLLAFRIN_GRAMMAR_NOT_WELL_FORMED = 24,     /* The grammar's bytes are not well-formed. */
+    KOLLAFRIN_NO_ROOM_INSTRUCTIONS = 25,        /* No room in `instructions` for an instruction's record. Its instruction. */
+    KOLLAFRIN_NO_ROOM_LOG = 26,                 /* No room in `log` for its operands. Its instruction. */
+    KOLLAFRIN_NO_ROOM_STRINGS = 27,             /* No room in `strings` for its strings. Its instruction. */
+    KOLLAFRIN_NO_ROOM_TYPES = 28,               /* No room in `types` for its type entry. Its instruction. */
+    KOLLAFRIN_OUTPUT_SHORT = 29,                /* A writer's output is shorter than the bytes to write. */
+    KOLLAFRIN_BAD_RECORDS = 30,                 /* The records break the store layout. Index: the first bad one, or count + 1. */
+    KOLLAFRIN_MODULE_TOO_LONG = 31              /* The module has more than 67,108,864 bytes. */
+};
+
+/* The sixteen words of a load's answer; words 13 to 15 are 0. */
+enum kollafrin_load_word {
+    KOLLAFRIN_LOAD_NUMBER = 0,       /* The number, as returned. */
+    KOLLAFRIN_LOAD_OFFSET = 1,       /* Its byte offset in the module. */
+    KOLLAFRIN_LOAD_INDEX = 2,        /* Its instruction's index from 1; at the end, count + 1; 0 after 1, 2, 3, 24 and 31. */
+    KOLLAFRIN_LOAD_VALUE = 3,        /* Its value: of 5 the opcode, of 10 the word. */
+    KOLLAFRIN_LOAD_INSTRUCTIONS = 4, /* How many instructions are kept, of eight words each. */
+    KOLLAFRIN_LOAD_LOG = 5,          /* How many bytes of the operand log. */
+    KOLLAFRIN_LOAD_STRINGS = 6,      /* How many bytes of strings. */
+    KOLLAFRIN_LOAD_TYPES = 7,        /* How many type entries, of three words each. */
+    KOLLAFRIN_LOAD_HEADER = 8        /* Words 8 to 12: the five header words; 0 after 1, 2, 3, 24 and 31. */
+};
+
+/* The length of the built-in grammar in bytes. Its bytes are put at the start of `out` where they fit; else `out` is unchanged. */
+size_t kollafrin_builtin(uint8_t *out, size_t out_length);
+
+/* Loads a module by a grammar, and returns the number.
+ *
+ * The stores: `instructions` takes eight words for each instruction (opcode + 65536 * presence, with 1 for a result type and 2 for a
+ * result id; section tag; byte offset; result type or 0; result id or 0; start in the log; operand count; word count). `log` takes
+ * for each operand its kind in a byte, then 4 bytes, or 8 for a 64-bit literal and for a string (start and length in `strings`).
+ * `strings` takes the bytes of the strings without their zero. `types` takes three words for each type entry (id; width; 1 unsigned,
+ * 2 signed, 3 float).
+ *
+ * Sizes that always suffice, with W whole words after the header (W = module_length / 4 - 5): 8 W words of instructions, 9 W bytes
+ * of log, 4 W bytes of strings, 3 W words of types.
+ *
+ * A refusal leaves in the stores, up to the counts in `answer`, the records of the instructions before the one refused; after 1, 2, 3,
+ * 24 and 31 there are none. Accepted or refused, no store is changed past its count.
+ *
+ * The grammar is checked at each call; kollafrin_load_builtin has no need to. `answer`: see kollafrin_load_word. */
+uint32_t kollafrin_load(const uint8_t *module_bytes, size_t module_length, const uint8_t *grammar, size_t grammar_length,
+                        uint32_t *instructions, size_t instructions_length, uint8_t *log, size_t log_length, uint8_t *strings,
+                        size_t strings_length, uint32_t *types, size_t types_length, uint32_t answer[16]);
+
+/* The same by the built-in grammar: never 24. */
+uint32_t kollafrin_load_builtin(const uint8_t *module_bytes, size_t module_length, uint32_t *instructions, size_t instructions_length,
+                                uint8_t *log, size_t log_length, uint8_t *strings, size_t strings_length, uint32_t *types,
+                                size_t types_length, uint32_t answer[16]);
+
+/* Writes the header words and the instructions in the order read, and returns 0, 29 or 30. The counts are those of a load's answer
+ * (words 4, 5 and 6), or of records made otherwise, which are checked first: 30.
+ *
+ * The records of an accepted module are written as its whole words: 4 * (module_length / 4) bytes.
+ *
+ * `answer`: number; index of the first bad record from 1, or count + 1, after 30, else 0; bytes written, low word, then high word.
+ * A refusal changes no byte of `out` and writes 0 bytes; else `out` is unchanged past the bytes written. */
+uint32_t kollafrin_write_parse_order(const uint32_t header[5], const uint32_t *instructions, size_t instructions_length,
+                                     const uint8_t *log, size_t log_length, const uint8_t *strings, size_t strings_length,
+                                     size_t instruction_count, size_t log_count, size_t string_count, uint8_t *out,
+                                     size_t out_length, uint32_t answer[4]);
+
+/* The same in module order: a header with the constants of the library rspirv and of the version major and minor alone, the sections
+ * one after the other, then the functions, each with its parameters first; of several OpMemoryModel the last alone. Records that end
+ * within a function are 30 too. */
+uint32_t kollafrin_write_module_order(const uint32_t header[5], const uint32_t *instructions, size_t instructions_length,
+                                      const uint8_t *log, size_t log_length, const uint8_t *strings, size_t strings_length,
+                                      size_t instruction_count, size_t log_count, size_t string_count, uint8_t *out,
+                                      size_t out_length, uint32_t answer[4]);
+
+/* Whether the records of a module are standing: sections 1 to 11 first and in their order, no parameter after a label of its function,
+ * and at most one OpMemoryModel. Both orders then write the same after the header. Returns 0, or 30 as module order does.
+ *
+ * `answer`: number; index of the first bad record from 1, or count + 1, after 30, else 0; 1 for yes and 0 for no (0 after 30); 0. */
+uint32_t kollafrin_standing(const uint32_t *instructions, size_t instructions_length, const uint8_t *log, size_t log_length,
+                            const uint8_t *strings, size_t strings_length, size_t instruction_count, size_t log_count,
+                            size_t string_count, uint32_t answer[4]);
+
+#ifdef __cplusplus
+}
+#endif
+
+#endif
