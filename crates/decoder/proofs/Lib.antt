@@ -2,3 +2,5 @@ pub mod Front
 pub mod Laws
 pub mod Steps
 pub mod Heading
+pub mod Loans
+pub mod Pairs

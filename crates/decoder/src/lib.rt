@@ -10,6 +10,17 @@ ghost use Rattle.spec.specs.Reader.{refusal};
 ghost use Rattle.spec.specs.Header.{magicFault, noHeader, headerFrom};
 ghost use Rattle.decoder.specs.Answer.{decoder, setLimit, clearLimit, hasLimit, limitReached, wordFrom, longFrom, textFrom};
 ghost use Rattle.decoder.specs.Steps.{takeOne, endIn};
+
+mod lent;
+
+pub use lent::LongGiven;
+pub use lent::Pair;
+pub use lent::TextGiven;
+pub use lent::WordGiven;
+pub use lent::int64_in;
+pub use lent::string_in;
+pub use lent::word_and_string;
+pub use lent::word_in;
 use spec::Found;
 use spec::HeaderRead;
 use spec::Limit;

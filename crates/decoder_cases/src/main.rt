@@ -2,7 +2,9 @@
 // bytes, the position and the limit; then what came, a value or a refusal's number, place and value, and the position and limit after.
 use decoder::Decoder;
 use decoder::LongRead;
+use decoder::TextGiven;
 use decoder::TextRead;
+use decoder::WordGiven;
 use decoder::WordRead;
 use libc::STDOUT_FILENO;
 use spec::Limit;
@@ -109,16 +111,21 @@ fn int64(s: &[u8], d: Decoder) -> Decoder {
     }
 }
 
+// Writes a string's length, and where it starts.
+fn span(start: usize, length: usize) {
+    say(b"length ");
+    number(length);
+    say(b" from ");
+    number(start);
+}
+
 // Reads a string.
 fn string(s: &[u8], d: Decoder) -> Decoder {
     asked(b"string [", s, d);
     let r = d.string(s);
     match r {
         TextRead::Got(t) => {
-            say(b"length ");
-            number(t.length);
-            say(b" from ");
-            number(t.start);
+            span(t.start, t.length);
             after(t.next)
         }
         TextRead::Refused(x, e) => {
@@ -126,6 +133,26 @@ fn string(s: &[u8], d: Decoder) -> Decoder {
             after(e)
         }
     }
+}
+
+// Reads a word and the string after it, each by the decoder that is lent.
+fn pair(s: &[u8], offset: usize, words: usize) {
+    asked(b"lent [", s, at(offset).set_limit(words));
+    let r = decoder::word_and_string(s, offset, words);
+    let word = r.word;
+    match word {
+        WordGiven::Got(w) => hex(w),
+        WordGiven::Refused(x) => refused(x),
+    }
+    say(b" then ");
+    let text = r.text;
+    match text {
+        TextGiven::Got(start, length) => span(start, length),
+        TextGiven::Refused(x) => refused(x),
+    }
+    say(b" position ");
+    number(r.next);
+    say(b"\n");
 }
 
 // Reads a header: the number, place and value, and the five words.
@@ -271,6 +298,15 @@ fn limits() {
     limit(at(4).set_limit(0).clear_limit());
 }
 
+// The decoder lent: a word and a string; a word that spends the limit; a word that is refused and has taken one from the limit, as by
+// value, so that the string finds it spent.
+fn lent() {
+    let s = b"\x07\x00\x00\x00main\x00\x00\x00\x00";
+    pair(s, 0, 3);
+    pair(s, 0, 1);
+    pair(b"\x01\x02\x03", 0, 1);
+}
+
 // Headers: too few bytes, also with a wrong magic number; a right one; a wrong one; one whose bytes are swapped.
 fn headers() {
     header(b"\x03\x02\x23\x07");
@@ -290,5 +326,6 @@ fn main() {
     limited_strings();
     utf8();
     limits();
+    lent();
     headers();
 }

@@ -1,5 +1,5 @@
 -- The fitter's pledge: every call that is offered takes any arguments, and any two results that its contract allows coincide. `Asked` is
--- what the contract's `requires` asks of a caller, `Learnt` what its `ensures` tells one.
+-- what the contract's `requires` asks of a caller, `Learnt` what its `ensures` tells one; `clauses` is a contract as it is written.
 use Prim.Native.Nat.{ℕ}
 use mathlib.Core.Path.{_≡_, refl, ap, ap₂, sym}
 use mathlib.Core.Bool.{Bool, true, false}
@@ -11,6 +11,10 @@ use Rattle.records.specs.declared.Checked.the-variants.{Good, Bad}
 use Rattle.records.specs.Steps.{checkedIs}
 use Rattle.text.proofs.zero as zero-call
 use Rattle.text.proofs.utf8 as utf8-call
+use Rattle.decoder.proofs.Decoder as decoder-type
+use Rattle.decoder.proofs.lent.WordGiven as word-given-type
+use Rattle.decoder.proofs.lent.LongGiven as long-given-type
+use Rattle.decoder.proofs.lent.TextGiven as text-given-type
 use Rattle.decoder.proofs.header as header-call
 use Rattle.decoder.proofs.Decoder.new as new-call
 use Rattle.decoder.proofs.Decoder.offset as offset-call
@@ -21,6 +25,10 @@ use Rattle.decoder.proofs.Decoder.limit_reached as limit-reached-call
 use Rattle.decoder.proofs.Decoder.word as word-call
 use Rattle.decoder.proofs.Decoder.int64 as int64-call
 use Rattle.decoder.proofs.Decoder.string as string-call
+use Rattle.decoder.proofs.word_in as word-in-call
+use Rattle.decoder.proofs.int64_in as int64-in-call
+use Rattle.decoder.proofs.string_in as string-in-call
+use Rattle.decoder.proofs.word_and_string as word-and-string-call
 use Rattle.reflect.proofs.opcode_kind as opcode-kind-call
 use Rattle.reflect.proofs.is_type as is-type-call
 use Rattle.reflect.proofs.table as layout-table-call
@@ -41,7 +49,7 @@ use Rattle.kollafrin.proofs.kollafrin_load_builtin as door-load-builtin-call
 use Rattle.kollafrin.proofs.kollafrin_write_parse_order as door-write-parse-call
 use Rattle.kollafrin.proofs.kollafrin_write_module_order as door-write-module-call
 use Rattle.kollafrin.proofs.kollafrin_standing as door-standing-call
-use Rattle.pledge.proofs.Offered.{Offered, both, and, both-stores}
+use Rattle.pledge.proofs.Offered.{Offered, OfferedLent, both, and, both-stores, both-lent}
 
 -- TEXT
 
@@ -96,6 +104,37 @@ int64 = record { free = λ κs a. tt; one = λ κs a x y after other p q. (both 
 -- a string, or the refusal, with the decoder after it
 pub string : Offered string-call.Kinds.ps string-call.Kinds.r string-call.Reads.Asked string-call.Reads.Learnt
 string = record { free = λ κs a. tt; one = λ κs a x y after other p q. (both p q, refl) }
+
+-- THE DECODER LENT
+
+-- a word, or the refusal: the answer, and the decoder that was lent
+pub word-in : OfferedLent word-in-call.ended (λ M. word-in-call.clauses)
+word-in =
+    record {
+      free = λ w κs a g m. tt;
+      one = λ w κs a g x y after other m n p q. both-lent w m n (word-given-type.the-row .coded) (decoder-type.the-row .coded) p q;
+    }
+
+-- a 64-bit literal, or the refusal: the answer, and the decoder that was lent
+pub int64-in : OfferedLent int64-in-call.ended (λ M. int64-in-call.clauses)
+int64-in =
+    record {
+      free = λ w κs a g m. tt;
+      one = λ w κs a g x y after other m n p q. both-lent w m n (long-given-type.the-row .coded) (decoder-type.the-row .coded) p q;
+    }
+
+-- a string, or the refusal: the answer, and the decoder that was lent
+pub string-in : OfferedLent string-in-call.ended (λ M. string-in-call.clauses)
+string-in =
+    record {
+      free = λ w κs a g m. tt;
+      one = λ w κs a g x y after other m n p q. both-lent w m n (text-given-type.the-row .coded) (decoder-type.the-row .coded) p q;
+    }
+
+-- a word and the string after it, each or its refusal, and the place after both
+pub word-and-string :
+    Offered word-and-string-call.Kinds.ps word-and-string-call.Kinds.r word-and-string-call.Reads.Asked word-and-string-call.Reads.Learnt
+word-and-string = record { free = λ κs a. tt; one = λ κs a x y after other p q. (both p q, refl) }
 
 -- OPCODES AND OPERANDS
 

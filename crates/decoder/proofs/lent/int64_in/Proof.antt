@@ -1,4 +1,4 @@
--- `lent::string_in` meets its contract: a walk of its MIR, by hand. The borrow is opened, the decoder is copied out and passed by value to `string`, `text_next` takes the decoder out of the answer, its two fields are stored, `text_given` takes the rest of the answer, and the borrow is closed.
+-- `lent::int64_in` meets its contract: a walk of its MIR, by hand. The borrow is opened, the decoder is copied out and passed by value to `int64`, `long_next` takes the decoder out of the answer, its two fields are stored, `long_given` takes the rest of the answer, and the borrow is closed.
 -- All that the proof knows of the three is that each meets its contract.
 -- Assumes nothing.
 use mathlib.Core.Path.{_≡_, refl, ap, _∙_}
@@ -44,33 +44,34 @@ use denote.Triple.Walked.{says, Stays, stay-ref, stay-none-slice, walkOf, AllGo,
 use denote.Exit.{yes}
 use Rattle.spec.proofs.Limit as L
 use Rattle.spec.proofs.Limit.Laws as L′
-use Rattle.decoder.specs.Answer.{textFrom}
-use Rattle.decoder.specs.Lent.{textGiven, textNext}
+use Rattle.decoder.specs.Answer.{longFrom}
+use Rattle.decoder.specs.Lent.{longGiven, longNext}
 use Rattle.decoder.specs.declared.Decoder.{Decoder}
-use Rattle.decoder.specs.declared.TextRead.{TextRead}
-use Rattle.decoder.specs.declared.lent.TextGiven.{TextGiven}
+use Rattle.decoder.specs.declared.LongRead.{LongRead}
+use Rattle.decoder.specs.declared.lent.LongGiven.{LongGiven}
+use Rattle.decoder.proofs.Loans.{mach}
 use Rattle.decoder.proofs.Decoder as T
 use Rattle.decoder.proofs.Decoder.Laws as T′
-use Rattle.decoder.proofs.TextRead as R
-use Rattle.decoder.proofs.TextRead.Laws as R′
-use Rattle.decoder.proofs.lent.TextGiven as G
-use Rattle.decoder.proofs.lent.TextGiven.Laws as G′
-use Rattle.decoder.proofs.Decoder.string as read
-use Rattle.decoder.proofs.Decoder.string.Symbol as read-def
-use Rattle.decoder.proofs.Decoder.string.Symbol.{name as #read}
-use Rattle.decoder.proofs.Decoder.string.Met as read-thm
-use Rattle.decoder.proofs.lent.text_next as next
-use Rattle.decoder.proofs.lent.text_next.Symbol as next-def
-use Rattle.decoder.proofs.lent.text_next.Symbol.{name as #next}
-use Rattle.decoder.proofs.lent.text_next.Met as next-thm
-use Rattle.decoder.proofs.lent.text_given as rest
-use Rattle.decoder.proofs.lent.text_given.Symbol as rest-def
-use Rattle.decoder.proofs.lent.text_given.Symbol.{name as #rest}
-use Rattle.decoder.proofs.lent.text_given.Met as rest-thm
-use Rattle.decoder.proofs.lent.string_in.Key.{name as #in}
-use Rattle.decoder.proofs.lent.string_in as f
-use Rattle.decoder.proofs.lent.string_in.Statement as stated
-use Rattle.decoder.proofs.lent.string_in.Code as code
+use Rattle.decoder.proofs.LongRead as R
+use Rattle.decoder.proofs.LongRead.Laws as R′
+use Rattle.decoder.proofs.lent.LongGiven as G
+use Rattle.decoder.proofs.lent.LongGiven.Laws as G′
+use Rattle.decoder.proofs.Decoder.int64 as read
+use Rattle.decoder.proofs.Decoder.int64.Symbol as read-def
+use Rattle.decoder.proofs.Decoder.int64.Symbol.{name as #read}
+use Rattle.decoder.proofs.Decoder.int64.Met as read-thm
+use Rattle.decoder.proofs.lent.long_next as next
+use Rattle.decoder.proofs.lent.long_next.Symbol as next-def
+use Rattle.decoder.proofs.lent.long_next.Symbol.{name as #next}
+use Rattle.decoder.proofs.lent.long_next.Met as next-thm
+use Rattle.decoder.proofs.lent.long_given as rest
+use Rattle.decoder.proofs.lent.long_given.Symbol as rest-def
+use Rattle.decoder.proofs.lent.long_given.Symbol.{name as #rest}
+use Rattle.decoder.proofs.lent.long_given.Met as rest-thm
+use Rattle.decoder.proofs.lent.int64_in.Key.{name as #in}
+use Rattle.decoder.proofs.lent.int64_in as f
+use Rattle.decoder.proofs.lent.int64_in.Statement as stated
+use Rattle.decoder.proofs.lent.int64_in.Code as code
 
 abbrev stayed : Stays (f.ended .signature .params) (f.ended .kept)
 stayed = (stay-ref (0 ∷ []) tt (plain (λ _. T.the-row)), (stay-none-slice (1 ∷ []) tt (plain (λ _. u8)) yes, tt))
@@ -87,12 +88,9 @@ module _ {M : Type 1} (𝓤 : URA M) (H : Heap 𝓤) (A : Atoms 𝓤) (at-mem : 
   RestC = tripleOf 𝓤 H A rest.signature (rest.spec 𝓤 H A at-mem run)
 
 module _ {M : Type 1} (𝓤 : URA M) (H : Heap 𝓤) (A : Atoms 𝓤) (W : Given 𝓤 H A) (at-mem : Memory → SProp 𝓤) (run : Routine → Fun 𝓤) (κ κ′ : Lft) (bounds : AllOutlive 2 (f.signature .outlives) (κ, (κ′, tt))) (q q′ : Share) (b o : ℕ) (γ : GName) (h : Decoder) (s : RefT (List ℕ)) where
-  -- the machine values of the slice and of a decoder
+  -- the machine value of the slice
   abbrev v : Val
   v = sliceVal (s .ptr) (length (s .now))
-
-  abbrev mach : Decoder → Val
-  mach d = only (LL.vals T.the-type T′.the-laws d)
 
   abbrev a : RefT Decoder × (RefT (List ℕ) × Unit {0})
   a = (record { ptr = (b, o); name = γ; now = h }, (s, tt))
@@ -106,7 +104,7 @@ module _ {M : Type 1} (𝓤 : URA M) (H : Heap 𝓤) (A : Atoms 𝓤) (W : Given
   abbrev Own : Fml
   Own = ShrSlice (named 1) κ′ u8 .own s (v ∷ [])
 
-  -- the call of `string`
+  -- the call of `int64`
   abbrev to-read : ReadC 𝓤 H A at-mem run .Ghost
   to-read = (((κ′, tt), (q′, tt), tt, (h, (s, tt)), (mach h ∷ [], (v ∷ [], tt))), tt)
 
@@ -114,30 +112,30 @@ module _ {M : Type 1} (𝓤 : URA M) (H : Heap 𝓤) (A : Atoms 𝓤) (W : Given
   goes-read =
       qed W ((‵ (flft κ′ q′) ⊛ ‵ ftrue) ∷ ‵ (T.the-row .own h (mach h ∷ [])) ∷ ‵ Own ∷ []) ∵ nothing ! $ move ! (3 ∷ 0 ∷ []) $ fjoin ! $ move ! (2 ∷ 0 ∷ []) $ fjoin ! $ move ! (1 ∷ 0 ∷ []) $ join ! $ frame ! $ done !
 
-  read-said : (r : TextRead) → ent 𝓤 (ensured 𝓤 H A read.ended (read.clauses 𝓤 H A at-mem run) (κ′, tt) (h, (s, tt)) tt r) (fact 𝓤 (r ≡ textFrom (now s) h))
-  read-said r = exE 𝓤 _ (λ ws. snd∗ 𝓤 (sem 𝓤 H A (lasts read.ended (κ′, tt) (h, (s, tt)) ws)) (fact 𝓤 (r ≡ textFrom (now s) h)))
+  read-said : (r : LongRead) → ent 𝓤 (ensured 𝓤 H A read.ended (read.clauses 𝓤 H A at-mem run) (κ′, tt) (h, (s, tt)) tt r) (fact 𝓤 (r ≡ longFrom (now s) h))
+  read-said r = exE 𝓤 _ (λ ws. snd∗ 𝓤 (sem 𝓤 H A (lasts read.ended (κ′, tt) (h, (s, tt)) ws)) (fact 𝓤 (r ≡ longFrom (now s) h)))
 
-  -- the call of `text_next`, at the answer r with the machine value u
-  abbrev to-next : TextRead → Val → NextC 𝓤 H A at-mem run .Ghost
+  -- the call of `long_next`, at the answer r with the machine value u
+  abbrev to-next : LongRead → Val → NextC 𝓤 H A at-mem run .Ghost
   to-next r u = ((tt, tt, tt, (r, tt), (u ∷ [], tt)), tt)
 
-  goes-next : (r : TextRead) (u : Val) → ent 𝓤 (sem 𝓤 H A (R.the-row .own r (u ∷ []))) (NextC 𝓤 H A at-mem run .pre (to-next r u))
+  goes-next : (r : LongRead) (u : Val) → ent 𝓤 (sem 𝓤 H A (R.the-row .own r (u ∷ []))) (NextC 𝓤 H A at-mem run .pre (to-next r u))
   goes-next r u = qed W (‵ (R.the-row .own r (u ∷ [])) ∷ []) ∵ nothing ! $ move ! (1 ∷ 0 ∷ []) $ join ! $ nothing ! $ join ! $ frame ! $ done !
 
-  next-said : (r : TextRead) (d : Decoder) → ent 𝓤 (ensured 𝓤 H A next.ended (next.clauses 𝓤 H A at-mem run) tt (r, tt) tt d) (fact 𝓤 (d ≡ textNext r))
-  next-said r d = exE 𝓤 _ (λ ws. snd∗ 𝓤 (sem 𝓤 H A (lasts next.ended tt (r, tt) ws)) (fact 𝓤 (d ≡ textNext r)))
+  next-said : (r : LongRead) (d : Decoder) → ent 𝓤 (ensured 𝓤 H A next.ended (next.clauses 𝓤 H A at-mem run) tt (r, tt) tt d) (fact 𝓤 (d ≡ longNext r))
+  next-said r d = exE 𝓤 _ (λ ws. snd∗ 𝓤 (sem 𝓤 H A (lasts next.ended tt (r, tt) ws)) (fact 𝓤 (d ≡ longNext r)))
 
-  -- the call of `text_given`, at the same
-  abbrev to-rest : TextRead → Val → RestC 𝓤 H A at-mem run .Ghost
+  -- the call of `long_given`, at the same
+  abbrev to-rest : LongRead → Val → RestC 𝓤 H A at-mem run .Ghost
   to-rest r u = ((tt, tt, tt, (r, tt), (u ∷ [], tt)), tt)
 
-  goes-rest : (r : TextRead) (u : Val) → ent 𝓤 (sem 𝓤 H A (R.the-row .own r (u ∷ []))) (RestC 𝓤 H A at-mem run .pre (to-rest r u))
+  goes-rest : (r : LongRead) (u : Val) → ent 𝓤 (sem 𝓤 H A (R.the-row .own r (u ∷ []))) (RestC 𝓤 H A at-mem run .pre (to-rest r u))
   goes-rest r u = qed W (‵ (R.the-row .own r (u ∷ [])) ∷ []) ∵ nothing ! $ move ! (1 ∷ 0 ∷ []) $ join ! $ nothing ! $ join ! $ frame ! $ done !
 
-  rest-said : (r : TextRead) (g : TextGiven) → ent 𝓤 (ensured 𝓤 H A rest.ended (rest.clauses 𝓤 H A at-mem run) tt (r, tt) tt g) (fact 𝓤 (g ≡ textGiven r))
-  rest-said r g = exE 𝓤 _ (λ ws. snd∗ 𝓤 (sem 𝓤 H A (lasts rest.ended tt (r, tt) ws)) (fact 𝓤 (g ≡ textGiven r)))
+  rest-said : (r : LongRead) (g : LongGiven) → ent 𝓤 (ensured 𝓤 H A rest.ended (rest.clauses 𝓤 H A at-mem run) tt (r, tt) tt g) (fact 𝓤 (g ≡ longGiven r))
+  rest-said r g = exE 𝓤 _ (λ ws. snd∗ 𝓤 (sem 𝓤 H A (lasts rest.ended tt (r, tt) ws)) (fact 𝓤 (g ≡ longGiven r)))
 
-  exits : (g : TextGiven) (u : Val) (d : Decoder) → Is G.the-row g (u ∷ []) → g ≡ textGiven (textFrom (now s) h) → d ≡ textNext (textFrom (now s) h)
+  exits : (g : LongGiven) (u : Val) (d : Decoder) → Is G.the-row g (u ∷ []) → g ≡ longGiven (longFrom (now s) h) → d ≡ longNext (longFrom (now s) h)
       → ent 𝓤 (⋆ 𝓤 H A (‵ (fobs γ (T.the-row .coded .code d)) ∷ ‵ (fbor κ (Body (mem T.the-row) b o γ)) ∷ ‵ (flft κ q) ∷ (‵ (flft κ′ q′) ⊛ ‵ ftrue) ∷ ‵ Own ∷ [])) (Post u)
   exits g u d is e₁ e₂ =
       qed W (‵ (fobs γ (T.the-row .coded .code d)) ∷ ‵ (fbor κ (Body (mem T.the-row) b o γ)) ∷ ‵ (flft κ q) ∷ (‵ (flft κ′ q′) ⊛ ‵ ftrue) ∷ ‵ Own ∷ []) ∵
@@ -157,21 +155,21 @@ module _ {M : Type 1} (𝓤 : URA M) (H : Heap 𝓤) (A : Atoms 𝓤) (W : Given
         move ! (1 ∷ []) $ peeks ! T.the-row (Is T.the-row) (shows 𝓤 H A T.the-row) h (LL.vals T.the-type T′.the-laws h) (λ was. move ! (1 ∷ 0 ∷ []) $
         -- [the struct's cell; what it owns; the open borrow; obs; auth; s's token; what s owns; _5; …; _4; …; _3; …; _2; …; _1; …; room for _0; …]
         assigns ! (of-opd ! (load ! (from ! (hop ! (look ! 15 refl) (stop !))) (look ! 0 refl))) (from ! (stop !)) (init ! 7 refl (LL.lawful T.the-type T′.the-laws 𝓤 H A W .typed h _ was .0)) $
-        -- the call of `string`
+        -- the call of `int64`
         move ! (6 ∷ []) $ fsplit ! $ use1 W (‵ Own ⊛ ‵ Own) (shr-slice-copy 𝓤 H A W (named 1) κ′ u8 .twice s (v ∷ [])) $ split ! $ move ! (8 ∷ 4 ∷ 0 ∷ []) $
         use3 W (raw (ReadC 𝓤 H A at-mem run .pre to-read)) goes-read $
-        -- [what `string` asks; what s owns; true; the cell; the open borrow; obs; auth; _5; …]
+        -- [what `int64` asks; what s owns; true; the cell; the open borrow; obs; auth; _5; …]
         calls-at ! fm (ReadC 𝓤 H A at-mem run) known-read to-read (and-then ! (load ! (from ! (stop !)) (look ! 7 refl)) (and-then ! (load ! (from ! (stop !)) (look ! 13 refl)) (no-more !))) (λ u.
-        use1 W (later (some (λ (r : TextRead). ((‵ (flft κ′ q′) ⊛ ‵ ftrue) ⊛ ‵ (R.the-row .own r (u ∷ []))) ⊛ raw (ensured 𝓤 H A read.ended (read.clauses 𝓤 H A at-mem run) (κ′, tt) (h, (s, tt)) tt r)))) (id⊢ 𝓤 _) $ await ! tt $ pick ! (λ r.
-        split ! $ move ! (1 ∷ []) $ use1 W (raw (fact 𝓤 (r ≡ textFrom (now s) h))) (read-said r) $ heard ! (r ≡ textFrom (now s) h) (λ e₁. split ! $ move ! (1 ∷ []) $
+        use1 W (later (some (λ (r : LongRead). ((‵ (flft κ′ q′) ⊛ ‵ ftrue) ⊛ ‵ (R.the-row .own r (u ∷ []))) ⊛ raw (ensured 𝓤 H A read.ended (read.clauses 𝓤 H A at-mem run) (κ′, tt) (h, (s, tt)) tt r)))) (id⊢ 𝓤 _) $ await ! tt $ pick ! (λ r.
+        split ! $ move ! (1 ∷ []) $ use1 W (raw (fact 𝓤 (r ≡ longFrom (now s) h))) (read-said r) $ heard ! (r ≡ longFrom (now s) h) (λ e₁. split ! $ move ! (1 ∷ []) $
         -- [the answer; s's token; what s owns; true; the cell; the open borrow; obs; auth; _5; …]
         peeks ! R.the-row (Is R.the-row) (shows 𝓤 H A R.the-row) r (u ∷ []) (λ is₁.
         land ! (from ! (stop !)) (init ! 12 refl (EL.lawful R.the-type R′.the-laws 𝓤 H A W tt .typed r _ is₁ .0)) $
-        -- the call of `text_next`
+        -- the call of `long_next`
         use1 W (raw (NextC 𝓤 H A at-mem run .pre (to-next r u))) (goes-next r u) $
         calls-at ! fm (NextC 𝓤 H A at-mem run) known-next (to-next r u) (and-then ! (load ! (from ! (stop !)) (look ! 12 refl)) (no-more !)) (λ u′.
         use1 W (later (some (λ (d : Decoder). (‵ ftrue ⊛ ‵ (T.the-row .own d (u′ ∷ []))) ⊛ raw (ensured 𝓤 H A next.ended (next.clauses 𝓤 H A at-mem run) tt (r, tt) tt d)))) (id⊢ 𝓤 _) $ await ! tt $ pick ! (λ d.
-        split ! $ move ! (1 ∷ []) $ use1 W (raw (fact 𝓤 (d ≡ textNext r))) (next-said r d) $ heard ! (d ≡ textNext r) (λ e₂. split ! $ drop ! $
+        split ! $ move ! (1 ∷ []) $ use1 W (raw (fact 𝓤 (d ≡ longNext r))) (next-said r d) $ heard ! (d ≡ longNext r) (λ e₂. split ! $ drop ! $
         peeks ! T.the-row (Is T.the-row) (shows 𝓤 H A T.the-row) d (u′ ∷ []) (λ is₂. drop ! $
         -- [s's token; what s owns; true; the cell; the open borrow; obs; auth; _5; …; _4; …; _3; …; _2; …; _1; …; room for _0; …]
         land ! (from ! (stop !)) (init ! 9 refl (LL.lawful T.the-type T′.the-laws 𝓤 H A W .typed d _ is₂ .0)) $
@@ -179,11 +177,11 @@ module _ {M : Type 1} (𝓤 : URA M) (H : Heap 𝓤) (A : Atoms 𝓤) (W : Given
         -- the two fields
         assigns ! (of-opd ! (load ! (from ! (fld ! refl (stop !))) (look-in ! 9 (sub ! 0 refl (whole !))))) (from ! (hop ! (look ! 15 refl) (fld ! refl (stop !)))) (store-in ! 3 (sub ! 0 refl (whole !)) (tt, record { fits = LL.owed T.the-type T′.the-laws d (u′ ∷ []) is₂ .0 .1 })) $
         assigns ! (of-opd ! (load ! (from ! (fld ! refl (stop !))) (look-in ! 9 (sub ! 1 refl (whole !))))) (from ! (hop ! (look ! 15 refl) (fld ! refl (stop !)))) (store-in ! 3 (sub ! 1 refl (whole !)) (EL.lawful L.the-type L′.the-laws 𝓤 H A W tt .typed (d .limit) _ (LL.owed T.the-type T′.the-laws d (u′ ∷ []) is₂ .1 .0) .0)) $
-        -- the call of `text_given`
+        -- the call of `long_given`
         owned ! R.the-row (Is R.the-row) (EL.makes R.the-type R′.the-plain 𝓤 H A) r (u ∷ []) is₁ $ use1 W (raw (RestC 𝓤 H A at-mem run .pre (to-rest r u))) (goes-rest r u) $
         calls-at ! fm (RestC 𝓤 H A at-mem run) known-rest (to-rest r u) (and-then ! (load ! (from ! (stop !)) (look ! 12 refl)) (no-more !)) (λ u″.
-        use1 W (later (some (λ (g : TextGiven). (‵ ftrue ⊛ ‵ (G.the-row .own g (u″ ∷ []))) ⊛ raw (ensured 𝓤 H A rest.ended (rest.clauses 𝓤 H A at-mem run) tt (r, tt) tt g)))) (id⊢ 𝓤 _) $ await ! tt $ pick ! (λ g.
-        split ! $ move ! (1 ∷ []) $ use1 W (raw (fact 𝓤 (g ≡ textGiven r))) (rest-said r g) $ heard ! (g ≡ textGiven r) (λ e₃. split ! $ drop ! $
+        use1 W (later (some (λ (g : LongGiven). (‵ ftrue ⊛ ‵ (G.the-row .own g (u″ ∷ []))) ⊛ raw (ensured 𝓤 H A rest.ended (rest.clauses 𝓤 H A at-mem run) tt (r, tt) tt g)))) (id⊢ 𝓤 _) $ await ! tt $ pick ! (λ g.
+        split ! $ move ! (1 ∷ []) $ use1 W (raw (fact 𝓤 (g ≡ longGiven r))) (rest-said r g) $ heard ! (g ≡ longGiven r) (λ e₃. split ! $ drop ! $
         peeks ! G.the-row (Is G.the-row) (shows 𝓤 H A G.the-row) g (u″ ∷ []) (λ is₃. drop ! $
         land ! (from ! (stop !)) (init ! 17 refl (EL.lawful G.the-type G′.the-laws 𝓤 H A W tt .typed g _ is₃ .0)) $
         -- the borrow is closed
@@ -192,7 +190,7 @@ module _ {M : Type 1} (𝓤 : URA M) (H : Heap 𝓤) (A : Atoms 𝓤) (W : Given
         -- [obs; the borrow; its token; s's; what s owns; true; _5; …; _4; …; _3; …; _2; …; _1; …; _0; …]
         returns ! (look ! 16 refl) $ forget ! 6 refl $ forget ! 8 refl $ forget ! 10 refl $ forget ! 12 refl $ forget ! 14 refl $ forget ! 16 refl $
         move ! (16 ∷ 17 ∷ []) $ free1 ! $ move ! (14 ∷ 15 ∷ []) $ free1 ! $ move ! (12 ∷ 13 ∷ []) $ free1 ! $ move ! (10 ∷ 11 ∷ []) $ free1 ! $ move ! (8 ∷ 9 ∷ []) $ free1 ! $ move ! (6 ∷ 7 ∷ []) $ free1 ! $ free0 ! $
-        keep ! (0 ∷ 1 ∷ 2 ∷ 3 ∷ 4 ∷ []) $ by ! (exits g u″ d is₃ (e₃ ∙ ap textGiven e₁) (e₂ ∙ ap textNext e₁))))))))))))))))))))))
+        keep ! (0 ∷ 1 ∷ 2 ∷ 3 ∷ 4 ∷ []) $ by ! (exits g u″ d is₃ (e₃ ∙ ap longGiven e₁) (e₂ ∙ ap longNext e₁))))))))))))))))))))))
 
 module _ {M : Type 1} (𝓤 : URA M) (H : Heap 𝓤) (A : Atoms 𝓤) (W : Given 𝓤 H A) (at-mem : Memory → SProp 𝓤) (run : Routine → Fun 𝓤) where
   in-walks : (C : Calls 𝓤 H) (Λ : Loops 𝓤 H) → FmC 𝓤 H (W .laws) C → Triple 𝓤 (C #read) (ReadC 𝓤 H A at-mem run) → Triple 𝓤 (C #next) (NextC 𝓤 H A at-mem run) → Triple 𝓤 (C #rest) (RestC 𝓤 H A at-mem run)
@@ -209,12 +207,12 @@ in-meets : {M : Type 1} (𝓤 : URA M) (H : Heap 𝓤) (A : Atoms 𝓤) → Give
 in-meets 𝓤 H A W at-mem run 𝓣 known-read known-next known-rest = walk-meets 𝓤 H A f.ended stayed W (goes 𝓤 H A W at-mem run) (f.clauses 𝓤 H A at-mem run) (WpFn 𝓤 H (𝓣 .C) (𝓣 .Λ) code.function) (WpFn-mono 𝓤 H (W .laws) 𝓣 code.function)
     (in-walks 𝓤 H A W at-mem run (𝓣 .C) (𝓣 .Λ) (fmOf 𝓤 H (W .laws) 𝓣) known-read known-next known-rest)
 
-pub string-in-spec : {M : Type 1} → stated.statement M
+pub int64-in-spec : {M : Type 1} → stated.statement M
 unfolding code.routine tablesOf
-string-in-spec 𝓤 H 𝓜 𝓖 𝓡 =
+int64-in-spec 𝓤 H 𝓜 𝓖 𝓡 =
     entered 𝓤 H (tripleOf 𝓤 H (𝓖 .A) f.signature (f.spec 𝓤 H (𝓖 .A) (𝓜 .mem) (𝓡 .run)))
     (tables 𝓤 H 𝓜 𝓡 code.env .C) (tables 𝓤 H 𝓜 𝓡 code.env .Λ) #in code.function (code.unfolded 𝓤 H 𝓜 𝓡)
     (in-meets 𝓤 H (𝓖 .A) (givenOf 𝓤 H 𝓜 𝓖) (𝓜 .mem) (𝓡 .run) (tablesOf 𝓤 H 𝓜 (tables 𝓤 H 𝓜 𝓡 code.env))
-    (cited 𝓤 H (ReadC 𝓤 H (𝓖 .A) (𝓜 .mem) (𝓡 .run)) 𝓜 𝓡 code.env #read read-def.routine code.calls-decoder·Decoder·string (read-thm.met 𝓤 H 𝓜 𝓖 𝓡))
-    (cited 𝓤 H (NextC 𝓤 H (𝓖 .A) (𝓜 .mem) (𝓡 .run)) 𝓜 𝓡 code.env #next next-def.routine code.calls-decoder·lent·text-next (next-thm.met 𝓤 H 𝓜 𝓖 𝓡))
-    (cited 𝓤 H (RestC 𝓤 H (𝓖 .A) (𝓜 .mem) (𝓡 .run)) 𝓜 𝓡 code.env #rest rest-def.routine code.calls-decoder·lent·text-given (rest-thm.met 𝓤 H 𝓜 𝓖 𝓡)))
+    (cited 𝓤 H (ReadC 𝓤 H (𝓖 .A) (𝓜 .mem) (𝓡 .run)) 𝓜 𝓡 code.env #read read-def.routine code.calls-decoder·Decoder·int64 (read-thm.met 𝓤 H 𝓜 𝓖 𝓡))
+    (cited 𝓤 H (NextC 𝓤 H (𝓖 .A) (𝓜 .mem) (𝓡 .run)) 𝓜 𝓡 code.env #next next-def.routine code.calls-decoder·lent·long-next (next-thm.met 𝓤 H 𝓜 𝓖 𝓡))
+    (cited 𝓤 H (RestC 𝓤 H (𝓖 .A) (𝓜 .mem) (𝓡 .run)) 𝓜 𝓡 code.env #rest rest-def.routine code.calls-decoder·lent·long-given (rest-thm.met 𝓤 H 𝓜 𝓖 𝓡)))

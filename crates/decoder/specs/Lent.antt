@@ -51,10 +51,10 @@ textNext (NoText x d) = d
 unfoldable pub pairOf : WordGiven → TextGiven → Decoder → Pair
 pairOf w t d = record { word = w; text = t; next = d .offset }
 
--- a string and then its place, after a word that came
+-- a word's answer, and the string from the decoder after it
 unfoldable pub thenText : List ℕ → WordGiven → Decoder → Pair
 thenText s w d = pairOf w (textGiven (textFrom s d)) (textNext (textFrom s d))
 
--- a word, and the string after it
+-- a word, or its refusal, and the string after it
 unfoldable pub pairFrom : List ℕ → Decoder → Pair
 pairFrom s d = thenText s (wordGiven (wordFrom s d)) (wordNext (wordFrom s d))
