@@ -19,7 +19,6 @@ use Rattle.spec.specs.Records.{Operand, operandBytes, longBytes, idBytes, instr
 use Rattle.spec.specs.Check.{bitsIn, fieldIn, placedOf}
 use Rattle.spec.proofs.Store.{sets-append, rest-is, rest-back}
 use Rattle.operand.specs.Parts.{isTwo}
-use Rattle.operand.specs.Log.{kept}
 use Rattle.operand.proofs.LogLaws.{Copied, copy-turn, copy-end}
 use Rattle.records.specs.Good.{operandBy, operandAt}
 use Rattle.records.specs.Steps.{wordIf, resultWords}
@@ -44,15 +43,14 @@ pub length-padded : (s : List ℕ) → length s + (4 - length s % 4) ≡ length 
 unfolding padded
 length-padded s = sym (length-append s (replicate (4 - length s % 4) 0) ∙ ap (λ (n : ℕ). length s + n) (length-replicate {A = ℕ} (4 - length s % 4) 0))
 
-module _ (l l₁ s : List ℕ) (e : l₁ ≡ kept true l 0 s) where
+module _ (l l₁ s : List ℕ) (e : l₁ ≡ sets l 0 s) where
   -- the string's bytes leave the length
   pub text-length : length l₁ ≡ length l
-  unfolding kept
   text-length = ap length e ∙ length-sets l 0 s
 
   -- the zeros follow
   pub text-put : (l₂ : List ℕ) → l₂ ≡ sets l₁ (length s) (replicate (4 - length s % 4) 0) → l₂ ≡ sets l 0 (padded s)
-  unfolding kept padded
+  unfolding padded
   text-put l₂ g =
       g
       ∙ ap (λ (z : List ℕ). sets z (length s) (replicate (4 - length s % 4) 0)) e

@@ -12,7 +12,7 @@ ghost use Rattle.records.specs.Good.{operandAt};
 ghost use Rattle.records.specs.Steps.{wordIf, resultWords};
 ghost use Rattle.assemble.specs.Spelled.{Readable, operandAfter, operandsFrom, AllReadable, headBytes, saidBy, Sound};
 use operand::is_two;
-use operand::keep_bytes;
+use operand::put_bytes;
 use operand::put_word;
 use spec::Fields;
 
@@ -38,7 +38,7 @@ fn put_text(out: &mut [u8], s: &[u8]) -> usize
 {
     let n = s.len();
     let zeros = 4 - n % 4;
-    keep_bytes(out, 0, s, true);
+    put_bytes(out, 0, s);
     put_zeros(out, n, zeros);
     n + zeros
 }

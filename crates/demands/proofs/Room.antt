@@ -91,7 +91,7 @@ log-one a (wide k v) = omega arith
 log-one a (text s) = omega arith
 
 -- so do some operands
-log-some : (a : ℕ) (os : List Operand) → length (operandsLog a os) ≤ 9 * operandsSize os
+pub log-some : (a : ℕ) (os : List Operand) → length (operandsLog a os) ≤ 9 * operandsSize os
 unfolding operandsLog operandsSize
 log-some a [] = omega arith
 log-some a (o ∷ os) =

@@ -1,12 +1,10 @@
 -- Answers that are put into words: which of them fit, and bytes that are put into a store where they fit.
-use Prim.Native.Nat.{ℕ, _+_, _≤_, _<_}
-use mathlib.Core.Path.{_≡_, refl, ap, sym, _∙_, subst}
-use mathlib.Core.Bool.{Bool, true, false}
+use Prim.Native.Nat.{ℕ, _≤_, _<_}
+use mathlib.Core.Path.{_≡_, ap, sym, _∙_, subst}
 use mathlib.Core.List.{List, [], _∷_}
-use native.Mathlib.Omega.{arith}
-use borrow.Author.Tests.{leb-true}
-use lib.Dec.{leb}
+use borrow.Author.Tests.{le-leb, lt-leb}
 use lib.ListN.{length}
+use lib.Seq.{sets}
 use Rattle.spec.specs.declared.Loaded.{Loaded}
 use Rattle.spec.specs.declared.Written.{Written}
 use Rattle.spec.specs.declared.Stands.{Stands}
@@ -14,7 +12,6 @@ use Rattle.spec.specs.Base.{if_then_else_}
 use Rattle.spec.specs.Load.{roomOf, laidOver}
 use Rattle.spec.specs.Check.{Given}
 use Rattle.spec.specs.Write.{writeParse, writeModule, standing}
-use Rattle.operand.specs.Log.{kept}
 use Rattle.loader.specs.Loading.{loading}
 use Rattle.demands.proofs.Bounds.{Small, load-small}
 use Rattle.demands.proofs.Indices.{WordsFit, parse-index, module-index, standing-index}
@@ -68,15 +65,12 @@ pub stand-words : (x : Stands) (n : ℕ) → n ≡ (if x .yes then 1 else 0) →
 unfolding standAnswer
 stand-words x n e = rw e
 
--- bytes that fit have room
-pub fits-room : (a b : ℕ) → leb a b ≡ true → 0 + a ≤ b
-fits-room a b e = omega (arith, leb-true a b e)
+-- bytes that fit are put in
+pub fits-in : (bs l out : List ℕ) → length bs ≤ length l → out ≡ sets l 0 bs → out ≡ laidIn l bs
+unfolding laidIn laidOver
+fits-in bs l out h e = rw (le-leb (length bs) (length l) h) e
 
--- bytes kept where they fit
-pub kept-in : (bs l out : List ℕ) → out ≡ kept (leb (length bs) (length l)) l 0 bs → out ≡ laidIn l bs
-unfolding kept laidIn laidOver
-kept-in bs l out e = by (leb (length bs) (length l)) refl e
-  where
-    by : (c : Bool) → leb (length bs) (length l) ≡ c → out ≡ kept c l 0 bs → out ≡ laidIn l bs
-    by true f e = rw f e
-    by false f e = rw f e
+-- others are not
+pub full-in : (bs l : List ℕ) → length l < length bs → l ≡ laidIn l bs
+unfolding laidIn
+full-in bs l h = rw (lt-leb (length bs) (length l) h)

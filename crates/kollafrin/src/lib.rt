@@ -87,8 +87,9 @@ fn put_where_fits(bytes: &[u8], out: &mut [u8]) -> usize
     ensures { λ r. ⌜ r ≡ length (now (bytes .entry)) ⌝ }
     ensures { λ _. ⌜ now (out .exit) ≡ laidIn (now (out .entry)) (now (bytes .entry)) ⌝ }
 {
-    let fits = bytes.len() <= out.len();
-    operand::keep_bytes(out, 0, bytes, fits);
+    if bytes.len() <= out.len() {
+        operand::put_bytes(out, 0, bytes);
+    }
     bytes.len()
 }
 

@@ -1,8 +1,9 @@
 -- Laws of an instruction before anything is kept: decoded, then placed, then given room.
-use Prim.Native.Nat.{ℕ, _+_, _*_}
+use Prim.Native.Nat.{ℕ, _+_, _*_, _≤_}
 use mathlib.Core.Path.{_≡_, refl, ap, sym, subst, _∙_}
 use mathlib.Core.Bool.{Bool, true, false}
 use mathlib.Core.List.{List}
+use native.Mathlib.Omega.{arith}
 use borrow.Author.Tests.{eqb-true, ne-eqb}
 use lib.Dec.{eqb}
 use lib.ListN.{length}
@@ -19,17 +20,16 @@ use Rattle.spec.specs.Layout.{layoutOf}
 use Rattle.spec.specs.Types.{track}
 use Rattle.spec.specs.Load.{counts, roomFault, usedAfter}
 use Rattle.demands.proofs.Stores.{operands-log-length}
-use Rattle.operand.specs.Log.{kept}
 use Rattle.tracker.specs.Track.{idIs}
 use Rattle.tracker.proofs.Instruction.{track-as}
 use Rattle.parser.specs.declared.inst.Decoded.{Decoded}
 use Rattle.parser.specs.declared.inst.InstRead.{InstRead}
 use Rattle.parser.specs.declared.inst.InstRead.the-variants as inst
-use Rattle.parser.specs.Inst.{Handed, Declined, Decodes}
+use Rattle.parser.specs.Inst.{Handed, Declined, Decodes, ByRow, RowIs}
 use Rattle.loader.specs.declared.parts.Progress.{Progress}
 use Rattle.loader.specs.declared.step.Judged.{Judged}
 use Rattle.loader.specs.declared.step.Judged.the-variants.{Good, Refused}
-use Rattle.loader.specs.Steps.{usedBy, placedAs, tracked, needOf, fieldsBy, judgedBy, unread, misplaced, crowded, Verdict, Judges}
+use Rattle.loader.specs.Steps.{usedBy, placedAs, tracked, needOf, fieldsBy, judgedBy, unread, misplaced, crowded, Verdict}
 
 -- LAYOUT, THEN ROOM
 
@@ -52,8 +52,8 @@ module _ (room need : Counts) (at : ℕ) (d : Decoded) (c : Cell) where
 
 -- A DECODED INSTRUCTION
 
-module _ {s : List ℕ} {x : Read Instr} {k : Bool} {l₀ t₀ l t : List ℕ} (p : Progress) (d : Decoded)
-    (h : Handed s (p .at) x k l₀ t₀ l t (p .log) (p .strings) d) where
+module _ {s : List ℕ} {x : Read Instr} {l₀ t₀ l t : List ℕ} (p : Progress) (d : Decoded)
+    (h : Handed s (p .at) x l₀ t₀ l t 0 (p .strings) d) where
   -- the entries after it are those after the instruction
   pub tracked-is : (es : List Entry) → tracked d es ≡ track (h .instr) es
   unfolding tracked
@@ -64,8 +64,9 @@ module _ {s : List ℕ} {x : Read Instr} {k : Bool} {l₀ t₀ l t : List ℕ} (
   pub need-is : (es : List Entry) → needOf p d es ≡ usedAfter (usedBy p) (h .instr) (track (h .instr) es)
   unfolding needOf
   need-is es =
-      ap (λ (n : ℕ). counts (p .instructions + 1) n (d .strings) (length (tracked d es)))
-      (h .nlog ∙ ap (λ (n : ℕ). p .log + n) (operands-log-length (p .strings) 0 (h .instr .operands)))
+      let e : d .log ≡ length (operandsLog (p .strings) (h .instr .operands)) = omega (arith, h .nlog) in
+      ap (λ (n : ℕ). counts (p .instructions + 1) (p .log + n) (d .strings) (length (tracked d es)))
+      (e ∙ operands-log-length (p .strings) 0 (h .instr .operands))
       ∙ ap (λ (n : ℕ). counts (p .instructions + 1) (p .log + length (operandsLog 0 (h .instr .operands))) n (length (tracked d es))) (h .nstrings)
       ∙ ap (λ (fs : List Entry). usedAfter (usedBy p) (h .instr) fs) (tracked-is es)
 
@@ -78,9 +79,17 @@ module _ {s : List ℕ} {x : Read Instr} {k : Bool} {l₀ t₀ l t : List ℕ} (
   pub placed-is : (st : State) (c : Cell) → layoutOf (d .opcode) st ≡ c → layoutOf (h .instr .opcode) st ≡ c
   placed-is st c e = ap (λ (o : ℕ). layoutOf o st) (h .opcode) ∙ e
 
+-- its records are few
+pub few-read : (s : List ℕ) (at : ℕ) (x : Read Instr) (l₀ t₀ l t : List ℕ) (a b : ℕ) (v : InstRead) → Decodes s at x l₀ t₀ l t a b v
+    → (d : Decoded) → v ≡ inst.Got d → length s ≤ 67108864 → d .log ≤ 1000000000
+unfolding Decodes
+few-read s at x l₀ t₀ l t a b v e d q short =
+    let h : Handed s at x l₀ t₀ l t a b d = subst (Decodes s at x l₀ t₀ l t a b) q e in
+    omega (arith, h .few-log, h .inside)
+
 -- what is taken with it, by the count of entries after it
 pub need-by : (p : Progress) (d : Decoded) (es : List Entry) (n : ℕ) → n ≡ length (tracked d es)
-    → counts (p .instructions + 1) (d .log) (d .strings) n ≡ needOf p d es
+    → counts (p .instructions + 1) (p .log + d .log) (d .strings) n ≡ needOf p d es
 unfolding needOf
 need-by p d es n e = rw e
 
@@ -104,21 +113,19 @@ fields-by p d tag bits a b e f g = rw (e, f, g)
 
 -- THE VERDICT
 
-module _ (s : List ℕ) (x : Read Instr) (room : Counts) (es : List Entry) (l₀ t₀ l t : List ℕ) (p : Progress) where
-  module _ (d : Decoded) (h : Handed s (p .at) x false l₀ t₀ l t (p .log) (p .strings) d) where
-    -- the stores are as they were
-    same-stores : Handed s (p .at) x false l t l t (p .log) (p .strings) d
-    unfolding kept
-    same-stores =
-        subst (λ (z : List ℕ). Handed s (p .at) x false l z l t (p .log) (p .strings) d) (sym (h .strings-is))
-        (subst (λ (z : List ℕ). Handed s (p .at) x false z t₀ l t (p .log) (p .strings) d) (sym (h .log-is)) h)
-
+module _ (s g : List ℕ) (x : Read Instr) (room : Counts) (es : List Entry) (l₀ t₀ l t : List ℕ) (p : Progress) where
+  module _ (d : Decoded) (h : Handed s (p .at) x l₀ t₀ l t 0 (p .strings) d) (b : ByRow g es s (p .at) x d) where
     -- by room
     room-verdict : (tag : ℕ) (next : State) → layoutOf (d .opcode) (p .state) ≡ Tagged tag next → (c : Bool)
         → eqb (roomFault room (needOf p d es)) 0 ≡ c
-        → Verdict s x room es l t p (if c then Good d tag next else Refused (refusal (roomFault room (needOf p d es)) (p .at) 0))
+        → Verdict s g x room es l p (if c then Good d tag next else Refused (refusal (roomFault room (needOf p d es)) (p .at) 0))
     unfolding Verdict
-    room-verdict tag next e true f = record { handed = same-stores; placed = e; fits = eqb-true _ _ f }
+    room-verdict tag next e true f =
+        record {
+          shown = record { scratch₀ = l₀; spare₀ = t₀; spare = t; handed = h; row = b };
+          placed = e;
+          fits = eqb-true _ _ f;
+        }
     room-verdict tag next e false f =
         let q = need-is p d h es in
         crowded (h .instr) _ tag next (h .read) (placed-is p d h (p .state) (Tagged tag next) e)
@@ -127,30 +134,25 @@ module _ (s : List ℕ) (x : Read Instr) (room : Counts) (es : List Entry) (l₀
         ∙ ap (λ (a : ℕ). refusal (roomFault room (usedAfter (usedBy p) (h .instr) (track (h .instr) es))) a 0) (sym (h .offset)))
 
     -- by layout
-    cell-verdict : (c : Cell) → layoutOf (d .opcode) (p .state) ≡ c → Verdict s x room es l t p (judgedBy room (needOf p d es) (p .at) d c)
+    cell-verdict : (c : Cell) → layoutOf (d .opcode) (p .state) ≡ c → Verdict s g x room es l p (judgedBy room (needOf p d es) (p .at) d c)
     unfolding Verdict judgedBy
     cell-verdict (Tagged tag next) e = room-verdict tag next e (eqb (roomFault room (needOf p d es)) 0) refl
     cell-verdict (Refuses n) e =
         misplaced (h .instr) _ n (h .read) (placed-is p d h (p .state) (Refuses n) e) (ap (λ (a : ℕ). refusal n a 0) (sym (h .offset)))
 
-  module _ (v : InstRead) (e : Decodes s (p .at) x false l₀ t₀ l t (p .log) (p .strings) v) where
+  module _ (v : InstRead) (e : Decodes s (p .at) x l₀ t₀ l t 0 (p .strings) v) (f : RowIs g es s (p .at) x v) where
     -- it is not read
-    pub judges-unread : (y : Refusal) → v ≡ inst.Refused y → Judges s x room es l₀ t₀ l t p (Refused y)
+    pub judges-unread : (y : Refusal) → v ≡ inst.Refused y → Verdict s g x room es l p (Refused y)
     unfolding Decodes Verdict
     judges-unread y q =
-        let h : Declined x l₀ t₀ l t y = subst (Decodes s (p .at) x false l₀ t₀ l t (p .log) (p .strings)) q e in
-        record { log-is = h .log-is; strings-is = h .strings-is; verdict = unread (h .rest) (h .read) }
+        let h : Declined x y = subst (Decodes s (p .at) x l₀ t₀ l t 0 (p .strings)) q e in
+        unread (h .rest) (h .read)
 
     -- it is read
     pub judges-read : (d : Decoded) → v ≡ inst.Got d → (r : Judged)
-        → r ≡ judgedBy room (needOf p d es) (p .at) d (layoutOf (d .opcode) (p .state)) → Judges s x room es l₀ t₀ l t p r
-    unfolding Decodes kept
-    judges-read d q r f =
-        let h : Handed s (p .at) x false l₀ t₀ l t (p .log) (p .strings) d =
-        subst (Decodes s (p .at) x false l₀ t₀ l t (p .log) (p .strings)) q e
-        in
-        record {
-          log-is = h .log-is;
-          strings-is = h .strings-is;
-          verdict = subst (Verdict s x room es l t p) (sym f) (cell-verdict d h (layoutOf (d .opcode) (p .state)) refl);
-        }
+        → r ≡ judgedBy room (needOf p d es) (p .at) d (layoutOf (d .opcode) (p .state)) → Verdict s g x room es l p r
+    unfolding Decodes RowIs
+    judges-read d q r z =
+        let h : Handed s (p .at) x l₀ t₀ l t 0 (p .strings) d = subst (Decodes s (p .at) x l₀ t₀ l t 0 (p .strings)) q e in
+        let b : ByRow g es s (p .at) x d = subst (RowIs g es s (p .at) x) q f in
+        subst (Verdict s g x room es l p) (sym z) (cell-verdict d h b (layoutOf (d .opcode) (p .state)) refl)

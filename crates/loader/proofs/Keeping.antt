@@ -1,70 +1,113 @@
 -- Laws of keeping an instruction that goes in.
 use Prim.Native.Nat.{ℕ, _+_, _*_, _≤_}
 use mathlib.Core.Path.{_≡_, refl, ap, sym, subst, _∙_}
-use mathlib.Core.Bool.{true}
-use mathlib.Core.List.{List}
+use mathlib.Core.List.{List, [], _∷_}
 use native.Mathlib.Omega.{arith}
-use lib.ListN.{length}
-use lib.Seq.{sets}
+use lib.ListN.{length, take, drop}
+use lib.Seq.{sets, sets-eq, take-append-seam}
+use Rattle.spec.specs.declared.Limit.the-variants.{Unlimited}
 use Rattle.spec.specs.declared.Fields.{Fields}
 use Rattle.spec.specs.declared.Refusal.{Refusal}
 use Rattle.spec.specs.declared.State.{State}
 use Rattle.spec.specs.declared.Counts.{Counts}
-use Rattle.spec.specs.Records.{Instr, fieldWords, operandsLog, operandsStrings}
-use Rattle.spec.specs.Reader.{Reader, Read, got, refused}
+use Rattle.spec.specs.Records.{Instr, Entry, fieldWords, operandsLog, operandsStrings}
+use Rattle.spec.specs.Reader.{Reader, Read, got, refused, readerAt}
+use Rattle.spec.specs.Grammar.{grammarOf}
 use Rattle.spec.specs.Load.{counts, roomOf, roomFault}
-use Rattle.demands.proofs.Room.{Covers}
-use Rattle.operand.specs.Log.{kept}
+use Rattle.spec.specs.Match.{readInstr}
+use Rattle.demands.proofs.Room.{Covers, log-some}
+use Rattle.demands.proofs.Formed.{well-formed-good}
+use Rattle.demands.proofs.Instructions.{Frames, instr-read}
+use Rattle.grammar.specs.Index.{Indexed}
+use Rattle.operand.specs.Log.{Laid}
 use Rattle.tracker.specs.Entries.{entriesOf, stored}
+use Rattle.tracker.specs.Hints.{Hinted}
 use Rattle.parser.specs.declared.inst.Decoded.{Decoded}
 use Rattle.parser.specs.declared.inst.InstRead.{InstRead}
 use Rattle.parser.specs.declared.inst.InstRead.the-variants.{Got, Refused}
-use Rattle.parser.specs.Inst.{Decodes, MayKeepInst}
+use Rattle.parser.specs.Parse.{slotsAt}
+use Rattle.parser.specs.Body.{bodyRead}
+use Rattle.parser.specs.Inst.{Decodes}
 use Rattle.loader.specs.declared.parts.Progress.{Progress}
 use Rattle.loader.specs.declared.step.Judged.{Judged}
 use Rattle.loader.specs.declared.step.Judged.the-variants as judged
 use Rattle.loader.specs.declared.step.Step.the-variants.{On, Stop}
-use Rattle.loader.specs.Steps.{tracked, needOf, fieldsBy, Admitted, Keeps, Judges, Verdict, Steps}
+use Rattle.loader.specs.Steps.{readAt, tracked, needOf, fieldsBy, Shown, Admitted, Stored, Keeps, Verdict, Steps}
 use Rattle.loader.proofs.Fitting.{fits-covers}
 use Rattle.loader.proofs.Judging.{tracked-is, need-is, fields-are, placed-is}
 
--- an instruction that was read is kept where its records fit
-may-keep : (a b n m : ℕ) (x : Read Instr) (i : Instr) (r : Reader) → x ≡ got i r → a + length (operandsLog b (i .operands)) ≤ n
-    → b + length (operandsStrings (i .operands)) ≤ m → MayKeepInst true a b n m x
-unfolding MayKeepInst
-may-keep a b n m x i r e h k = rw e (h, k)
-
--- what is read once is read again
+-- what is read once is the same
 same-read : (x : Read Instr) (i j : Instr) (r q : Reader) → x ≡ got i r → x ≡ got j q → j ≡ i
 same-read x i j r q e f = cc
 
--- and is not refused
-read-again : (s : List ℕ) (at : ℕ) (x : Read Instr) (l₀ t₀ l t : List ℕ) (a b : ℕ) (i : Instr) (r : Reader) → x ≡ got i r → (v : InstRead)
-    → Decodes s at x true l₀ t₀ l t a b v
-    → (l ≡ sets l₀ a (operandsLog b (i .operands))) × (t ≡ sets t₀ b (operandsStrings (i .operands)))
-unfolding Decodes kept
-read-again s at x l₀ t₀ l t a b i r e (Got d) h =
-    let q = same-read x i (h .instr) r _ e (h .read) in (
-      h .log-is ∙ ap (λ (j : Instr). sets l₀ a (operandsLog b (j .operands))) q,
-      h .strings-is ∙ ap (λ (j : Instr). sets t₀ b (operandsStrings (j .operands))) q,
-    )
-read-again s at x l₀ t₀ l t a b i r e (Refused y) h =
-    let w : x ≡ refused y (h .rest) = h .read in
-    let z : _≡_ {A = ℕ} 0 1 = cc in
-    absurd (omega arith)
+-- FROM THE SCRATCH
 
-module _ (s : List ℕ) (x : Read Instr) (i₀ l₀ s₀ t₀ : List ℕ) (p : Progress) (d : Decoded) (tag : ℕ) (next : State)
-    (a : Admitted s x (roomOf (length i₀) (length l₀) (length s₀) (length t₀)) (entriesOf (p .types) t₀) l₀ s₀ p d tag next) where
+-- bytes that are all there are at the start
+front-is : (l₀ l bs : List ℕ) → Laid l₀ 0 bs l → length bs ≤ length l → take (length bs) l ≡ bs
+front-is l₀ l bs h k =
+    let e = h .there (omega (arith, k, h .same)) in
+    ap (take (length bs)) (e ∙ sets-eq bs l₀ 0 (omega (arith, k, h .same))) ∙ take-append-seam bs (drop (0 + length bs) l₀)
+
+-- none are left
+none-left : (l : List ℕ) → length l ≡ 0 → l ≡ []
+none-left [] e = refl
+none-left (x ∷ l) e = absurd (omega arith)
+
+-- the records of an instruction have nine bytes at most for each of its words
+log-short : (g index : List ℕ) → Indexed g index → (es : List Entry) (s : List ℕ) (at : ℕ) (i : Instr) (r : Reader) (b : ℕ)
+    → readInstr (grammarOf g) es (readerAt s at Unlimited) ≡ got i r → length (operandsLog b (i .operands)) ≤ 9 * i .words
+unfolding readerAt
+log-short g index ix es s at i r b e =
+    let z : Frames (grammarOf g) es at (drop at s) (got i r) =
+    subst (Frames (grammarOf g) es at (drop at s)) e (instr-read (grammarOf g) (well-formed-good g (ix .well)) es at (drop at s))
+    in
+    omega (arith, log-some b (i .operands), z .count)
+
+module _ {s g : List ℕ} {x : Read Instr} {es : List Entry} {scratch : List ℕ} {p : Progress} {d : Decoded} (h : Shown s g x es scratch p d) where
+  -- where there are no strings and the records are short, they are in the scratch
+  pub from-scratch : d .strings ≡ p .strings → d .log ≤ length scratch → (l₀ s₀ l₁ : List ℕ) → l₁ ≡ sets l₀ (p .log) (take (d .log) scratch)
+      → Stored x l₀ s₀ l₁ s₀ p
+  unfolding Stored
+  from-scratch e k l₀ s₀ l₁ q i r f =
+      let j = same-read x (h .handed .instr) i _ r (h .handed .read) f in
+      let a = operandsLog (p .strings) (h .handed .instr .operands) in
+      let n : d .log ≡ length a = omega (arith, h .handed .nlog) in
+      let b : take (d .log) scratch ≡ a = ap (λ (m : ℕ). take m scratch) n ∙ front-is (h .scratch₀) scratch a (h .handed .log-laid) (omega arith) in
+      let z : operandsStrings (h .handed .instr .operands) ≡ [] = none-left _ (omega (arith, h .handed .nstrings, e)) in (
+        q ∙ ap (sets l₀ (p .log)) b ∙ ap (λ (o : Instr). sets l₀ (p .log) (operandsLog (p .strings) (o .operands))) (sym j),
+        ap (λ (bs : List ℕ). sets s₀ (p .strings) bs) (sym z) ∙ ap (λ (o : Instr). sets s₀ (p .strings) (operandsStrings (o .operands))) (sym j),
+      )
+
+  -- else they are read again
+  pub from-module : (l₀ s₀ l₁ s₁ : List ℕ) → p .log + d .log ≤ length l₀ → d .strings ≤ length s₀ → (v : InstRead)
+      → Decodes s (p .at) (bodyRead (grammarOf g) es (p .at) (d .words) (d .opcode) (slotsAt g (d .place)) (readerAt s (p .at + 4) Unlimited)) l₀ s₀ l₁ s₁ (p .log) (p .strings) v
+      → Stored x l₀ s₀ l₁ s₁ p
+  unfolding Stored Decodes
+  from-module l₀ s₀ l₁ s₁ fl fs (Got c) k i r f =
+      let j = same-read x (h .handed .instr) i _ r (h .handed .read) f in
+      let o = same-read x i (k .instr) r _ f (h .row .body ∙ k .read) in (
+        k .log-laid .there (omega (arith, fl, h .handed .nlog, ap (λ (y : Instr). length (operandsLog (p .strings) (y .operands))) (o ∙ j)))
+            ∙ ap (λ (y : Instr). sets l₀ (p .log) (operandsLog (p .strings) (y .operands))) o,
+        k .strings-laid .there (omega (arith, fs, h .handed .nstrings, ap (λ (y : Instr). length (operandsStrings (y .operands))) (o ∙ j)))
+            ∙ ap (λ (y : Instr). sets s₀ (p .strings) (operandsStrings (y .operands))) o,
+      )
+  from-module l₀ s₀ l₁ s₁ fl fs (Refused y) k i r f =
+      let w : x ≡ refused y (k .rest) = h .row .body ∙ k .read in
+      let z : _≡_ {A = ℕ} 0 1 = cc in
+      absurd (omega arith)
+
+-- KEEPING
+
+module _ (s g : List ℕ) (x : Read Instr) (i₀ l₀ s₀ t₀ scratch : List ℕ) (p : Progress) (d : Decoded) (tag : ℕ) (next : State)
+    (a : Admitted s g x (roomOf (length i₀) (length l₀) (length s₀) (length t₀)) (entriesOf (p .types) t₀) scratch p d tag next) where
   -- each store covers what is needed
   covered : Covers (roomOf (length i₀) (length l₀) (length s₀) (length t₀)) (needOf p d (entriesOf (p .types) t₀))
   covered = fits-covers _ _ (a .fits)
 
   -- log and strings have room
-  pub keep-may : MayKeepInst true (p .log) (p .strings) (length l₀) (length s₀) x
+  pub keep-room : (p .log + d .log ≤ length l₀) × (d .strings ≤ length s₀)
   unfolding roomOf needOf
-  keep-may =
-      may-keep (p .log) (p .strings) (length l₀) (length s₀) x (a .handed .instr) _ (a .handed .read)
-      (omega (arith, covered .log, a .handed .nlog)) (omega (arith, covered .strings, a .handed .nstrings))
+  keep-room = (omega (arith, covered .log), omega (arith, covered .strings))
 
   -- so have the records
   pub keep-record : 8 * p .instructions + 8 ≤ length i₀
@@ -76,27 +119,29 @@ module _ (s : List ℕ) (x : Read Instr) (i₀ l₀ s₀ t₀ : List ℕ) (p : P
   unfolding roomOf needOf
   keep-entries = omega (arith, covered .types)
 
-  -- an instruction that is kept: decoded again, its record and its entry stored
-  pub keeps : (v : InstRead) (i₁ l₁ s₁ t₁ : List ℕ) (f : Fields) (n : ℕ)
-      → Decodes s (p .at) x true l₀ s₀ l₁ s₁ (p .log) (p .strings) v → f ≡ fieldsBy p d tag
+  -- an instruction that is kept: its operands, its record and its entry stored
+  pub keeps : (index : List ℕ) → Indexed g index → x ≡ readAt s g t₀ p → 4 * p .log ≤ 9 * p .at → (i₁ l₁ s₁ t₁ h₁ : List ℕ) (f : Fields) (n top : ℕ)
+      → Stored x l₀ s₀ l₁ s₁ p → f ≡ fieldsBy p d tag
       → i₁ ≡ sets i₀ (8 * p .instructions) (fieldWords f) → n ≡ length (tracked d (entriesOf (p .types) t₀))
-      → t₁ ≡ stored t₀ (tracked d (entriesOf (p .types) t₀))
-      → Keeps s x (roomOf (length i₀) (length l₀) (length s₀) (length t₀)) i₀ l₀ s₀ t₀ i₁ l₁ s₁ t₁ p
+      → t₁ ≡ stored t₀ (tracked d (entriesOf (p .types) t₀)) → Hinted n t₁ h₁ top
+      → Keeps s x (roomOf (length i₀) (length l₀) (length s₀) (length t₀)) i₀ l₀ s₀ t₀ i₁ l₁ s₁ t₁ h₁ p
       (record {
         at = p .at + 4 * d .words;
         instructions = p .instructions + 1;
-        log = d .log;
+        log = p .log + d .log;
         strings = d .strings;
         types = n;
+        greatest = top;
         state = next;
       })
-  unfolding needOf
-  keeps v i₁ l₁ s₁ t₁ f n e ef ei en et =
-      let h = a .handed in
+  unfolding needOf Stored
+  keeps index ix ex few i₁ l₁ s₁ t₁ h₁ f n top e ef ei en et hint =
+      let h = a .shown .handed in
       let es = entriesOf (p .types) t₀ in
-      let again = read-again s (p .at) x l₀ s₀ l₁ s₁ (p .log) (p .strings) (h .instr) _ (h .read) v e in
-      let need : counts (p .instructions + 1) (d .log) (d .strings) n ≡ needOf p d es =
-      ap (λ (m : ℕ). counts (p .instructions + 1) (d .log) (d .strings) m) en
+      let again = e (h .instr) _ (h .read) in
+      let short = log-short g index ix es s (p .at) (h .instr) _ (p .strings) (sym ex ∙ h .read) in
+      let need : counts (p .instructions + 1) (p .log + d .log) (d .strings) n ≡ needOf p d es =
+      ap (λ (m : ℕ). counts (p .instructions + 1) (p .log + d .log) (d .strings) m) en
       in
       record {
         instr = h .instr;
@@ -107,47 +152,43 @@ module _ (s : List ℕ) (x : Read Instr) (i₀ l₀ s₀ t₀ : List ℕ) (p : P
         placed = placed-is p d h (p .state) _ (a .placed);
         used = sym (need ∙ need-is p d h es);
         fits = ap (roomFault (roomOf (length i₀) (length l₀) (length s₀) (length t₀))) need ∙ a .fits;
-        few-log = h .few-log;
+        few-log = omega (arith, few, short, h .nlog, h .words);
         few-strings = h .few-strings;
-        instructions-are = ei ∙ ap (λ (g : Fields). sets i₀ (8 * p .instructions) (fieldWords g)) (ef ∙ fields-are p d h tag);
+        instructions-are = ei ∙ ap (λ (z : Fields). sets i₀ (8 * p .instructions) (fieldWords z)) (ef ∙ fields-are p d h tag);
         log-is = again .0;
         strings-are = again .1;
         types-are = et ∙ ap (stored t₀) (tracked-is p d h es);
+        hinted = hint;
       }
 
-module _ (s : List ℕ) (x : Read Instr) (room : Counts) (i₀ l₀ s₀ t₀ l₁ s₁ : List ℕ) (p : Progress)
-    (e : room ≡ roomOf (length i₀) (length l₀) (length s₀) (length t₀)) (v : Judged)
-    (j : Judges s x room (entriesOf (p .types) t₀) l₀ s₀ l₁ s₁ p v) where
-  -- the room is still what it was
-  room-still : room ≡ roomOf (length i₀) (length l₁) (length s₁) (length t₀)
-  room-still = rw (j .log-is, j .strings-is) e
+-- A STEP
 
+module _ (s g : List ℕ) (x : Read Instr) (room : Counts) (i₀ l₀ s₀ t₀ scratch : List ℕ) (p : Progress) (v : Judged)
+    (j : Verdict s g x room (entriesOf (p .types) t₀) scratch p v) where
   -- the load stops
-  pub steps-halt : (y : Refusal) → v ≡ judged.Refused y → Steps s x room i₀ l₀ s₀ t₀ i₀ l₁ s₁ t₀ p (Stop y)
+  pub steps-halt : (h₁ : List ℕ) (y : Refusal) → v ≡ judged.Refused y → Steps s x room i₀ l₀ s₀ t₀ i₀ l₀ s₀ t₀ h₁ p (Stop y)
   unfolding Steps Verdict
-  steps-halt y q =
+  steps-halt h₁ y q =
       record {
-        why = subst (Verdict s x room (entriesOf (p .types) t₀) l₁ s₁ p) q (j .verdict);
+        why = subst (Verdict s g x room (entriesOf (p .types) t₀) scratch p) q j;
         instructions-are = refl;
-        log-is = j .log-is;
-        strings-are = j .strings-is;
+        log-is = refl;
+        strings-are = refl;
         types-are = refl;
       }
 
-  -- the instruction goes in
-  pub steps-admit : (d : Decoded) (tag : ℕ) (next : State) → v ≡ judged.Good d tag next
-      → Admitted s x (roomOf (length i₀) (length l₁) (length s₁) (length t₀)) (entriesOf (p .types) t₀) l₁ s₁ p d tag next
-  unfolding Verdict
-  steps-admit d tag next q =
-      subst (λ (u : Counts). Admitted s x u (entriesOf (p .types) t₀) l₁ s₁ p d tag next) room-still
-      (subst (Verdict s x room (entriesOf (p .types) t₀) l₁ s₁ p) q (j .verdict))
+  module _ (e : room ≡ roomOf (length i₀) (length l₀) (length s₀) (length t₀)) where
+    -- the instruction goes in
+    pub steps-admit : (d : Decoded) (tag : ℕ) (next : State) → v ≡ judged.Good d tag next
+        → Admitted s g x (roomOf (length i₀) (length l₀) (length s₀) (length t₀)) (entriesOf (p .types) t₀) scratch p d tag next
+    unfolding Verdict
+    steps-admit d tag next q =
+        subst (λ (u : Counts). Admitted s g x u (entriesOf (p .types) t₀) scratch p d tag next) e
+        (subst (Verdict s g x room (entriesOf (p .types) t₀) scratch p) q j)
 
-  -- the load goes on
-  pub steps-on : (i₂ l₂ s₂ t₂ : List ℕ) (r : Progress)
-      → Keeps s x (roomOf (length i₀) (length l₁) (length s₁) (length t₀)) i₀ l₁ s₁ t₀ i₂ l₂ s₂ t₂ p r
-      → Steps s x room i₀ l₀ s₀ t₀ i₂ l₂ s₂ t₂ p (On r)
-  unfolding Steps
-  steps-on i₂ l₂ s₂ t₂ r k =
-      subst (λ (z : List ℕ). Keeps s x room i₀ l₀ z t₀ i₂ l₂ s₂ t₂ p r) (j .strings-is)
-      (subst (λ (z : List ℕ). Keeps s x room i₀ z s₁ t₀ i₂ l₂ s₂ t₂ p r) (j .log-is)
-      (subst (λ (u : Counts). Keeps s x u i₀ l₁ s₁ t₀ i₂ l₂ s₂ t₂ p r) (sym room-still) k))
+    -- the load goes on
+    pub steps-on : (i₂ l₂ s₂ t₂ h₂ : List ℕ) (r : Progress)
+        → Keeps s x (roomOf (length i₀) (length l₀) (length s₀) (length t₀)) i₀ l₀ s₀ t₀ i₂ l₂ s₂ t₂ h₂ p r
+        → Steps s x room i₀ l₀ s₀ t₀ i₂ l₂ s₂ t₂ h₂ p (On r)
+    unfolding Steps
+    steps-on i₂ l₂ s₂ t₂ h₂ r k = subst (λ (u : Counts). Keeps s x u i₀ l₀ s₀ t₀ i₂ l₂ s₂ t₂ h₂ p r) (sym e) k

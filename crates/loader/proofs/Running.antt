@@ -25,6 +25,8 @@ use Rattle.spec.specs.Load.{roomOf, roomFault, Book, emptyBook, Outcome, stop, 
 use Rattle.demands.proofs.Lists.{has-leb}
 use Rattle.demands.proofs.Stores.{operands-log-length, records-length, strings-more, log-more}
 use Rattle.tracker.specs.Entries.{entriesOf, stored}
+use Rattle.tracker.specs.Hints.{Hinted}
+use Rattle.tracker.proofs.Hinting.{hinted-none}
 use Rattle.loader.specs.declared.parts.Progress.{Progress}
 use Rattle.loader.specs.declared.step.Step.{Step}
 use Rattle.loader.specs.declared.step.Step.the-variants.{On, Stop}
@@ -65,12 +67,12 @@ module _ (g : Grammar) (room : Counts) (h : List ℕ) (s : List ℕ) (ks : List 
   load-stops n y w (crowded i rest tag next e f z q) = rw (word-left s (p .at) w, e, f, z, q)
 
   -- an instruction behind which it goes on
-  load-goes : (n : ℕ) (i₀ l₀ s₀ t₀ i₁ l₁ s₁ t₁ : List ℕ) (r : Progress) → entriesOf (p .types) t₀ ≡ es → 4 ≤ length s - p .at
-      → (k : Keeps s (readInstr g es (readerAt s (p .at) Unlimited)) room i₀ l₀ s₀ t₀ i₁ l₁ s₁ t₁ p r)
+  load-goes : (n : ℕ) (i₀ l₀ s₀ t₀ i₁ l₁ s₁ t₁ h₁ : List ℕ) (r : Progress) → entriesOf (p .types) t₀ ≡ es → 4 ≤ length s - p .at
+      → (k : Keeps s (readInstr g es (readerAt s (p .at) Unlimited)) room i₀ l₀ s₀ t₀ i₁ l₁ s₁ t₁ h₁ p r)
       → loadFrom g room h (suc n) (bookOf ks es p) (readerAt s (p .at) Unlimited)
       ≡ loadFrom g room h n (bookOf (ks ++ (placedAs (k .instr) (k .tag) ∷ [])) (track (k .instr) es) r) (readerAt s (r .at) Unlimited)
   unfolding loadFrom readerAt
-  load-goes n i₀ l₀ s₀ t₀ i₁ l₁ s₁ t₁ r ee w k =
+  load-goes n i₀ l₀ s₀ t₀ i₁ l₁ s₁ t₁ h₁ r ee w k =
       let used = rw ee at (k .used) in
       rw (word-left s (p .at) w, k .read, k .placed)
       (ap
@@ -85,8 +87,9 @@ module _ (g : Grammar) (room : Counts) (h : List ℕ) (s : List ℕ) (ks : List 
 
 -- THE INVARIANT
 
--- the load of the whole module is the load from where it stands, with enough fuel, and the stores hold what is kept
-pub record Running (s g : List ℕ) (room : Counts) (h : List ℕ) (whole : Outcome) (i₀ l₀ s₀ t₀ i l w t : List ℕ) (p : Progress) : Type 0 where
+-- the load of the whole module is the load from where it stands, with enough fuel, the stores hold what is kept, and the hints are those
+-- of the entries
+pub record Running (s g : List ℕ) (room : Counts) (h : List ℕ) (whole : Outcome) (i₀ l₀ s₀ t₀ h₀ i l w t hs : List ℕ) (p : Progress) : Type 0 where
   pub kept : List Placed
   pub fuel : ℕ
   pub left : whole ≡ loadFrom (grammarOf g) room h fuel (bookOf kept (entriesOf (p .types) t) p) (readerAt s (p .at) Unlimited)
@@ -104,16 +107,18 @@ pub record Running (s g : List ℕ) (room : Counts) (h : List ℕ) (whole : Outc
   pub log-is : l ≡ sets l₀ 0 (logFrom 0 kept)
   pub strings-are : w ≡ sets s₀ 0 (stringStore kept)
   pub types-are : t ≡ stored t₀ (entriesOf (p .types) t)
+  pub same-hints : length hs ≡ length h₀
+  pub hinted : Hinted (p .types) t hs (p .greatest)
 
 -- at the start nothing is kept
-pub start : (s g : List ℕ) (room : Counts) (h i₀ l₀ s₀ t₀ : List ℕ) → room ≡ roomOf (length i₀) (length l₀) (length s₀) (length t₀)
+pub start : (s g : List ℕ) (room : Counts) (h i₀ l₀ s₀ t₀ h₀ : List ℕ) → room ≡ roomOf (length i₀) (length l₀) (length s₀) (length t₀)
     → 20 ≤ length s
     → Running s g room h
     (loadFrom (grammarOf g) (roomOf (length i₀) (length l₀) (length s₀) (length t₀)) h (length s / 4) emptyBook (readerAt s 20 Unlimited))
-    i₀ l₀ s₀ t₀ i₀ l₀ s₀ t₀
-    (record { at = 20; instructions = 0; log = 0; strings = 0; types = 0; state = Outside })
+    i₀ l₀ s₀ t₀ h₀ i₀ l₀ s₀ t₀ h₀
+    (record { at = 20; instructions = 0; log = 0; strings = 0; types = 0; greatest = 0; state = Outside })
 unfolding entriesOf recordsFrom logFrom stringStore stored laidOver
-start s g room h i₀ l₀ s₀ t₀ e few =
+start s g room h i₀ l₀ s₀ t₀ h₀ e few =
     record {
       kept = [];
       fuel = length s / 4;
@@ -133,10 +138,12 @@ start s g room h i₀ l₀ s₀ t₀ e few =
       log-is = refl;
       strings-are = refl;
       types-are = refl;
+      same-hints = refl;
+      hinted = hinted-none t₀ h₀ 0;
     }
 
-module _ {s g : List ℕ} {room : Counts} {h : List ℕ} {whole : Outcome} {i₀ l₀ s₀ t₀ i l w t : List ℕ} {p : Progress}
-    (r : Running s g room h whole i₀ l₀ s₀ t₀ i l w t p) where
+module _ {s g : List ℕ} {room : Counts} {h : List ℕ} {whole : Outcome} {i₀ l₀ s₀ t₀ h₀ i l w t hs : List ℕ} {p : Progress}
+    (r : Running s g room h whole i₀ l₀ s₀ t₀ h₀ i l w t hs p) where
   -- no store has changed its length
   pub same-instructions : length i ≡ length i₀
   same-instructions = ap length (r .instructions-are) ∙ length-sets i₀ 0 (recordsFrom 0 (r .kept))
@@ -156,7 +163,7 @@ module _ {s g : List ℕ} {room : Counts} {h : List ℕ} {whole : Outcome} {i₀
   room-now = rw (same-instructions, same-log, same-strings, same-types) (r .room-is)
 
   -- the next instruction may be taken
-  pub bounded : length s ≤ 67108864 → 4 ≤ length s - p .at → Bounded s t p
+  pub bounded : length s ≤ 67108864 → 4 ≤ length s - p .at → Bounded s t hs p
   bounded short more =
       record {
         short = short;
@@ -165,6 +172,7 @@ module _ {s g : List ℕ} {room : Counts} {h : List ℕ} {whole : Outcome} {i₀
         few-log = r .few-log;
         few-strings = r .few-strings;
         types-in = omega (arith, r .ntypes, same-types);
+        hinted = r .hinted;
       }
 
   -- few instructions are kept
@@ -206,7 +214,7 @@ module _ {s g : List ℕ} {room : Counts} {h : List ℕ} {whole : Outcome} {i₀
       ∙ ap (λ (n : ℕ). loadFrom (grammarOf g) room h n (bookOf (r .kept) (entriesOf (p .types) t) p) (readerAt s (p .at) Unlimited))
       (some-fuel more)
 
-  module _ (more : 4 ≤ length s - p .at) (i₁ l₁ w₁ t₁ : List ℕ) where
+  module _ (more : 4 ≤ length s - p .at) (i₁ l₁ w₁ t₁ h₁ : List ℕ) where
     -- the load stops at an instruction
     halts : (y : Refusal) → Halted (readAt s g t p) room i l w t i₁ l₁ w₁ t₁ p y → (a : Loaded)
         → a ≡ saidAt h (usedBy p) (y .number) (y .place) (y .value) → Leaves whole i₀ l₀ s₀ t₀ i₁ l₁ w₁ t₁ a
@@ -215,7 +223,7 @@ module _ {s g : List ℕ} {room : Counts} {h : List ℕ} {whole : Outcome} {i₀
         rw (z .instructions-are, z .log-is, z .strings-are, z .types-are) (stopped (y .number) (y .place) (y .value) e a q)
 
     -- the load goes on behind an instruction
-    module _ (q : Progress) (k : Keeps s (readAt s g t p) room i l w t i₁ l₁ w₁ t₁ p q) where
+    module _ (q : Progress) (k : Keeps s (readAt s g t p) room i l w t i₁ l₁ w₁ t₁ h₁ p q) where
       pub fewer : length s - q .at < length s - p .at
       fewer = omega (arith, k .moves, more)
 
@@ -232,8 +240,8 @@ module _ {s g : List ℕ} {room : Counts} {h : List ℕ} {whole : Outcome} {i₀
           omega (arith, c .types, ap (λ (c : Counts). c .types) (r .room-is))
 
       -- one instruction more
-      pub goes-on : Running s g room h whole i₀ l₀ s₀ t₀ i₁ l₁ w₁ t₁ q
-      goes-on =
+      goes-on : length h₁ ≡ length hs → Running s g room h whole i₀ l₀ s₀ t₀ h₀ i₁ l₁ w₁ t₁ h₁ q
+      goes-on same =
           let ks = r .kept in
           let pl = placedAs (k .instr) (k .tag) in
           let os = k .instr .operands in
@@ -249,7 +257,7 @@ module _ {s g : List ℕ} {room : Counts} {h : List ℕ} {whole : Outcome} {i₀
             fuel = r .fuel - 1;
             left =
                 left-more more
-                ∙ load-goes (grammarOf g) room h s ks es p (r .fuel - 1) i l w t i₁ l₁ w₁ t₁ q refl more k
+                ∙ load-goes (grammarOf g) room h s ks es p (r .fuel - 1) i l w t i₁ l₁ w₁ t₁ h₁ q refl more k
                 ∙ ap
                 (λ (fs : List Entry). loadFrom (grammarOf g) room h (r .fuel - 1) (bookOf (ks ++ (pl ∷ [])) fs q) (readerAt s (q .at) Unlimited))
                 en;
@@ -278,23 +286,25 @@ module _ {s g : List ℕ} {room : Counts} {h : List ℕ} {whole : Outcome} {i₀
                 grow s₀ w w₁ (stringStore ks) (operandsStrings os) _ (p .strings) (r .strings-are) (r .nstrings) (k .strings-are)
                 (strings-more ks pl);
             types-are = types-next t₀ t t₁ (p .types) (q .types) (k .instr) same-types (r .types-are) (k .types-are) nentries types-fit;
+            same-hints = same ∙ r .same-hints;
+            hinted = k .hinted;
           }
 
     -- BY THE ANSWER OF A STEP
 
-    module _ (v : Step) (z : Steps s (readAt s g t p) room i l w t i₁ l₁ w₁ t₁ p v) where
+    module _ (v : Step) (z : Steps s (readAt s g t p) room i l w t i₁ l₁ w₁ t₁ h₁ p v) where
       -- it stops the load
       pub step-halts : (y : Refusal) → v ≡ Stop y → (a : Loaded) → a ≡ saidAt h (usedBy p) (y .number) (y .place) (y .value)
           → Leaves whole i₀ l₀ s₀ t₀ i₁ l₁ w₁ t₁ a
       unfolding Steps
-      step-halts y e a f = halts y (subst (Steps s (readAt s g t p) room i l w t i₁ l₁ w₁ t₁ p) e z) a f
+      step-halts y e a f = halts y (subst (Steps s (readAt s g t p) room i l w t i₁ l₁ w₁ t₁ h₁ p) e z) a f
 
       -- the load goes on
-      pub step-goes : (q : Progress) → v ≡ On q → Running s g room h whole i₀ l₀ s₀ t₀ i₁ l₁ w₁ t₁ q
+      pub step-goes : (q : Progress) → v ≡ On q → length h₁ ≡ length hs → Running s g room h whole i₀ l₀ s₀ t₀ h₀ i₁ l₁ w₁ t₁ h₁ q
       unfolding Steps
-      step-goes q e = goes-on q (subst (Steps s (readAt s g t p) room i l w t i₁ l₁ w₁ t₁ p) e z)
+      step-goes q e same = goes-on q (subst (Steps s (readAt s g t p) room i l w t i₁ l₁ w₁ t₁ h₁ p) e z) same
 
       -- and comes nearer to the end
       pub step-fewer : (q : Progress) → v ≡ On q → length s - q .at < length s - p .at
       unfolding Steps
-      step-fewer q e = fewer q (subst (Steps s (readAt s g t p) room i l w t i₁ l₁ w₁ t₁ p) e z)
+      step-fewer q e = fewer q (subst (Steps s (readAt s g t p) room i l w t i₁ l₁ w₁ t₁ h₁ p) e z)

@@ -23,9 +23,10 @@ use Rattle.spec.specs.Types.{track}
 use Rattle.spec.specs.Match.{readInstr}
 use Rattle.spec.specs.Load.{counts, usedAfter, roomFault, Outcome, storesOf, laidOver}
 use Rattle.tracker.specs.Entries.{entriesOf, stored}
+use Rattle.tracker.specs.Hints.{Hinted}
 use Rattle.tracker.specs.Track.{idIs, literalOf, trackOf}
 use Rattle.parser.specs.declared.inst.Decoded.{Decoded}
-use Rattle.parser.specs.Inst.{Handed}
+use Rattle.parser.specs.Inst.{Handed, ByRow}
 use Rattle.loader.specs.declared.parts.Progress.{Progress}
 use Rattle.loader.specs.declared.step.Judged.{Judged}
 use Rattle.loader.specs.declared.step.Judged.the-variants.{Good, Refused}
@@ -46,14 +47,15 @@ saidAt h c n at v = record { number = n; offset = at; index = c .instructions + 
 abbrev pub readAt : List ℕ → List ℕ → List ℕ → Progress → Read Instr
 readAt s g types p = readInstr (grammarOf g) (entriesOf (p .types) types) (readerAt s (p .at) Unlimited)
 
--- the load stands in the module, and what is kept is in proportion to what was read
-pub record Bounded (s types : List ℕ) (p : Progress) : Type 0 where
+-- the load stands in the module, what is kept is in proportion to what was read, and the hints are those of the entries
+pub record Bounded (s types hints : List ℕ) (p : Progress) : Type 0 where
   pub short : length s ≤ 67108864
   pub inside : p .at + 4 ≤ length s
   pub few : 4 * p .instructions ≤ p .at
   pub few-log : 4 * p .log ≤ 9 * p .at
   pub few-strings : p .strings ≤ p .at
   pub types-in : 3 * p .types ≤ length types
+  pub hinted : Hinted (p .types) types hints (p .greatest)
 
 -- A DECODED INSTRUCTION
 
@@ -63,7 +65,7 @@ tracked d es = trackOf (d .opcode) (idIs (d .rtype)) (idIs (d .rid)) (d .operand
 
 -- what is taken with it
 unfoldable pub needOf : Progress → Decoded → List Entry → Counts
-needOf p d es = counts (p .instructions + 1) (d .log) (d .strings) (length (tracked d es))
+needOf p d es = counts (p .instructions + 1) (p .log + d .log) (d .strings) (length (tracked d es))
 
 -- the fields of its record
 unfoldable pub fieldsBy : Progress → Decoded → ℕ → Fields
@@ -87,9 +89,17 @@ judgedBy room need at d (Refuses n) = Refused (refusal n at 0)
 
 -- BEFORE ANYTHING IS KEPT
 
--- it was read, has its place, and there is room for it
-pub record Admitted (s : List ℕ) (x : Read Instr) (room : Counts) (es : List Entry) (log strings : List ℕ) (p : Progress) (d : Decoded) (tag : ℕ) (next : State) : Type 0 where
-  pub handed : Handed s (p .at) x false log strings log strings (p .log) (p .strings) d
+-- it was read by its row, and its operands' records went to the scratch
+pub record Shown (s g : List ℕ) (x : Read Instr) (es : List Entry) (scratch : List ℕ) (p : Progress) (d : Decoded) : Type 0 where
+  pub scratch₀ : List ℕ
+  pub spare₀ : List ℕ
+  pub spare : List ℕ
+  pub handed : Handed s (p .at) x scratch₀ spare₀ scratch spare 0 (p .strings) d
+  pub row : ByRow g es s (p .at) x d
+
+-- so it was, it has its place, and there is room for it
+pub record Admitted (s g : List ℕ) (x : Read Instr) (room : Counts) (es : List Entry) (scratch : List ℕ) (p : Progress) (d : Decoded) (tag : ℕ) (next : State) : Type 0 where
+  pub shown : Shown s g x es scratch p d
   pub placed : layoutOf (d .opcode) (p .state) ≡ Tagged tag next
   pub fits : roomFault room (needOf p d es) ≡ 0
 
@@ -103,15 +113,9 @@ pub data Halts (x : Read Instr) (room : Counts) (es : List Entry) (p : Progress)
       → y ≡ refusal (roomFault room (usedAfter (usedBy p) i (track i es))) (i .offset) 0 → Halts x room es p y
 
 -- by the answer
-unfoldable pub Verdict : List ℕ → Read Instr → Counts → List Entry → List ℕ → List ℕ → Progress → Judged → Type 0
-Verdict s x room es log strings p (Good d tag next) = Admitted s x room es log strings p d tag next
-Verdict s x room es log strings p (Refused y) = Halts x room es p y
-
--- the stores are as they were
-pub record Judges (s : List ℕ) (x : Read Instr) (room : Counts) (es : List Entry) (log₀ strings₀ log strings : List ℕ) (p : Progress) (r : Judged) : Type 0 where
-  pub log-is : log ≡ log₀
-  pub strings-is : strings ≡ strings₀
-  pub verdict : Verdict s x room es log strings p r
+unfoldable pub Verdict : List ℕ → List ℕ → Read Instr → Counts → List Entry → List ℕ → Progress → Judged → Type 0
+Verdict s g x room es scratch p (Good d tag next) = Admitted s g x room es scratch p d tag next
+Verdict s g x room es scratch p (Refused y) = Halts x room es p y
 
 -- A STEP
 
@@ -119,8 +123,14 @@ pub record Judges (s : List ℕ) (x : Read Instr) (room : Counts) (es : List Ent
 abbrev pub placedAs : Instr → ℕ → Placed
 placedAs i tag = record { instr = i; tag = tag }
 
--- the load goes on behind an instruction: its records follow those kept, and the entries are those after it
-pub record Keeps (s : List ℕ) (x : Read Instr) (room : Counts) (i₀ l₀ s₀ t₀ i₁ l₁ s₁ t₁ : List ℕ) (p r : Progress) : Type 0 where
+-- the operands' records of the instruction that was read follow those kept
+unfoldable pub Stored : Read Instr → List ℕ → List ℕ → List ℕ → List ℕ → Progress → Type 0
+Stored x l₀ s₀ l₁ s₁ p =
+    (i : Instr) (rest : Reader) → x ≡ got i rest
+    → (l₁ ≡ sets l₀ (p .log) (operandsLog (p .strings) (i .operands))) × (s₁ ≡ sets s₀ (p .strings) (operandsStrings (i .operands)))
+
+-- the load goes on behind an instruction: its records follow those kept, and the entries are those after it, with their hints
+pub record Keeps (s : List ℕ) (x : Read Instr) (room : Counts) (i₀ l₀ s₀ t₀ i₁ l₁ s₁ t₁ h₁ : List ℕ) (p r : Progress) : Type 0 where
   pub instr : Instr
   pub tag : ℕ
   pub read : x ≡ got instr (readerAt s (r .at) Unlimited)
@@ -135,6 +145,7 @@ pub record Keeps (s : List ℕ) (x : Read Instr) (room : Counts) (i₀ l₀ s₀
   pub log-is : l₁ ≡ sets l₀ (p .log) (operandsLog (p .strings) (instr .operands))
   pub strings-are : s₁ ≡ sets s₀ (p .strings) (operandsStrings (instr .operands))
   pub types-are : t₁ ≡ stored t₀ (track instr (entriesOf (p .types) t₀))
+  pub hinted : Hinted (r .types) t₁ h₁ (r .greatest)
 
 -- the load stops at an instruction, and the stores are as they were
 pub record Halted (x : Read Instr) (room : Counts) (i₀ l₀ s₀ t₀ i₁ l₁ s₁ t₁ : List ℕ) (p : Progress) (y : Refusal) : Type 0 where
@@ -145,9 +156,9 @@ pub record Halted (x : Read Instr) (room : Counts) (i₀ l₀ s₀ t₀ i₁ l�
   pub types-are : t₁ ≡ t₀
 
 -- by the answer
-unfoldable pub Steps : List ℕ → Read Instr → Counts → List ℕ → List ℕ → List ℕ → List ℕ → List ℕ → List ℕ → List ℕ → List ℕ → Progress → Step → Type 0
-Steps s x room i₀ l₀ s₀ t₀ i₁ l₁ s₁ t₁ p (On r) = Keeps s x room i₀ l₀ s₀ t₀ i₁ l₁ s₁ t₁ p r
-Steps s x room i₀ l₀ s₀ t₀ i₁ l₁ s₁ t₁ p (Stop y) = Halted x room i₀ l₀ s₀ t₀ i₁ l₁ s₁ t₁ p y
+unfoldable pub Steps : List ℕ → Read Instr → Counts → List ℕ → List ℕ → List ℕ → List ℕ → List ℕ → List ℕ → List ℕ → List ℕ → List ℕ → Progress → Step → Type 0
+Steps s x room i₀ l₀ s₀ t₀ i₁ l₁ s₁ t₁ h₁ p (On r) = Keeps s x room i₀ l₀ s₀ t₀ i₁ l₁ s₁ t₁ h₁ p r
+Steps s x room i₀ l₀ s₀ t₀ i₁ l₁ s₁ t₁ h₁ p (Stop y) = Halted x room i₀ l₀ s₀ t₀ i₁ l₁ s₁ t₁ p y
 
 -- A LOAD
 

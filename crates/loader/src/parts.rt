@@ -14,13 +14,15 @@ use spec::Loaded;
 use spec::State;
 use tracker::Id;
 
-// Where a load stands: the place of the next instruction, what is kept so far, and the state of the layout.
+// Where a load stands: the place of the next instruction, what is kept so far, an id above which none has a type, and the state of the
+// layout.
 pub struct Progress {
     pub at: usize,
     pub instructions: usize,
     pub log: usize,
     pub strings: usize,
     pub types: usize,
+    pub greatest: u32,
     pub state: State,
 }
 

@@ -1,5 +1,4 @@
 // The instructions of a module, one after the other, and a load by a grammar that is indexed.
-ghost use mathlib.Core.Path.{_≡_};
 ghost use Prim.Native.Nat.{_/_, _≤_};
 ghost use lib.ListN.{length};
 ghost use Rattle.spec.specs.declared.Limit.the-variants.{Unlimited};
@@ -18,6 +17,14 @@ use crate::step::take;
 use spec::Loaded;
 use spec::State;
 
+// How many ids have a hint of where their type is, and how many in a module of 16 KB or less.
+const HINTS: usize = 32768;
+
+const FEW_HINTS: usize = 2048;
+
+// So long may the records of an instruction be that is read once.
+const SCRATCH: usize = 576;
+
 // The instructions after the header, to the first refusal or the end.
 fn load_from(
     s: &[u8],
@@ -28,6 +35,9 @@ fn load_from(
     log: &mut [u8],
     strings: &mut [u8],
     types: &mut [u32],
+    hints: &mut [u32],
+    scratch: &mut [u8],
+    spare: &mut [u8],
 ) -> Loaded
     requires { ⌜ Indexed (now g) (now index) ⌝ }
     requires { ⌜ (20 ≤ length (now s)) × (length (now s) ≤ 67108864) ⌝ }
@@ -41,6 +51,7 @@ fn load_from(
         log: 0,
         strings: 0,
         types: 0,
+        greatest: 0,
         state: State::Outside,
     };
     while 4 <= s.len() - p.at {
@@ -53,6 +64,9 @@ fn load_from(
             log,
             strings,
             types,
+            hints,
+            scratch,
+            spare,
             room,
             p,
         );
@@ -87,5 +101,36 @@ pub fn load_with(
         return no_instruction(refusal.number, refusal.place);
     }
     let words = header.words;
-    load_from(s, g, index, words, instructions, log, strings, types)
+    let mut scratch = [0u8; SCRATCH];
+    let mut spare = [0u8; 1];
+    if s.len() <= 16384 {
+        let mut hints = [0u32; FEW_HINTS];
+        return load_from(
+            s,
+            g,
+            index,
+            words,
+            instructions,
+            log,
+            strings,
+            types,
+            &mut hints,
+            &mut scratch,
+            &mut spare,
+        );
+    }
+    let mut hints = [0u32; HINTS];
+    load_from(
+        s,
+        g,
+        index,
+        words,
+        instructions,
+        log,
+        strings,
+        types,
+        &mut hints,
+        &mut scratch,
+        &mut spare,
+    )
 }

@@ -1,18 +1,20 @@
 // One instruction of a load: decoded, placed in the layout, given room, and kept.
 ghost use mathlib.Core.Path.{_≡_};
-ghost use Prim.Native.Nat.{_*_, _≤_, _<_};
+ghost use Prim.Native.Nat.{_+_, _*_, _≤_, _<_};
 ghost use lib.ListN.{length};
 ghost use Rattle.spec.specs.Layout.{layoutOf};
 ghost use Rattle.spec.specs.Load.{roomOf};
 ghost use Rattle.reflect.specs.Column.{layoutTable};
 ghost use Rattle.grammar.specs.Index.{Indexed};
 ghost use Rattle.tracker.specs.Entries.{entriesOf};
-ghost use Rattle.loader.specs.Steps.{readAt, needOf, judgedBy, Bounded, Judges, Admitted, Keeps, Steps};
+ghost use Rattle.tracker.specs.Hints.{Hinted};
+ghost use Rattle.loader.specs.Steps.{readAt, needOf, judgedBy, Bounded, Verdict, Shown, Admitted, Stored, Keeps, Steps};
 use crate::parts::Progress;
 use crate::parts::fields_of;
 use crate::parts::room_fault;
 use parser::Decoded;
 use parser::InstRead;
+use parser::parse_body;
 use parser::parse_inst;
 use spec::Cell;
 use spec::Counts;
@@ -35,19 +37,33 @@ pub enum Step {
 // ROOM
 
 // What is taken with a decoded instruction more.
-fn need_after(p: Progress, d: Decoded, types: &[u32]) -> Counts
+fn need_after(p: Progress, d: Decoded, types: &[u32], hints: &[u32]) -> Counts
     requires { ⌜ (3 * p .types ≤ length (now types)) × (p .instructions < 67108864) ⌝ }
+    requires { ⌜ Hinted (p .types) (now types) (now hints) (p .greatest) ⌝ }
+    requires { ⌜ (p .log ≤ 1000000000) × (d .log ≤ 1000000000) ⌝ }
     ensures { λ r. ⌜ r ≡ needOf p d (entriesOf (p .types) (now (types .entry))) ⌝ }
 {
-    let tracker = TypeTracker { count: p.types };
+    let tracker = TypeTracker {
+        count: p.types,
+        greatest: p.greatest,
+    };
     let rtype = d.rtype;
     let rid = d.rid;
     let first = d.first;
     let second = d.second;
-    let entries = tracker.after(types, d.opcode, rtype, rid, d.operands, first, second);
+    let entries = tracker.after(
+        types,
+        hints,
+        d.opcode,
+        rtype,
+        rid,
+        d.operands,
+        first,
+        second,
+    );
     Counts {
         instructions: p.instructions + 1,
-        log: d.log,
+        log: p.log + d.log,
         strings: d.strings,
         types: entries,
     }
@@ -68,9 +84,18 @@ fn refused(number: u32, place: usize) -> Judged
 }
 
 // A decoded instruction by its layout and the room for it.
-fn admit(table: &[[u8; 3]; 19], p: Progress, d: Decoded, types: &[u32], room: Counts) -> Judged
+fn admit(
+    table: &[[u8; 3]; 19],
+    p: Progress,
+    d: Decoded,
+    types: &[u32],
+    hints: &[u32],
+    room: Counts,
+) -> Judged
     requires { ⌜ (3 * p .types ≤ length (now types)) × (p .instructions < 67108864) ⌝ }
     requires { ⌜ now table ≡ layoutTable ⌝ }
+    requires { ⌜ Hinted (p .types) (now types) (now hints) (p .greatest) ⌝ }
+    requires { ⌜ (p .log ≤ 1000000000) × (d .log ≤ 1000000000) ⌝ }
     ensures { λ r. ⌜ r ≡ judgedBy room (needOf p d (entriesOf (p .types) (now (types .entry)))) (p .at) d (layoutOf (d .opcode) (p .state)) ⌝ }
 {
     let state = p.state;
@@ -78,7 +103,7 @@ fn admit(table: &[[u8; 3]; 19], p: Progress, d: Decoded, types: &[u32], room: Co
     match cell {
         Cell::Refuses(n) => refused(n as u32, p.at),
         Cell::Tagged(tag, next) => {
-            let fault = room_fault(room, need_after(p, d, types));
+            let fault = room_fault(room, need_after(p, d, types, hints));
             if fault == 0 {
                 return Judged::Good(d, tag, next);
             }
@@ -89,47 +114,102 @@ fn admit(table: &[[u8; 3]; 19], p: Progress, d: Decoded, types: &[u32], room: Co
 
 // DECODING FIRST
 
-// The next instruction, before anything is kept.
+// The next instruction, before anything is kept: its operands' records go to the scratch, where they fit.
 fn judge(
     table: &[[u8; 3]; 19],
     s: &[u8],
     g: &[u8],
     index: &[u16],
     types: &[u32],
-    log: &mut [u8],
-    strings: &mut [u8],
+    hints: &[u32],
+    scratch: &mut [u8],
+    spare: &mut [u8],
     room: Counts,
     p: Progress,
 ) -> Judged
     requires { ⌜ Indexed (now g) (now index) ⌝ }
-    requires { ⌜ Bounded (now s) (now types) p ⌝ }
+    requires { ⌜ Bounded (now s) (now types) (now hints) p ⌝ }
     requires { ⌜ now table ≡ layoutTable ⌝ }
-    ensures { λ r. ⌜ Judges (now (s .entry)) (readAt (now (s .entry)) (now (g .entry)) (now (types .entry)) p) room (entriesOf (p .types) (now (types .entry))) (now (log .entry)) (now (strings .entry)) (now (log .exit)) (now (strings .exit)) p r ⌝ }
+    ensures { λ r. ⌜ Verdict (now (s .entry)) (now (g .entry)) (readAt (now (s .entry)) (now (g .entry)) (now (types .entry)) p) room (entriesOf (p .types) (now (types .entry))) (now (scratch .exit)) p r ⌝ }
 {
     let at = p.at;
-    let log_at = p.log;
     let strings_at = p.strings;
-    let tracker = TypeTracker { count: p.types };
+    let tracker = TypeTracker {
+        count: p.types,
+        greatest: p.greatest,
+    };
     let read = parse_inst(
         s,
         at,
         g,
         index,
         types,
+        hints,
         tracker,
-        log,
-        log_at,
-        strings,
+        scratch,
+        0,
+        spare,
         strings_at,
-        false,
     );
     match read {
         InstRead::Refused(x) => Judged::Refused(x),
-        InstRead::Got(d) => admit(table, p, d, types, room),
+        InstRead::Got(d) => admit(table, p, d, types, hints, room),
     }
 }
 
 // KEEPING
+
+// Keeps the operands of an instruction that goes in: from the scratch, or, where they are too long for it or there are strings, from
+// the module again.
+fn keep_operands(
+    s: &[u8],
+    g: &[u8],
+    index: &[u16],
+    log: &mut [u8],
+    strings: &mut [u8],
+    types: &[u32],
+    hints: &[u32],
+    scratch: &[u8],
+    p: Progress,
+    d: Decoded,
+)
+    requires { ⌜ Indexed (now g) (now index) ⌝ }
+    requires { ⌜ Bounded (now s) (now types) (now hints) p ⌝ }
+    requires { ⌜ (p .log + d .log ≤ length (now log)) × (d .strings ≤ length (now strings)) ⌝ }
+    requires { ⌜ Shown (now s) (now g) (readAt (now s) (now g) (now types) p) (entriesOf (p .types) (now types)) (now scratch) p d ⌝ }
+    ensures { λ _. ⌜ Stored (readAt (now (s .entry)) (now (g .entry)) (now (types .entry)) p) (now (log .entry)) (now (strings .entry)) (now (log .exit)) (now (strings .exit)) p ⌝ }
+{
+    let at = p.at;
+    let log_to = p.log;
+    let strings_to = p.strings;
+    let size = d.log;
+    if d.strings == strings_to {
+        if size <= scratch.len() {
+            operand::put_bytes(log, log_to, &scratch[..size]);
+            return;
+        }
+    }
+    let tracker = TypeTracker {
+        count: p.types,
+        greatest: p.greatest,
+    };
+    parse_body(
+        s,
+        at,
+        g,
+        index,
+        types,
+        hints,
+        tracker,
+        d.words,
+        d.opcode,
+        d.place,
+        log,
+        log_to,
+        strings,
+        strings_to,
+    );
+}
 
 // Keeps an instruction that goes in.
 fn keep(
@@ -140,46 +220,46 @@ fn keep(
     log: &mut [u8],
     strings: &mut [u8],
     types: &mut [u32],
+    hints: &mut [u32],
+    scratch: &[u8],
     p: Progress,
     d: Decoded,
     tag: u8,
     state: State,
 ) -> Progress
     requires { ⌜ Indexed (now g) (now index) ⌝ }
-    requires { ⌜ Bounded (now s) (now types) p ⌝ }
-    requires { ⌜ Admitted (now s) (readAt (now s) (now g) (now types) p) (roomOf (length (now instructions)) (length (now log)) (length (now strings)) (length (now types))) (entriesOf (p .types) (now types)) (now log) (now strings) p d tag state ⌝ }
-    ensures { λ r. ⌜ Keeps (now (s .entry)) (readAt (now (s .entry)) (now (g .entry)) (now (types .entry)) p) (roomOf (length (now (instructions .entry))) (length (now (log .entry))) (length (now (strings .entry))) (length (now (types .entry)))) (now (instructions .entry)) (now (log .entry)) (now (strings .entry)) (now (types .entry)) (now (instructions .exit)) (now (log .exit)) (now (strings .exit)) (now (types .exit)) p r ⌝ }
+    requires { ⌜ Bounded (now s) (now types) (now hints) p ⌝ }
+    requires { ⌜ Admitted (now s) (now g) (readAt (now s) (now g) (now types) p) (roomOf (length (now instructions)) (length (now log)) (length (now strings)) (length (now types))) (entriesOf (p .types) (now types)) (now scratch) p d tag state ⌝ }
+    ensures { λ r. ⌜ Keeps (now (s .entry)) (readAt (now (s .entry)) (now (g .entry)) (now (types .entry)) p) (roomOf (length (now (instructions .entry))) (length (now (log .entry))) (length (now (strings .entry))) (length (now (types .entry)))) (now (instructions .entry)) (now (log .entry)) (now (strings .entry)) (now (types .entry)) (now (instructions .exit)) (now (log .exit)) (now (strings .exit)) (now (types .exit)) (now (hints .exit)) p r ⌝ }
 {
-    let at = p.at;
-    let log_to = p.log;
-    let strings_to = p.strings;
-    let tracker = TypeTracker { count: p.types };
-    parse_inst(
-        s,
-        at,
-        g,
-        index,
-        types,
-        tracker,
-        log,
-        log_to,
-        strings,
-        strings_to,
-        true,
-    );
+    keep_operands(s, g, index, log, strings, types, hints, scratch, p, d);
     let fields = fields_of(p, d, tag);
     records::put_fields(instructions, records::RECORD * p.instructions, fields);
+    let tracker = TypeTracker {
+        count: p.types,
+        greatest: p.greatest,
+    };
     let rtype = d.rtype;
     let rid = d.rid;
     let first = d.first;
     let second = d.second;
-    let tracked = tracker.track(types, d.opcode, rtype, rid, d.operands, first, second);
+    let tracked = tracker.track(
+        types,
+        hints,
+        d.opcode,
+        rtype,
+        rid,
+        d.operands,
+        first,
+        second,
+    );
     Progress {
-        at: at + 4 * (d.words as usize),
+        at: p.at + 4 * (d.words as usize),
         instructions: p.instructions + 1,
-        log: d.log,
+        log: p.log + d.log,
         strings: d.strings,
         types: tracked.count,
+        greatest: tracked.greatest,
         state,
     }
 }
@@ -194,16 +274,19 @@ pub fn take(
     log: &mut [u8],
     strings: &mut [u8],
     types: &mut [u32],
+    hints: &mut [u32],
+    scratch: &mut [u8],
+    spare: &mut [u8],
     room: Counts,
     p: Progress,
 ) -> Step
     requires { ⌜ Indexed (now g) (now index) ⌝ }
-    requires { ⌜ Bounded (now s) (now types) p ⌝ }
+    requires { ⌜ Bounded (now s) (now types) (now hints) p ⌝ }
     requires { ⌜ room ≡ roomOf (length (now instructions)) (length (now log)) (length (now strings)) (length (now types)) ⌝ }
     requires { ⌜ now table ≡ layoutTable ⌝ }
-    ensures { λ r. ⌜ Steps (now (s .entry)) (readAt (now (s .entry)) (now (g .entry)) (now (types .entry)) p) room (now (instructions .entry)) (now (log .entry)) (now (strings .entry)) (now (types .entry)) (now (instructions .exit)) (now (log .exit)) (now (strings .exit)) (now (types .exit)) p r ⌝ }
+    ensures { λ r. ⌜ Steps (now (s .entry)) (readAt (now (s .entry)) (now (g .entry)) (now (types .entry)) p) room (now (instructions .entry)) (now (log .entry)) (now (strings .entry)) (now (types .entry)) (now (instructions .exit)) (now (log .exit)) (now (strings .exit)) (now (types .exit)) (now (hints .exit)) p r ⌝ }
 {
-    let verdict = judge(table, s, g, index, types, log, strings, room, p);
+    let verdict = judge(table, s, g, index, types, hints, scratch, spare, room, p);
     match verdict {
         Judged::Refused(x) => Step::Stop(x),
         Judged::Good(d, tag, state) => {
@@ -215,6 +298,8 @@ pub fn take(
                 log,
                 strings,
                 types,
+                hints,
+                scratch,
                 p,
                 d,
                 tag,

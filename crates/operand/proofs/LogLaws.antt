@@ -5,13 +5,15 @@ use mathlib.Core.Bool.{Bool, true, false}
 use mathlib.Core.List.{List, [], _∷_, _++_}
 use native.Mathlib.Omega.{arith}
 use native.Mathlib.Numerals.{add-one}
-use lib.ListN.{length, getD, take, set}
+use borrow.Author.Tests.{le-leb, lt-leb}
+use lib.Dec.{leb}
+use lib.ListN.{length, length-append, getD, take, set}
 use lib.Seq.{sets, length-sets, take-suc, take-length}
 use Rattle.spec.specs.Words.{bytesOf}
 use Rattle.spec.proofs.Store.{sets-append}
 use Rattle.operand.specs.declared.Parts.{Parts}
 use Rattle.operand.specs.Parts.{isTwo}
-use Rattle.operand.specs.Log.{recordBy, recordOf, lengthBy, recordLength, kept}
+use Rattle.operand.specs.Log.{recordBy, recordOf, lengthBy, recordLength, kept, Laid}
 
 -- THE RECORD'S LENGTH
 
@@ -116,11 +118,37 @@ unfolding kept
 length-kept true l at bs = length-sets l at bs
 length-kept false l at bs = refl
 
+-- bytes that fit are kept
+pub kept-fits : (l x : List ℕ) (at n : ℕ) (bs : List ℕ) → at + n ≤ length l → x ≡ sets l at bs → x ≡ kept (leb (at + n) (length l)) l at bs
+kept-fits l x at n bs h e = kept-yes (leb (at + n) (length l)) l at bs x (le-leb (at + n) (length l) h) e
+
+-- others are not
+pub kept-full : (l : List ℕ) (at n : ℕ) (bs : List ℕ) → length l < at + n → l ≡ kept (leb (at + n) (length l)) l at bs
+kept-full l at n bs h = kept-no (leb (at + n) (length l)) l at bs (lt-leb (at + n) (length l) h)
+
+-- bytes that were kept where they fit went in
+pub laid-kept : (l x : List ℕ) (at n : ℕ) (bs : List ℕ) → length bs ≡ n → x ≡ kept (leb (at + n) (length l)) l at bs → Laid l at bs x
+laid-kept l x at n bs q e =
+    record {
+      same = ap length e ∙ length-kept (leb (at + n) (length l)) l at bs;
+      there = λ h. e ∙ sym (kept-fits l (sets l at bs) at n bs (omega (arith, q, h)) refl);
+    }
+
+-- no bytes
+pub laid-nil : (l : List ℕ) (at : ℕ) → Laid l at [] l
+laid-nil l at = record { same = refl; there = λ h. refl }
+
 -- bytes after bytes
-pub kept-append : (k : Bool) (l : List ℕ) (at : ℕ) (a b : List ℕ) → kept k (kept k l at a) (at + length a) b ≡ kept k l at (a ++ b)
-unfolding kept
-kept-append true l at a b = sets-append a b l at
-kept-append false l at a b = refl
+pub laid-append : {l₀ l m : List ℕ} {at : ℕ} {a b : List ℕ} → Laid l₀ at a l → Laid l (at + length a) b m → Laid l₀ at (a ++ b) m
+laid-append {l₀} {l} {m} {at} {a} {b} p q =
+    record {
+      same = q .same ∙ p .same;
+      there = λ h.
+          let e = length-append a b in
+          q .there (omega (arith, h, e, p .same))
+          ∙ ap (λ (x : List ℕ). sets x (at + length a) b) (p .there (omega (arith, h, e)))
+          ∙ sets-append a b l₀ at;
+    }
 
 -- COPYING
 

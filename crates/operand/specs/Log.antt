@@ -1,7 +1,9 @@
--- An operand's record in the operand log, kept or only measured.
-use Prim.Native.Nat.{ℕ}
+-- An operand's record in the operand log, kept where there is room.
+use Prim.Native.Nat.{ℕ, _+_, _≤_}
+use mathlib.Core.Path.{_≡_}
 use mathlib.Core.Bool.{Bool, true, false}
 use mathlib.Core.List.{List, _∷_}
+use lib.ListN.{length}
 use lib.Seq.{sets}
 use Rattle.spec.specs.Words.{bytesOf}
 use Rattle.spec.specs.Records.{longBytes}
@@ -30,3 +32,8 @@ recordLength p = lengthBy (isTwo (p .kind))
 unfoldable pub kept : Bool → List ℕ → ℕ → List ℕ → List ℕ
 kept true l at bs = sets l at bs
 kept false l at bs = l
+
+-- bytes went into a store from a place on: no byte more or less, and they are there where they fit
+pub record Laid (l₀ : List ℕ) (at : ℕ) (bs l : List ℕ) : Type 0 where
+  pub same : length l ≡ length l₀
+  pub there : at + length bs ≤ length l₀ → l ≡ sets l₀ at bs

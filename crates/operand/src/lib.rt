@@ -1,7 +1,7 @@
 // An operand: the arms of the crate's `Operand`, in the order of binary/assemble.rs, and its record in the log.
 ghost use mathlib.Core.Path.{_≡_};
-ghost use mathlib.Core.Bool.{true};
 ghost use Prim.Native.Nat.{_+_, _*_, _≤_};
+ghost use lib.Dec.{leb};
 ghost use lib.ListN.{length};
 ghost use lib.Seq.{sets};
 ghost use Rattle.spec.specs.Words.{bytesOf};
@@ -237,31 +237,23 @@ fn put_record(log: &mut [u8], at: usize, p: Parts)
     }
 }
 
-// An operand's record, kept at a place or not: the leaf that tests the flag.
-fn record_if(log: &mut [u8], at: usize, p: Parts, keep: bool)
-    requires { ⌜ (keep ≡ true → at + recordLength p ≤ length (now log)) ⌝ }
-    ensures { λ _. ⌜ now (log .exit) ≡ kept keep (now (log .entry)) at (recordOf p) ⌝ }
+// An operand's record, kept at a place where it fits: the leaf that looks for room; the place behind it.
+pub fn keep_record(log: &mut [u8], at: usize, p: Parts) -> usize
+    requires { ⌜ at ≤ 1000000000 ⌝ }
+    ensures { λ r. ⌜ r ≡ at + recordLength p ⌝ }
+    ensures { λ r. ⌜ now (log .exit) ≡ kept (leb (at + recordLength p) (length (now (log .entry)))) (now (log .entry)) at (recordOf p) ⌝ }
 {
-    if keep {
+    let next = at + record_length(p);
+    if next <= log.len() {
         put_record(log, at, p);
     }
-}
-
-// An operand's record, kept at a place or only measured: the place after it.
-pub fn keep_record(log: &mut [u8], at: usize, p: Parts, keep: bool) -> usize
-    requires { ⌜ at ≤ 1000000000 ⌝ }
-    requires { ⌜ (keep ≡ true → at + recordLength p ≤ length (now log)) ⌝ }
-    ensures { λ r. ⌜ r ≡ at + recordLength p ⌝ }
-    ensures { λ r. ⌜ now (log .exit) ≡ kept keep (now (log .entry)) at (recordOf p) ⌝ }
-{
-    record_if(log, at, p, keep);
-    at + record_length(p)
+    next
 }
 
 // THE STRINGS
 
 // Bytes, stored at a place.
-fn put_bytes(out: &mut [u8], at: usize, bytes: &[u8])
+pub fn put_bytes(out: &mut [u8], at: usize, bytes: &[u8])
     requires { ⌜ at + length (now bytes) ≤ length (now out) ⌝ }
     ensures { λ _. ⌜ now (out .exit) ≡ sets (now (out .entry)) at (now (bytes .entry)) ⌝ }
 {
@@ -272,12 +264,12 @@ fn put_bytes(out: &mut [u8], at: usize, bytes: &[u8])
     }
 }
 
-// Bytes, kept at a place or only measured.
-pub fn keep_bytes(out: &mut [u8], at: usize, bytes: &[u8], keep: bool)
-    requires { ⌜ (keep ≡ true → at + length (now bytes) ≤ length (now out)) ⌝ }
-    ensures { λ _. ⌜ now (out .exit) ≡ kept keep (now (out .entry)) at (now (bytes .entry)) ⌝ }
+// Bytes, kept at a place where they fit.
+pub fn keep_bytes(out: &mut [u8], at: usize, bytes: &[u8])
+    requires { ⌜ (at ≤ 1000000000) × (length (now bytes) ≤ 1000000000) ⌝ }
+    ensures { λ _. ⌜ now (out .exit) ≡ kept (leb (at + length (now (bytes .entry))) (length (now (out .entry)))) (now (out .entry)) at (now (bytes .entry)) ⌝ }
 {
-    if keep {
+    if at + bytes.len() <= out.len() {
         put_bytes(out, at, bytes);
     }
 }

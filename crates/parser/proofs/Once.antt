@@ -132,17 +132,17 @@ module _ (s : List ℕ) (g : Grammar) (k : ℕ) (d : Decoder) (t : Bool) (p : t 
   alone-operand q = let z : isResult k ≡ false = sym p ∙ q in simp z
 
 -- the read that is meant, however few words it takes
-pub less-read : (s : List ℕ) (d : Decoder) (m : ℕ) (x z : Read (List Operand)) (k : Bool) (l₀ t₀ l t : List ℕ) (c : Used) (v : Parsed)
-    → x ≡ z → Parses s d m z k l₀ t₀ l t c v → Parses s d 0 x k l₀ t₀ l t c v
+pub less-read : (s : List ℕ) (d : Decoder) (m : ℕ) (x z : Read (List Operand)) (l₀ t₀ l t : List ℕ) (c : Used) (v : Parsed)
+    → x ≡ z → Parses s d m z l₀ t₀ l t c v → Parses s d 0 x l₀ t₀ l t c v
 unfolding Parses
-less-read s d m x z k l₀ t₀ l t c (Good e n) q h = record {
+less-read s d m x z l₀ t₀ l t c (Good e n) q h = record {
   operands = h .operands;
   read = q ∙ h .read;
   held = h .held;
   few = h .few;
   went = went-less (h .went);
 }
-less-read s d m x z k l₀ t₀ l t c (Bad y e) q h = record { read = q ∙ h .read; log-is = h .log-is; strings-is = h .strings-is }
+less-read s d m x z l₀ t₀ l t c (Bad y e) q h = q ∙ h
 
 -- THE OPERATION
 

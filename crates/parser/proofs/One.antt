@@ -15,14 +15,16 @@ use Rattle.spec.specs.declared.Refusal.{Refusal}
 use Rattle.spec.specs.Base.{if_then_else_, within}
 use Rattle.spec.specs.Words.{bytesOf}
 use Rattle.spec.specs.Text.{textWords}
-use Rattle.spec.specs.Kinds.{isEnum, isLogged, isLong}
-use Rattle.spec.specs.Records.{Operand, narrow, wide, text, operandLog, operandsLog, operandString, operandsStrings, longBytes}
+use Rattle.spec.specs.declared.Found.{Found}
+use Rattle.spec.specs.declared.Found.the-variants.{At, Nothing}
+use Rattle.spec.specs.Kinds.{isEnum, isMask, isLogged, isLong}
+use Rattle.spec.specs.Records.{narrow, wide, text, operandLog, operandsLog, operandString, operandsStrings, longBytes}
 use Rattle.spec.specs.Reader.{Reader, Read, got, refused, after, give, refusal, reached, readWord, readText, limitPast, readerAt}
-use Rattle.spec.specs.Grammar.{Grammar, parametersFor}
+use Rattle.spec.specs.Grammar.{Grammar, grammarOf, listed, parametersFor}
 use Rattle.spec.specs.Match.{Known, known, knownOr, valueOf, readEnumerant, readOne, readEach}
 use Rattle.operand.specs.Parts.{parts, isTwo, Fits}
-use Rattle.operand.specs.Log.{recordBy, recordOf, lengthBy, recordLength, kept}
-use Rattle.operand.proofs.LogLaws.{length-range, kept-nil}
+use Rattle.operand.specs.Log.{recordBy, recordOf, lengthBy, recordLength, Laid}
+use Rattle.operand.proofs.LogLaws.{length-range, laid-nil}
 use Rattle.decoder.specs.declared.Decoder.{Decoder}
 use Rattle.decoder.specs.declared.Text.{Text}
 use Rattle.decoder.specs.declared.WordRead.the-variants.{Got as Word, Refused as NoWord}
@@ -30,12 +32,12 @@ use Rattle.decoder.specs.declared.LongRead.the-variants.{Got as Long}
 use Rattle.decoder.specs.declared.TextRead.the-variants.{Got as GotText, Refused as NoText}
 use Rattle.decoder.specs.Answer.{readerOf, limitReached, wordFrom, longFrom, textFrom}
 use Rattle.decoder.proofs.Laws.{word-got, word-refused, long-got, text-got, text-refused, text-within}
-use Rattle.grammar.specs.Find.{isListed}
+use Rattle.grammar.specs.Find.{placeFound, parametersFound, isListed}
 use Rattle.parser.specs.declared.used.Used.{Used}
 use Rattle.parser.specs.declared.operands.EnumRead.{EnumRead}
 use Rattle.parser.specs.declared.operands.EnumRead.the-variants.{Known as KnownAt, Unread}
-use Rattle.parser.specs.Parse.{notesOf, noteAs, note, notes, valueIf, Pushed, Copied, Step, Went, Few, Held, Fit, MayKeep, prefix, isSingle, KnownAs, EnumIs}
-use Rattle.parser.proofs.Walk.{step-few, step-went, fit-front}
+use Rattle.parser.specs.Parse.{notesOf, noteAs, note, notes, valueIf, Pushed, Copied, Step, Went, Few, Held, isSingle, orNone, parametersAt, KnownAs, EnumIs}
+use Rattle.parser.proofs.Walk.{step-few, step-went, laid-as}
 
 -- HOW FAR
 
@@ -47,7 +49,7 @@ step-word s d e w h =
 
 -- ENUMERANTS
 
-module _ (s : List ℕ) (g : Grammar) (k : ℕ) (d : Decoder) (b : Bool) (p : b ≡ limitReached d) where
+module _ (s g : List ℕ) (k : ℕ) (d : Decoder) (b : Bool) (p : b ≡ limitReached d) where
   told : (t : Bool) → b ≡ t → reached (d .limit) ≡ t
   unfolding limitReached
   told t q = sym p ∙ q
@@ -57,7 +59,7 @@ module _ (s : List ℕ) (g : Grammar) (k : ℕ) (d : Decoder) (b : Bool) (p : b 
   unfolding EnumIs readEnumerant readerOf readerAt
   enum-spent v q e = rw e (simp (told true q))
 
-  enum-on : b ≡ false → readEnumerant g k (readerOf s d) ≡ after (readWord (readerOf s d)) (λ v. knownOr (d .offset) v (parametersFor k v g))
+  enum-on : b ≡ false → readEnumerant (grammarOf g) k (readerOf s d) ≡ after (readWord (readerOf s d)) (λ v. knownOr (d .offset) v (parametersFor k v (grammarOf g)))
   unfolding readEnumerant readerOf readerAt
   enum-on q = simp (told false q)
 
@@ -65,43 +67,67 @@ module _ (s : List ℕ) (g : Grammar) (k : ℕ) (d : Decoder) (b : Bool) (p : b 
     -- no word
     pub enum-unread : (x : Refusal) (e : Decoder) → NoWord x e ≡ wordFrom s d → EnumIs s g k d (Unread x e)
     unfolding EnumIs
-    enum-unread x e h = enum-on q ∙ ap (λ (y : Read ℕ). after y (λ v. knownOr (d .offset) v (parametersFor k v g))) (word-refused s d e x h)
+    enum-unread x e h = enum-on q ∙ ap (λ (y : Read ℕ). after y (λ v. knownOr (d .offset) v (parametersFor k v (grammarOf g)))) (word-refused s d e x h)
 
     module _ (w : ℕ) (e : Decoder) (h : Word w e ≡ wordFrom s d) where
-      looked : (o : Option (List ℕ)) → parametersFor k w g ≡ o → readEnumerant g k (readerOf s d) ≡ knownOr (d .offset) w o (readerOf s e)
+      looked : (o : Option (List ℕ)) → parametersFor k w (grammarOf g) ≡ o → readEnumerant (grammarOf g) k (readerOf s d) ≡ knownOr (d .offset) w o (readerOf s e)
       looked o l =
-          enum-on q ∙ ap (λ (y : Read ℕ). after y (λ v. knownOr (d .offset) v (parametersFor k v g))) (word-got s d e w h .reads)
+          enum-on q ∙ ap (λ (y : Read ℕ). after y (λ v. knownOr (d .offset) v (parametersFor k v (grammarOf g)))) (word-got s d e w h .reads)
           ∙ ap (λ (z : Option (List ℕ)). knownOr (d .offset) w z (readerOf s e)) l
 
-      known-by : (o : Option (List ℕ)) → parametersFor k w g ≡ o → isListed o ≡ true → KnownAs s g k d w e
-      unfolding isListed
-      known-by none l t = let z : _≡_ {A = ℕ} 0 1 = cc in absurd (omega arith)
-      known-by (some ps) l t = record { parameters = ps; listed = l; read = looked (some ps) l; step = step-word s d e w h }
+      -- the value is known, and its parameters start at a place unless it is a mask
+      enum-known : (o : Option (List ℕ)) → parametersFor k w (grammarOf g) ≡ o → isListed o ≡ true → (n : ℕ) → n ≤ length g
+          → (isMask k ≡ false → parametersFound g (At n) ≡ o) → EnumIs s g k d (KnownAt w n e)
+      unfolding EnumIs isListed parametersFound parametersAt orNone
+      enum-known none l t n i f = let z : _≡_ {A = ℕ} 0 1 = cc in absurd (omega arith)
+      enum-known (some ps) l t n i f = record {
+        parameters = ps;
+        listed = l;
+        read = looked (some ps) l;
+        step = step-word s d e w h;
+        inside = i;
+        place = λ m. ap orNone (f m);
+      }
 
-      unknown-by : (o : Option (List ℕ)) → parametersFor k w g ≡ o → isListed o ≡ false
-          → readEnumerant g k (readerOf s d) ≡ refused (refusal 10 (d .offset) w) (readerOf s e)
-      unfolding isListed
-      unknown-by none l t = looked none l
-      unknown-by (some ps) l t = let z : _≡_ {A = ℕ} 0 1 = cc in absurd (omega arith)
+      -- it is not
+      pub enum-unknown : (o : Option (List ℕ)) → parametersFor k w (grammarOf g) ≡ o → isListed o ≡ false → (v : EnumRead)
+          → v ≡ Unread (refusal 10 (d .offset) w) e → EnumIs s g k d v
+      unfolding EnumIs isListed
+      enum-unknown none l t v r = rw r (looked none l)
+      enum-unknown (some ps) l t v r = let z : _≡_ {A = ℕ} 0 1 = cc in absurd (omega arith)
 
-      module _ (t : Bool) (l : t ≡ isListed (parametersFor k w g)) where
-        -- the value is known
-        pub enum-known : t ≡ true → EnumIs s g k d (KnownAt w e)
-        unfolding EnumIs
-        enum-known i = known-by (parametersFor k w g) refl (sym l ∙ i)
+      -- a mask that is known
+      pub mask-known : (m t : Bool) → m ≡ isMask k → m ≡ true → t ≡ isListed (parametersFor k w (grammarOf g)) → t ≡ true
+          → EnumIs s g k d (KnownAt w (length g) e)
+      mask-known m t a c f i =
+          enum-known (parametersFor k w (grammarOf g)) refl (sym f ∙ i) (length g) (omega arith) (λ n.
+          let y : true ≡ false = sym c ∙ a ∙ n in
+          let z : _≡_ {A = ℕ} 0 1 = cc in
+          absurd (omega arith))
+
+      -- another value, as it was looked up
+      module _ (m : Bool) (a : m ≡ isMask k) (c : m ≡ false) (f : Found) (i : parametersFound g f ≡ listed k w (grammarOf g .enumerants)) where
+        plain-found : (x : Found) → f ≡ x → parametersFor k w (grammarOf g) ≡ parametersFound g x
+        unfolding parametersFor
+        plain-found x r = simp (sym a ∙ c) (sym i ∙ ap (parametersFound g) r)
+
+        -- it is known
+        pub value-known : (n : ℕ) → f ≡ At n → placeFound f ≤ length g → EnumIs s g k d (KnownAt w n e)
+        unfolding parametersFound placeFound isListed
+        value-known n r l = enum-known (parametersFound g (At n)) (plain-found (At n) r) refl n (rw r at l) (λ x. refl)
 
         -- it is not
-        pub enum-unknown : t ≡ false → (v : EnumRead) → v ≡ Unread (refusal 10 (d .offset) w) e → EnumIs s g k d v
-        unfolding EnumIs
-        enum-unknown i v r = rw r (unknown-by (parametersFor k w g) refl (sym l ∙ i))
+        pub value-unknown : f ≡ Nothing → (v : EnumRead) → v ≡ Unread (refusal 10 (d .offset) w) e → EnumIs s g k d v
+        unfolding parametersFound isListed
+        value-unknown r = enum-unknown (parametersFound g Nothing) (plain-found Nothing r) refl
 
 -- an enumerant's answer, taken apart
-pub known-told : (s : List ℕ) (g : Grammar) (k : ℕ) (d : Decoder) (v : EnumRead) (w : ℕ) (e : Decoder) → EnumIs s g k d v → v ≡ KnownAt w e → KnownAs s g k d w e
+pub known-told : (s g : List ℕ) (k : ℕ) (d : Decoder) (v : EnumRead) (w p : ℕ) (e : Decoder) → EnumIs s g k d v → v ≡ KnownAt w p e → KnownAs s g k d w p e
 unfolding EnumIs
-known-told s g k d v w e h q = rw q at h
+known-told s g k d v w p e h q = rw q at h
 
-pub unread-told : (s : List ℕ) (g : Grammar) (k : ℕ) (d : Decoder) (v : EnumRead) (x : Refusal) (e : Decoder) → EnumIs s g k d v → v ≡ Unread x e
-    → readEnumerant g k (readerOf s d) ≡ refused x (readerOf s e)
+pub unread-told : (s g : List ℕ) (k : ℕ) (d : Decoder) (v : EnumRead) (x : Refusal) (e : Decoder) → EnumIs s g k d v → v ≡ Unread x e
+    → readEnumerant (grammarOf g) k (readerOf s d) ≡ refused x (readerOf s e)
 unfolding EnumIs
 unread-told s g k d v x e h q = rw q at h
 
@@ -183,42 +209,42 @@ module _ (s : List ℕ) (g : Grammar) (k : ℕ) (d : Decoder) (t : Bool) (p : t 
     pub text-bad : (x : Refusal) (e : Decoder) → NoText x e ≡ textFrom s d → readEach g (k ∷ []) (readerOf s d) ≡ refused x (readerOf s e)
     text-bad x e h = each-text _ (sym (text-within s d i) ∙ text-refused s d e x h)
 
-module _ (s : List ℕ) (g : Grammar) (k : ℕ) (d : Decoder) (t : Bool) (p : t ≡ isEnum k) (q : t ≡ true) where
+module _ (s g : List ℕ) (k : ℕ) (d : Decoder) (t : Bool) (b : t ≡ isEnum k) (q : t ≡ true) where
   enum-kind : isEnum k ≡ true
-  enum-kind = sym p ∙ q
+  enum-kind = sym b ∙ q
 
-  each-enum : (y : Read Known) → readEnumerant g k (readerOf s d) ≡ y
-      → readEach g (k ∷ []) (readerOf s d) ≡ after (after y (λ a. give (narrow k (valueOf a)))) (λ o. give (o ∷ []))
+  each-enum : (y : Read Known) → readEnumerant (grammarOf g) k (readerOf s d) ≡ y
+      → readEach (grammarOf g) (k ∷ []) (readerOf s d) ≡ after (after y (λ a. give (narrow k (valueOf a)))) (λ o. give (o ∷ []))
   unfolding readEach readOne
   each-enum y h =
       simp enum-kind (ap (λ (m : Read Known). after (after m (λ a. give (narrow k (valueOf a)))) (λ o. give (o ∷ []))) h)
 
   -- an enumerant
-  pub enum-good : (w : ℕ) (e : Decoder) → KnownAs s g k d w e → readEach g (k ∷ []) (readerOf s d) ≡ got (narrow k w ∷ []) (readerOf s e)
-  enum-good w e h = each-enum _ (h .read)
+  pub enum-good : (w p : ℕ) (e : Decoder) → KnownAs s g k d w p e → readEach (grammarOf g) (k ∷ []) (readerOf s d) ≡ got (narrow k w ∷ []) (readerOf s e)
+  enum-good w p e h = each-enum _ (h .read)
 
   -- no enumerant
-  pub enum-bad : (x : Refusal) (e : Decoder) → readEnumerant g k (readerOf s d) ≡ refused x (readerOf s e)
-      → readEach g (k ∷ []) (readerOf s d) ≡ refused x (readerOf s e)
+  pub enum-bad : (x : Refusal) (e : Decoder) → readEnumerant (grammarOf g) k (readerOf s d) ≡ refused x (readerOf s e)
+      → readEach (grammarOf g) (k ∷ []) (readerOf s d) ≡ refused x (readerOf s e)
   enum-bad x e h = each-enum _ h
 
 -- WHAT IS HELD
 
 -- a record of one word
-pub held-narrow : (k : Bool) (l t l₁ : List ℕ) (u n : Used) (j w : ℕ) → isTwo j ≡ false → Pushed j w u n
-    → l₁ ≡ kept k l (u .log) (recordOf (parts j w)) → Held k l t l₁ t u n (narrow j w ∷ [])
+pub held-narrow : (l t l₁ : List ℕ) (u n : Used) (j w : ℕ) → isTwo j ≡ false → Pushed j w u n
+    → Laid l (u .log) (recordOf (parts j w)) l₁ → Held l t l₁ t u n (narrow j w ∷ [])
 unfolding operandsLog operandLog operandsStrings operandString notes note recordOf recordBy recordLength lengthBy valueIf bytesOf
-held-narrow k l t l₁ u n j w z p h =
+held-narrow l t l₁ u n j w z p h =
     let a : n .log ≡ u .log + 5 = simp z at (p .log) in
-    let b : l₁ ≡ kept k l (u .log) (j ∷ bytesOf w) = simp z at h in
+    let b : recordOf (parts j w) ≡ j ∷ bytesOf w = simp z in
     record {
       rtype = p .rtype;
       rid = p .rid;
       nlog = a;
       nstrings = p .strings ∙ sym (add-zero (u .strings));
       noted = p .noted;
-      log-is = b;
-      strings-is = kept-nil k t (u .strings);
+      log-laid = laid-as refl b h;
+      strings-laid = laid-nil t (u .strings);
     }
 
 -- a record more is one operand more
@@ -238,26 +264,6 @@ few-small s d u f = (
   omega (arith, f .short, f .inside, f .operands),
   omega (arith, f .short, f .inside, f .strings),
 )
-
--- THE ROOM FOR A RECORD
-
-may-fit : (k : Bool) (c : Used) (n m : ℕ) (x : Read (List Operand)) (os : List Operand) (z : Read (List Operand)) → MayKeep k c n m x → x ≡ prefix os z → k ≡ true
-    → Fit c n m os
-unfolding MayKeep prefix
-may-fit true c n m x os (got more r) h e ek = fit-front c n m os more (rw e at h)
-may-fit true c n m x os (refused y r) h e ek = absurd (rw e at h)
-may-fit false c n m x os z h e ek = let y : _≡_ {A = ℕ} 0 1 = cc in absurd (omega arith)
-
--- one operand alone
-pub alone : (o : Operand) (r : Reader) → got (o ∷ []) r ≡ prefix (o ∷ []) (got [] r)
-unfolding prefix
-alone o r = refl
-
--- for one word
-pub narrow-room : (k : Bool) (c : Used) (n m : ℕ) (x : Read (List Operand)) (z : Read (List Operand)) (j w : ℕ) → isTwo j ≡ false
-    → MayKeep k c n m x → x ≡ prefix (narrow j w ∷ []) z → k ≡ true → c .log + recordLength (parts j w) ≤ n
-unfolding Fit operandsLog operandLog recordLength lengthBy bytesOf
-narrow-room k c n m x z j w t h e ek = let y = may-fit k c n m x (narrow j w ∷ []) z h e ek in simp t (y .0)
 
 -- STRINGS
 
@@ -301,11 +307,11 @@ module _ (s : List ℕ) (from size : ℕ) (h : from + size < length s) where
   size-is = length-slice from (from + size) s (omega arith) ∙ omega arith
 
   -- a string's record and its bytes
-  pub held-text : (k : Bool) (l t l₁ t₁ : List ℕ) (u n : Used) → u .strings < 4294967296 → Copied size u n
-      → l₁ ≡ kept k l (u .log) (recordOf (parts 40 (u .strings + 4294967296 * size))) → t₁ ≡ kept k t (u .strings) (slice from (from + size) s)
-      → Held k l t l₁ t₁ u n (text (slice from (from + size) s) ∷ [])
+  pub held-text : (l t l₁ t₁ : List ℕ) (u n : Used) → u .strings < 4294967296 → Copied size u n
+      → Laid l (u .log) (recordOf (parts 40 (u .strings + 4294967296 * size))) l₁ → Laid t (u .strings) (slice from (from + size) s) t₁
+      → Held l t l₁ t₁ u n (text (slice from (from + size) s) ∷ [])
   unfolding operandsLog operandLog operandsStrings operandString notes note bytesOf
-  held-text k l t l₁ t₁ u n z p hl ht =
+  held-text l t l₁ t₁ u n z p hl ht =
       let e : slice from (from + size) s ++ [] ≡ slice from (from + size) s = append-nil (slice from (from + size) s) in
       record {
         rtype = p .rtype;
@@ -313,19 +319,10 @@ module _ (s : List ℕ) (from size : ℕ) (h : from + size < length s) where
         nlog = p .log;
         nstrings = p .strings ∙ ap (λ (i : ℕ). u .strings + i) (sym (ap length e ∙ size-is));
         noted = p .noted;
-        log-is =
-            hl ∙ ap (kept k l (u .log)) (text-record (u .strings) size z)
-            ∙ ap (λ (i : ℕ). kept k l (u .log) (40 ∷ (bytesOf (u .strings) ++ bytesOf i))) (sym size-is);
-        strings-is = ht ∙ ap (kept k t (u .strings)) (sym e);
+        log-laid =
+            laid-as refl (text-record (u .strings) size z ∙ ap (λ (i : ℕ). 40 ∷ (bytesOf (u .strings) ++ bytesOf i)) (sym size-is)) hl;
+        strings-laid = laid-as refl (sym e) ht;
       }
-
-  -- the room for them
-  pub text-rooms : (k : Bool) (c : Used) (n m : ℕ) (x : Read (List Operand)) (r : Reader) → MayKeep k c n m x
-      → x ≡ got (text (slice from (from + size) s) ∷ []) r → k ≡ true → (c .log + 9 ≤ n) × (c .strings + size ≤ m)
-  unfolding Fit operandsLog operandLog operandsStrings operandString bytesOf
-  text-rooms k c n m x r i e ek =
-      let y = may-fit k c n m x (text (slice from (from + size) s) ∷ []) (got [] r) i (e ∙ alone _ r) ek in
-      (y .0, omega (arith, y .1, ap length (append-nil (slice from (from + size) s)), size-is))
 
 -- little is in use after a string
 pub few-copied : (s : List ℕ) (d e : Decoder) (u r : Used) (size : ℕ) → Few s d u → Step s d e (textWords size) → Copied size u r → Few s e r
@@ -366,12 +363,12 @@ pub long-fits : (k w : ℕ) → isLong k ≡ true → Fits k w
 long-fits k w h = record { known = long-by k (eqb k 36) (eqb k 38) refl refl h; small = λ e. absurd (long-two k h e) }
 
 -- a record of two words
-pub held-wide : (k : Bool) (l t l₁ : List ℕ) (u n : Used) (j w : ℕ) → isLong j ≡ true → Pushed j w u n
-    → l₁ ≡ kept k l (u .log) (recordOf (parts j w)) → Held k l t l₁ t u n (wide j w ∷ [])
+pub held-wide : (l t l₁ : List ℕ) (u n : Used) (j w : ℕ) → isLong j ≡ true → Pushed j w u n
+    → Laid l (u .log) (recordOf (parts j w)) l₁ → Held l t l₁ t u n (wide j w ∷ [])
 unfolding operandsLog operandLog operandsStrings operandString notes note recordOf recordBy recordLength lengthBy valueIf bytesOf
-held-wide k l t l₁ u n j w z p h =
+held-wide l t l₁ u n j w z p h =
     let a : n .log ≡ u .log + 9 = simp z at (p .log) in
-    let b : l₁ ≡ kept k l (u .log) (j ∷ longBytes w) = simp z at h in
+    let b : recordOf (parts j w) ≡ j ∷ longBytes w = simp z in
     let c : eqb j 34 ≡ false = ne-eqb j 34 (not-kind isLong j 34 z refl) in
     let d : eqb j 33 ≡ false = ne-eqb j 33 (not-kind isLong j 33 z refl) in
     record {
@@ -380,12 +377,6 @@ held-wide k l t l₁ u n j w z p h =
       nlog = a;
       nstrings = p .strings ∙ sym (add-zero (u .strings));
       noted = simp (c, d) at (p .noted);
-      log-is = b;
-      strings-is = kept-nil k t (u .strings);
+      log-laid = laid-as refl b h;
+      strings-laid = laid-nil t (u .strings);
     }
-
--- the room for it
-pub wide-room : (k : Bool) (c : Used) (n m : ℕ) (x : Read (List Operand)) (r : Reader) (j w : ℕ) → isLong j ≡ true
-    → MayKeep k c n m x → x ≡ got (wide j w ∷ []) r → k ≡ true → c .log + recordLength (parts j w) ≤ n
-unfolding Fit operandsLog operandLog recordLength lengthBy bytesOf
-wide-room k c n m x r j w t h e ek = let y = may-fit k c n m x (wide j w ∷ []) (got [] r) h (e ∙ alone _ r) ek in simp t (y .0)

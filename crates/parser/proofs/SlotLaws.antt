@@ -3,34 +3,29 @@ use Prim.Native.Nat.{ℕ, _+_, _-_, _<_, _≤_}
 use mathlib.Core.Path.{_≡_, refl, ap, sym, _∙_}
 use mathlib.Core.Bool.{Bool, true, false, not, _&&_, _||_}
 use mathlib.Core.List.{List, [], _∷_}
-use mathlib.Core.Option.{Option}
+use mathlib.Core.Option.{Option, some}
 use mathlib.Core.Logic.{_⊎_, inl, inr}
 use native.Mathlib.Omega.{arith}
-use borrow.Author.Tests.{eq-eqb, ne-eqb, leb-true, leb-false, eqb-false}
+use borrow.Author.Tests.{eq-eqb, ne-eqb, le-leb, lt-leb, leb-true, leb-false, eqb-false}
 use lib.Dec.{eqb, leb}
 use Rattle.spec.specs.declared.Refusal.{Refusal}
 use Rattle.spec.specs.Base.{if_then_else_, within}
-use Rattle.spec.specs.Kinds.{isResult, mayBeOperand}
+use Rattle.spec.specs.Kinds.{isEnum, isResult, mayBeOperand}
 use Rattle.spec.specs.Records.{Operand, narrow, wide, text, Entry}
-use Rattle.spec.specs.Reader.{Reader, Read, after, give, readWord}
+use Rattle.spec.specs.Reader.{Reader, Read, refused, after, give, readWord}
 use Rattle.spec.specs.Grammar.{Grammar}
-use Rattle.spec.specs.Match.{Seen, selector, withType, withId, withOperands, readEmbedded, readOperand, readPair, readKind, readSlot}
+use Rattle.spec.specs.Match.{Seen, selector, withType, withId, withOperands, readEach, readEmbedded, readOperand, readPair, readKind, readSlot}
 use Rattle.decoder.specs.declared.Decoder.{Decoder}
 use Rattle.decoder.specs.declared.WordRead.the-variants.{Got as Word, Refused as NoWord}
 use Rattle.decoder.specs.Answer.{readerOf, wordFrom}
 use Rattle.decoder.proofs.Laws.{word-got, word-refused}
-use Rattle.operand.specs.declared.Operand.the-variants.{IdRef}
-use Rattle.operand.specs.Parts.{partsOf}
-use Rattle.tracker.specs.declared.Id.{Id}
-use Rattle.tracker.specs.declared.Id.the-variants.{Absent, Is}
-use Rattle.tracker.specs.Track.{idIs, literalOf}
 use Rattle.parser.specs.declared.used.Used.{Used}
 use Rattle.parser.specs.declared.used.Parsed.{Parsed}
 use Rattle.parser.specs.declared.used.Parsed.the-variants.{Good, Bad}
-use Rattle.parser.specs.Parse.{Notes, notesOf, noteAs, note, notes, noNotes, Step, Few, Held, Parses, isPlain, literalAlone, pairAlone, kindAlone, Walked, RowDenied}
-use Rattle.parser.specs.Slots.{usedFrom, unused, withResults, withResult, SlotRead, SlotIs, SlotWalks}
+use Rattle.parser.specs.Parse.{Notes, notesOf, noteAs, note, notes, noNotes, Step, Few, Held, Parses, wordIs, isSingle, isPlain, literalAlone, pairAlone, kindAlone, Walked}
+use Rattle.parser.specs.Slots.{unused, withResults, withResult, SlotRead, SlotIs, SlotWalks}
 use Rattle.parser.proofs.One.{both, step-word}
-use Rattle.parser.proofs.Walk.{held-then, step-went}
+use Rattle.parser.proofs.Walk.{held-then, step-went, same-read}
 
 -- KINDS
 
@@ -76,16 +71,27 @@ kind-plain k m r x y z =
     one-of k (within 1 k 35) (within 40 k 45) (within 50 k 51) refl refl refl
     (λ p q s. no-kind k (leb-true 1 k (b .0)) (leb-true k 51 (b .1)) x y z p (without 36 k 38 (not-false (within 36 k 38) (a .1))) q (without 46 k 47 r) s)
 
+-- the bounds of the kinds that are a word
+in-word : (k : ℕ) → within 31 k 35 ≡ true → (31 ≤ k) × (k ≤ 35)
+in-word k h = let a = both (leb 31 k) (leb k 35) h in (leb-true 31 k (a .0), leb-true k 35 (a .1))
+
+-- these kinds are of one record, no enumerants and no strings
+pub word-kind : (k : ℕ) → within 31 k 35 ≡ true → (isSingle k ≡ true) × (isEnum k ≡ false) × (k ≡ 40 → ⊥)
+unfolding isSingle
+word-kind k h =
+    let a = in-word k h in
+    (simp (le-leb 1 k (omega arith), le-leb k 35 (a .1)), simp (le-leb 1 k (omega arith), lt-leb k 30 (omega arith), lt-leb 41 k (omega arith)), λ e. omega arith)
+
 module _ (g : Grammar) (types : List Entry) (t i : Option ℕ) (k : ℕ) (r : Reader) where
   -- a literal by the result type
-  pub kind-literal : k ≡ 48 → kindAlone g types t i k r ≡ literalAlone types t r
+  pub kind-literal : k ≡ 48 → (o : Option ℕ) → o ≡ t → kindAlone g types t i k r ≡ literalAlone types o r
   unfolding kindAlone
-  kind-literal e = simp (eq-eqb k 48 e)
+  kind-literal e o h = simp (eq-eqb k 48 e) (ap (λ (y : Option ℕ). literalAlone types y r) (sym h))
 
   -- a literal by the first operand, then an id
-  pub kind-pair : (k ≡ 48 → ⊥) → k ≡ 49 → kindAlone g types t i k r ≡ pairAlone types i r
+  pub kind-pair : (k ≡ 48 → ⊥) → k ≡ 49 → (o : Option ℕ) → o ≡ i → kindAlone g types t i k r ≡ pairAlone types o r
   unfolding kindAlone
-  kind-pair x e = simp (ne-eqb k 48 x, eq-eqb k 49 e)
+  kind-pair x e o h = simp (ne-eqb k 48 x, eq-eqb k 49 e) (ap (λ (y : Option ℕ). pairAlone types y r) (sym h))
 
   -- an embedded operation
   pub kind-embedded : (k ≡ 48 → ⊥) → (k ≡ 49 → ⊥) → k ≡ 39 → kindAlone g types t i k r ≡ readEmbedded g r
@@ -96,6 +102,14 @@ module _ (g : Grammar) (types : List Entry) (t i : Option ℕ) (k : ℕ) (r : Re
   pub kind-other : (k ≡ 48 → ⊥) → (k ≡ 49 → ⊥) → (k ≡ 39 → ⊥) → kindAlone g types t i k r ≡ readOperand g k r
   unfolding kindAlone
   kind-other x y z = simp (ne-eqb k 48 x, ne-eqb k 49 y, ne-eqb k 39 z)
+
+  -- a word
+  kind-word : within 31 k 35 ≡ true → kindAlone g types t i k r ≡ readEach g (k ∷ []) r
+  unfolding readOperand
+  kind-word h =
+      let a = in-word k h in
+      kind-other (λ e. omega arith) (λ e. omega arith) (λ e. omega arith)
+      ∙ simp (word-kind k h .1, ne-eqb k 50 (λ e. omega arith), ne-eqb k 51 (λ e. omega arith))
 
 -- a kind that is no result is not one of the two
 result-not : (k j : ℕ) → isResult k ≡ false → k ≡ j → isResult j ≡ true → ⊥
@@ -109,7 +123,7 @@ result-else : (k : ℕ) → isResult k ≡ true → (k ≡ 46 → ⊥) → k ≡
 result-else k h e = let a = both (leb 46 k) (leb k 47) h in omega (arith, leb-true 46 k (a .0), leb-true k 47 (a .1), e)
 
 -- little is in use after a result
-result-few : (s : List ℕ) (d e : Decoder) (u : Used) (t i : Id) → Few s d u → Step s d e 1 → Few s e (withResults t i u)
+result-few : (s : List ℕ) (d e : Decoder) (u : Used) (t i : ℕ) → Few s d u → Step s d e 1 → Few s e (withResults t i u)
 unfolding withResults
 result-few s d e u t i f p = record {
   short = f .short;
@@ -143,80 +157,80 @@ unfolding notes note noteAs noNotes
 noted-id [] = refl
 noted-id (o ∷ os) = id-stays os (note o noNotes) (omega arith) ∙ first-selects o os
 
-module _ {k : Bool} {log₀ strs₀ log strs : List ℕ} {a b : ℕ} {u : Used} {x : Seen} (w : Walked k log₀ strs₀ log strs a b u x) where
+module _ {log₀ strs₀ log strs : List ℕ} {a b : ℕ} {u : Used} {x : Seen} (w : Walked log₀ strs₀ log strs a b u x) where
   -- the id in use is that of the first operand seen
-  selector-is : idIs (u .selector) ≡ selector (x .operands)
+  selector-is : wordIs (u .selector) ≡ selector (x .operands)
   unfolding notesOf
   selector-is = ap (λ n. n .id) (w .noted) ∙ noted-id (x .operands)
 
   -- the read of an operand that is no result is by what is in use
-  pub kind-is : (g : Grammar) (types : List Entry) (j : ℕ) (r : Reader)
-      → readKind g types x j r ≡ kindAlone g types (idIs (u .rtype)) (idIs (u .selector)) j r
+  kind-is : (g : Grammar) (types : List Entry) (j : ℕ) (r : Reader)
+      → readKind g types x j r ≡ kindAlone g types (wordIs (u .rtype)) (wordIs (u .selector)) j r
   unfolding readKind kindAlone literalAlone pairAlone readPair
   kind-is g types j r = rw (w .rtype, selector-is) refl
 
   -- WHAT IS SEEN
 
   -- what was seen is held, from the places where the row began
-  walked-held : Held k log₀ strs₀ log strs (usedFrom (u .rtype) (u .rid) a b) u (x .operands)
-  unfolding usedFrom notesOf noNotes literalOf partsOf idIs
+  walked-held : Held log₀ strs₀ log strs (withResults (u .rtype) (u .rid) (unused a b)) u (x .operands)
+  unfolding withResults unused notesOf noNotes wordIs
   walked-held = record {
     rtype = refl;
     rid = refl;
     nlog = w .nlog;
     nstrings = w .nstrings;
     noted = w .noted;
-    log-is = w .log-is;
-    strings-is = w .strings-is;
+    log-laid = w .log-laid;
+    strings-laid = w .strings-laid;
   }
 
   -- operands more
-  pub walked-more : {log₁ strs₁ : List ℕ} {n : Used} {os : List Operand} → Held k log strs log₁ strs₁ u n os
-      → Walked k log₀ strs₀ log₁ strs₁ a b n (withOperands x os)
-  unfolding usedFrom notesOf noNotes literalOf partsOf idIs
+  walked-more : {log₁ strs₁ : List ℕ} {n : Used} {os : List Operand} → Held log strs log₁ strs₁ u n os
+      → Walked log₀ strs₀ log₁ strs₁ a b n (withOperands x os)
+  unfolding withResults unused notesOf noNotes wordIs
   walked-more h =
       let m = held-then walked-held h in
       record {
-        rtype = ap idIs (h .rtype) ∙ w .rtype;
-        rid = ap idIs (h .rid) ∙ w .rid;
+        rtype = ap wordIs (h .rtype) ∙ w .rtype;
+        rid = ap wordIs (h .rid) ∙ w .rid;
         nlog = m .nlog;
         nstrings = m .nstrings;
         noted = m .noted;
-        log-is = m .log-is;
-        strings-is = m .strings-is;
+        log-laid = m .log-laid;
+        strings-laid = m .strings-laid;
       }
 
   -- a result type
-  walked-type : (v : ℕ) → Walked k log₀ strs₀ log strs a b (withResults (Is v) (u .rid) u) (withType x v)
-  unfolding withResults notesOf idIs
-  walked-type v = record {
-    rtype = refl;
+  walked-type : (v n : ℕ) → wordIs n ≡ some v → Walked log₀ strs₀ log strs a b (withResults n (u .rid) u) (withType x v)
+  unfolding withResults notesOf
+  walked-type v n h = record {
+    rtype = h;
     rid = w .rid;
     nlog = w .nlog;
     nstrings = w .nstrings;
     noted = w .noted;
-    log-is = w .log-is;
-    strings-is = w .strings-is;
+    log-laid = w .log-laid;
+    strings-laid = w .strings-laid;
   }
 
   -- a result id
-  walked-id : (v : ℕ) → Walked k log₀ strs₀ log strs a b (withResults (u .rtype) (Is v) u) (withId x v)
-  unfolding withResults notesOf idIs
-  walked-id v = record {
+  walked-id : (v n : ℕ) → wordIs n ≡ some v → Walked log₀ strs₀ log strs a b (withResults (u .rtype) n u) (withId x v)
+  unfolding withResults notesOf
+  walked-id v n h = record {
     rtype = w .rtype;
-    rid = refl;
+    rid = h;
     nlog = w .nlog;
     nstrings = w .nstrings;
     noted = w .noted;
-    log-is = w .log-is;
-    strings-is = w .strings-is;
+    log-laid = w .log-laid;
+    strings-laid = w .strings-laid;
   }
 
   -- READS
 
   module _ (s : List ℕ) (g : Grammar) (types : List Entry) (j : ℕ) (d : Decoder) where
     -- what is read is added to what was seen
-    pub more-by : isResult j ≡ false → (y : Read (List Operand)) → kindAlone g types (idIs (u .rtype)) (idIs (u .selector)) j (readerOf s d) ≡ y
+    more-by : isResult j ≡ false → (y : Read (List Operand)) → kindAlone g types (wordIs (u .rtype)) (wordIs (u .selector)) j (readerOf s d) ≡ y
         → readSlot g types x j (readerOf s d) ≡ after y (λ os. give (withOperands x os))
     unfolding readSlot
     more-by h y e =
@@ -225,8 +239,8 @@ module _ {k : Bool} {log₀ strs₀ log strs : List ℕ} {a b : ℕ} {u : Used} 
 
     -- an operand that is no result
     slot-more : (log₁ strs₁ : List ℕ) → isResult j ≡ false → (v : Parsed)
-        → Parses s d 4 (kindAlone g types (idIs (u .rtype)) (idIs (u .selector)) j (readerOf s d)) k log strs log₁ strs₁ u v
-        → SlotIs s d (readSlot g types x j (readerOf s d)) k log₀ strs₀ log strs log₁ strs₁ a b v
+        → Parses s d 4 (kindAlone g types (wordIs (u .rtype)) (wordIs (u .selector)) j (readerOf s d)) log strs log₁ strs₁ u v
+        → SlotIs s d (readSlot g types x j (readerOf s d)) log₀ strs₀ log₁ strs₁ a b v
     unfolding Parses SlotIs
     slot-more log₁ strs₁ h (Good e n) p = record {
       seen = withOperands x (p .operands);
@@ -235,7 +249,7 @@ module _ {k : Bool} {log₀ strs₀ log strs : List ℕ} {a b : ℕ} {u : Used} 
       few = p .few;
       went = p .went;
     }
-    slot-more log₁ strs₁ h (Bad y e) p = record { read = more-by h _ (p .read); log-is = p .log-is; strings-is = p .strings-is }
+    slot-more log₁ strs₁ h (Bad y e) p = more-by h _ p
 
     module _ (h : isResult j ≡ true) where
       -- a result is a word
@@ -248,46 +262,53 @@ module _ {k : Bool} {log₀ strs₀ log strs : List ℕ} {a b : ℕ} {u : Used} 
           (ap (λ (m : Read ℕ). after m (λ v. give (withId x v))) e)
 
       -- a result
-      slot-result : (v : ℕ) (e : Decoder) → Word v e ≡ wordFrom s d → Few s d u → (t : Bool) → eqb j 46 ≡ t
-          → SlotRead s d (readSlot g types x j (readerOf s d)) k log₀ strs₀ log strs a b e (if t then withResults (Is v) (u .rid) u else withResults (u .rtype) (Is v) u)
-      slot-result v e p f true q = record {
+      slot-result : (v n : ℕ) → wordIs n ≡ some v → (e : Decoder) → Word v e ≡ wordFrom s d → Few s d u → (t : Bool) → eqb j 46 ≡ t
+          → SlotRead s d (readSlot g types x j (readerOf s d)) log₀ strs₀ log strs a b e (if t then withResults n (u .rid) u else withResults (u .rtype) n u)
+      slot-result v n i e p f true q = record {
         seen = withType x v;
         read = result-by _ (word-got s d e v p .reads) true q;
-        walked = walked-type v;
-        few = result-few s d e u (Is v) (u .rid) f (step-word s d e v p);
+        walked = walked-type v n i;
+        few = result-few s d e u n (u .rid) f (step-word s d e v p);
         went = step-went s d e 1 (step-word s d e v p) (f .left) (f .limited);
       }
-      slot-result v e p f false q = record {
+      slot-result v n i e p f false q = record {
         seen = withId x v;
         read = result-by _ (word-got s d e v p .reads) false q;
-        walked = walked-id v;
-        few = result-few s d e u (u .rtype) (Is v) f (step-word s d e v p);
+        walked = walked-id v n i;
+        few = result-few s d e u (u .rtype) n f (step-word s d e v p);
         went = step-went s d e 1 (step-word s d e v p) (f .left) (f .limited);
       }
 
       -- no result
-      slot-none : (y : Refusal) (e : Decoder) → NoWord y e ≡ wordFrom s d → RowDenied s (readSlot g types x j (readerOf s d)) log strs log strs y e
-      slot-none y e p = record { read = result-by _ (word-refused s d e y p) (eqb j 46) refl; log-is = refl; strings-is = refl }
+      slot-none : (y : Refusal) (e : Decoder) → NoWord y e ≡ wordFrom s d → readSlot g types x j (readerOf s d) ≡ refused y (readerOf s e)
+      slot-none y e p = result-by _ (word-refused s d e y p) (eqb j 46) refl
 
-module _ (s : List ℕ) (g : Grammar) (types : List Entry) (j : ℕ) (d : Decoder) (k : Bool) (log strs : List ℕ) (u : Used) (t : Bool) (p : t ≡ isResult j) where
+module _ (s : List ℕ) (g : Grammar) (types : List Entry) (j : ℕ) (d : Decoder) (log strs : List ℕ) (u : Used) (t : Bool) (p : t ≡ isResult j) where
   -- the walk goes on with a result
-  pub walks-result : t ≡ true → Few s d u → (v : ℕ) (e : Decoder) (n : Used) → Word v e ≡ wordFrom s d → n ≡ withResult j v u
-      → SlotWalks s d (λ x. readSlot g types x j (readerOf s d)) k log strs log strs u (Good e n)
+  pub walks-result : t ≡ true → Few s d u → (v : ℕ) (e : Decoder) → Word v e ≡ wordFrom s d → (i : ℕ) → wordIs i ≡ some v → (n : Used) → n ≡ withResult j i u
+      → SlotWalks s d (λ x. readSlot g types x j (readerOf s d)) log strs log strs u (Good e n)
   unfolding SlotWalks SlotIs withResult
-  walks-result q f v e n h z log₀ strs₀ a b x w = rw z (slot-result w s g types j d (sym p ∙ q) v e h f (eqb j 46) refl)
+  walks-result q f v e h i o n z log₀ strs₀ a b x w = rw z (slot-result w s g types j d (sym p ∙ q) v i o e h f (eqb j 46) refl)
 
   -- it ends without the word of a result
   pub walks-none : t ≡ true → (y : Refusal) (e : Decoder) → NoWord y e ≡ wordFrom s d
-      → SlotWalks s d (λ x. readSlot g types x j (readerOf s d)) k log strs log strs u (Bad y e)
+      → SlotWalks s d (λ x. readSlot g types x j (readerOf s d)) log strs log strs u (Bad y e)
   unfolding SlotWalks SlotIs
   walks-none q y e h log₀ strs₀ a b x w = slot-none w s g types j d (sym p ∙ q) y e h
 
   -- it goes on with operands, or ends where they are refused
   pub walks-more : t ≡ false → (log₁ strs₁ : List ℕ) (v : Parsed)
-      → Parses s d 4 (kindAlone g types (idIs (u .rtype)) (idIs (u .selector)) j (readerOf s d)) k log strs log₁ strs₁ u v
-      → SlotWalks s d (λ x. readSlot g types x j (readerOf s d)) k log strs log₁ strs₁ u v
+      → Parses s d 4 (kindAlone g types (wordIs (u .rtype)) (wordIs (u .selector)) j (readerOf s d)) log strs log₁ strs₁ u v
+      → SlotWalks s d (λ x. readSlot g types x j (readerOf s d)) log strs log₁ strs₁ u v
   unfolding SlotWalks
   walks-more q log₁ strs₁ v h log₀ strs₀ a b x w = slot-more w s g types j d log₁ strs₁ (sym p ∙ q) v h
+
+  -- it goes on with a word, or ends where that is refused
+  pub walks-word : t ≡ false → within 31 j 35 ≡ true → (log₁ : List ℕ) (v : Parsed)
+      → ((h : Grammar) (strs₁ : List ℕ) → Parses s d 4 (readEach h (j ∷ []) (readerOf s d)) log strs₁ log₁ strs₁ u v)
+      → SlotWalks s d (λ x. readSlot g types x j (readerOf s d)) log strs log₁ strs u v
+  walks-word q i log₁ v h =
+      walks-more q log₁ strs v (same-read s d 4 _ _ log strs log₁ strs u v (kind-word g types _ _ j (readerOf s d) i) (h g strs))
 
 -- PLACES AND RESULTS
 
@@ -301,21 +322,21 @@ goes-on p q e = simp (ne-eqb q 2 e)
 
 -- nothing is in use
 pub no-use : (a b : ℕ)
-    → record { rtype = Absent; rid = Absent; selector = Absent; operands = 0; first = IdRef 0; second = IdRef 0; log = a; strings = b } ≡ unused a b
-unfolding unused usedFrom
+    → record { rtype = 0; rid = 0; selector = 0; operands = 0; first = 0; second = 0; log = a; strings = b } ≡ unused a b
+unfolding unused
 no-use a b = refl
 
-module _ (u : Used) (k v : ℕ) where
+module _ (u : Used) (k n : ℕ) where
   -- a result type
   pub type-more : k ≡ 46
-      → record { rtype = Is v; rid = u .rid; selector = u .selector; operands = u .operands; first = u .first; second = u .second; log = u .log; strings = u .strings }
-      ≡ withResult k v u
+      → record { rtype = n; rid = u .rid; selector = u .selector; operands = u .operands; first = u .first; second = u .second; log = u .log; strings = u .strings }
+      ≡ withResult k n u
   unfolding withResult withResults
   type-more e = simp (eq-eqb k 46 e)
 
   -- a result id
   pub id-more : (k ≡ 46 → ⊥)
-      → record { rtype = u .rtype; rid = Is v; selector = u .selector; operands = u .operands; first = u .first; second = u .second; log = u .log; strings = u .strings }
-      ≡ withResult k v u
+      → record { rtype = u .rtype; rid = n; selector = u .selector; operands = u .operands; first = u .first; second = u .second; log = u .log; strings = u .strings }
+      ≡ withResult k n u
   unfolding withResult withResults
   id-more e = simp (ne-eqb k 46 e)

@@ -16,7 +16,7 @@ use Rattle.spec.specs.Words.{bitsFrom, bitsOf}
 use Rattle.spec.specs.Kinds.{isMask, isEnum, mayBeParameter}
 use Rattle.spec.specs.Records.{Operand, narrow}
 use Rattle.spec.specs.Reader.{Reader, Read, got, refused, Parse, after}
-use Rattle.spec.specs.Grammar.{Grammar, Enumerant, items, itemsFrom, parametersOf, listed, bothListed, bitsListed, parametersFor}
+use Rattle.spec.specs.Grammar.{Grammar, Enumerant, grammarOf, items, itemsFrom, parametersOf, listed, bothListed, bitsListed, parametersFor}
 use Rattle.spec.specs.Match.{Known, withParameters, partsOf, readEnumerant, readEach, readOperand}
 use Rattle.decoder.specs.declared.Decoder.{Decoder}
 use Rattle.decoder.specs.Answer.{readerOf}
@@ -26,9 +26,9 @@ use Rattle.grammar.specs.Find.{placeFound, parametersFound, parametersThen, par
 use Rattle.parser.specs.declared.used.Used.{Used}
 use Rattle.parser.specs.declared.used.Parsed.{Parsed}
 use Rattle.parser.specs.declared.used.Parsed.the-variants.{Good, Bad}
-use Rattle.parser.specs.Parse.{Went, Few, Held, Accepted, Parses, MayKeep, prefix, isSingle, isPlain, KnownAs, orNone, bitParameters, parametersAre, ifSet, parametersAt}
+use Rattle.parser.specs.Parse.{Went, Few, Held, Accepted, Parses, prefix, isSingle, isPlain, KnownAs, orNone, bitParameters, parametersAre, ifSet, parametersAt}
 use Rattle.parser.proofs.One.{both, not-kind}
-use Rattle.parser.proofs.Walk.{prefix-prefix, prefix-nil, cons-prefix, each-cons, went-nowhere, went-then, held-then, held-nothing, may-tail, seq, may-first, first-done, first-bad}
+use Rattle.parser.proofs.Walk.{prefix-prefix, prefix-nil, cons-prefix, each-cons, went-nowhere, went-then, held-then, held-nothing, seq, first-done, first-bad}
 
 -- SOME KINDS, THEN OTHERS
 
@@ -64,28 +64,28 @@ same-each g ks js r e = ap (λ (l : List ℕ). readEach g l r) e
 -- THE WALK
 
 -- what a walk has done: some operands are held, and what is left is read from here
-pub record Running (s : List ℕ) (x : Read (List Operand)) (k : Bool) (log₀ strs₀ log strs : List ℕ) (c₀ : Used) (d₀ d : Decoder) (c : Used) (rest : Parse (List Operand)) : Type 0 where
+pub record Running (s : List ℕ) (x : Read (List Operand)) (log₀ strs₀ log strs : List ℕ) (c₀ : Used) (d₀ d : Decoder) (c : Used) (rest : Parse (List Operand)) : Type 0 where
   pub acc : List Operand
-  pub held : Held k log₀ strs₀ log strs c₀ c acc
+  pub held : Held log₀ strs₀ log strs c₀ c acc
   pub whole : x ≡ prefix acc (rest (readerOf s d))
   pub few : Few s d c
   pub went : Went d₀ d 0
 
 -- nothing yet
-pub begins : (s : List ℕ) (k : Bool) (log strs : List ℕ) (d : Decoder) (c : Used) (rest : Parse (List Operand)) → Few s d c
-    → Running s (rest (readerOf s d)) k log strs log strs c d d c rest
-begins s k log strs d c rest f = record {
+pub begins : (s : List ℕ) (log strs : List ℕ) (d : Decoder) (c : Used) (rest : Parse (List Operand)) → Few s d c
+    → Running s (rest (readerOf s d)) log strs log strs c d d c rest
+begins s log strs d c rest f = record {
   acc = [];
-  held = held-nothing k log strs c;
+  held = held-nothing log strs c;
   whole = sym (prefix-nil _);
   few = f;
   went = went-nowhere d;
 }
 
-module _ {s : List ℕ} {x : Read (List Operand)} {k : Bool} {log₀ strs₀ log strs : List ℕ} {c₀ : Used} {d₀ d : Decoder} {c : Used} {rest : Parse (List Operand)}
-    (r : Running s x k log₀ strs₀ log strs c₀ d₀ d c rest) where
+module _ {s : List ℕ} {x : Read (List Operand)} {log₀ strs₀ log strs : List ℕ} {c₀ : Used} {d₀ d : Decoder} {c : Used} {rest : Parse (List Operand)}
+    (r : Running s x log₀ strs₀ log strs c₀ d₀ d c rest) where
   -- nothing left
-  pub ends : rest (readerOf s d) ≡ got [] (readerOf s d) → Parses s d₀ 0 x k log₀ strs₀ log strs c₀ (Good d c)
+  pub ends : rest (readerOf s d) ≡ got [] (readerOf s d) → Parses s d₀ 0 x log₀ strs₀ log strs c₀ (Good d c)
   unfolding Parses prefix
   ends e = record {
     operands = r .acc;
@@ -96,13 +96,9 @@ module _ {s : List ℕ} {x : Read (List Operand)} {k : Bool} {log₀ strs₀ log
   }
 
   module _ (y : Read (List Operand)) (b : Parse (List Operand)) (e : rest (readerOf s d) ≡ after y (λ os q. prefix os (b q))) where
-    -- the next may be kept
-    pub may-next : MayKeep k c₀ (length log₀) (length strs₀) x → MayKeep k c (length log) (length strs) y
-    may-next m = may-first _ y b e k c (length log) (length strs) (may-tail (r .held) x _ m (r .whole))
-
     -- they are read
-    pub turn : {log₁ strs₁ : List ℕ} {m : ℕ} {f : Decoder} {n : Used} → Accepted s d m y k log strs log₁ strs₁ c f n
-        → Running s x k log₀ strs₀ log₁ strs₁ c₀ d₀ f n b
+    pub turn : {log₁ strs₁ : List ℕ} {m : ℕ} {f : Decoder} {n : Used} → Accepted s d m y log strs log₁ strs₁ c f n
+        → Running s x log₀ strs₀ log₁ strs₁ c₀ d₀ f n b
     turn {log₁} {strs₁} {m} {f} {n} t = record {
       acc = r .acc ++ t .operands;
       held = held-then (r .held) (t .held);
@@ -112,10 +108,10 @@ module _ {s : List ℕ} {x : Read (List Operand)} {k : Bool} {log₀ strs₀ log
     }
 
     -- they are refused
-    pub stops : (log₁ strs₁ : List ℕ) (m : ℕ) (v : Parsed) (z : Refusal) (f : Decoder) → MayKeep k c₀ (length log₀) (length strs₀) x
-        → Parses s d m y k log strs log₁ strs₁ c v → v ≡ Bad z f → Parses s d₀ 0 x k log₀ strs₀ log₁ strs₁ c₀ v
-    stops log₁ strs₁ m v z f may h q =
-        seq (r .held) s m log₁ strs₁ x _ (r .went) may (r .whole) v (first-bad _ y b e s d m k log strs log₁ strs₁ c v z f h q)
+    pub stops : (log₁ strs₁ : List ℕ) (m : ℕ) (v : Parsed) (z : Refusal) (f : Decoder)
+        → Parses s d m y log strs log₁ strs₁ c v → v ≡ Bad z f → Parses s d₀ 0 x log₀ strs₀ log₁ strs₁ c₀ v
+    stops log₁ strs₁ m v z f h q =
+        seq (r .held) s m log₁ strs₁ x _ (r .went) (r .whole) v (first-bad _ y b e s d m log strs log₁ strs₁ c v z f h q)
 
 -- no kinds left
 pub each-none : (g : Grammar) (ks : List ℕ) (r : Reader) → ks ≡ [] → readEach g ks r ≡ got [] r
@@ -127,9 +123,9 @@ pub each-next : (g : Grammar) (ks a b : List ℕ) (r : Reader) → ks ≡ a ++ b
 each-next g ks a b r e = same-each g ks (a ++ b) r e ∙ each-append g a b r
 
 -- no kinds at all
-pub nothing : (s : List ℕ) (g : Grammar) (k : Bool) (log strs : List ℕ) (d : Decoder) (c : Used) (rest : List ℕ) → Few s d c → rest ≡ []
-    → Parses s d 0 (readEach g rest (readerOf s d)) k log strs log strs c (Good d c)
-nothing s g k log strs d c rest f e = ends (begins s k log strs d c (readEach g rest) f) (each-none g rest (readerOf s d) e)
+pub nothing : (s : List ℕ) (g : Grammar) (log strs : List ℕ) (d : Decoder) (c : Used) (rest : List ℕ) → Few s d c → rest ≡ []
+    → Parses s d 0 (readEach g rest (readerOf s d)) log strs log strs c (Good d c)
+nothing s g log strs d c rest f e = ends (begins s log strs d c (readEach g rest) f) (each-none g rest (readerOf s d) e)
 
 -- PARAMETERS
 
@@ -191,14 +187,33 @@ doubled-more zero b = omega arith
 doubled-more (suc n) b = omega (arith, doubled-more n (2 * b))
 
 -- the lowest bit comes next
-pub doubled-next : (n b : ℕ) → 0 < n → doubled n b ≡ 4294967296 → doubled (n - 1) (2 * b) ≡ 4294967296
+doubled-next : (n b : ℕ) → 0 < n → doubled n b ≡ 4294967296 → doubled (n - 1) (2 * b) ≡ 4294967296
 unfolding doubled
 doubled-next zero b h e = absurd (omega arith)
 doubled-next (suc n) b h e = let p : suc n - 1 ≡ n = omega arith in rw p e
 
 -- it is a word
-pub doubled-small : (n b : ℕ) → 0 < n → doubled n b ≡ 4294967296 → 2 * b ≤ 4294967296
+doubled-small : (n b : ℕ) → 0 < n → doubled n b ≡ 4294967296 → 2 * b ≤ 4294967296
 doubled-small n b h e = omega (arith, doubled-more (n - 1) (2 * b), doubled-next n b h e)
+
+doubled-twice : (n b : ℕ) → doubled n (2 * b) ≡ 2 * doubled n b
+unfolding doubled
+doubled-twice zero b = refl
+doubled-twice (suc n) b = doubled-twice n (2 * b)
+
+-- something left has bits left
+left-some : (n v : ℕ) → v < doubled n 1 → (v ≡ 0 → ⊥) → 0 < n
+unfolding doubled
+left-some zero v h i = absurd (omega (arith, h, i))
+left-some (suc n) v h i = omega arith
+
+-- half of it is left for the others
+half-left : (n v : ℕ) → 0 < n → v < doubled n 1 → v / 2 < doubled (n - 1) 1
+unfolding doubled
+half-left zero v h i = absurd (omega arith)
+half-left (suc n) v h i =
+    let p : suc n - 1 ≡ n = omega arith in
+    rw p (omega (arith, i, doubled-twice n 1))
 
 set-by : (k b : ℕ) (es : List Enumerant) (more : List ℕ) (t : Bool)
     → bitParameters k es (if t then b ∷ more else more) ≡ (if t then orNone (listed k b es) else []) ++ bitParameters k es more
@@ -207,7 +222,7 @@ set-by k b es more true = refl
 set-by k b es more false = refl
 
 -- the parameters of the lowest bit, then those of the others
-pub bits-next : (k n b v : ℕ) (es : List Enumerant) → 0 < n
+bits-next : (k n b v : ℕ) (es : List Enumerant) → 0 < n
     → bitParameters k es (bitsFrom n b v) ≡ ifSet k b v es ++ bitParameters k es (bitsFrom (n - 1) (2 * b) (v / 2))
 unfolding bitsFrom ifSet
 bits-next k zero b v es h = absurd (omega arith)
@@ -215,21 +230,61 @@ bits-next k (suc n) b v es h =
     let p : suc n - 1 ≡ n = omega arith in
     rw p (set-by k b es (bitsFrom n (2 * b) (v / 2)) (eqb (v % 2) 1))
 
--- no bits left
-pub bits-none : (k n b v : ℕ) (es : List Enumerant) → n ≤ 0 → bitParameters k es (bitsFrom n b v) ≡ []
+-- nothing left of a mask has no bits
+pub bits-none : (k n b v : ℕ) (es : List Enumerant) → v ≡ 0 → bitParameters k es (bitsFrom n b v) ≡ []
 unfolding bitsFrom bitParameters
 bits-none k zero b v es h = refl
-bits-none k (suc n) b v es h = absurd (omega arith)
+bits-none k (suc n) b v es h = rw h (bits-none k n (2 * b) 0 es refl)
+
+-- what a walk over the bits of a mask has done: so many bits are left, and the lowest is worth so much
+pub record Masked (s : List ℕ) (x : Read (List Operand)) (log₀ strs₀ log strs : List ℕ) (c₀ : Used) (d₀ d : Decoder) (c : Used) (g : Grammar) (k b v : ℕ) : Type 0 where
+  pub left : ℕ
+  pub running : Running s x log₀ strs₀ log strs c₀ d₀ d c (readEach g (bitParameters k (g .enumerants) (bitsFrom left b v)))
+  pub worth : doubled left b ≡ 4294967296
+  pub small : v < doubled left 1
 
 -- all bits of a mask, from the lowest on
-pub begin-bits : (s : List ℕ) (g : Grammar) (k : Bool) (log strs : List ℕ) (d : Decoder) (c : Used) (j v : ℕ) → Few s d c
-    → Running s (readEach g (bitParameters j (g .enumerants) (bitsOf v)) (readerOf s d)) k log strs log strs c d d c (readEach g (bitParameters j (g .enumerants) (bitsFrom 32 1 v)))
-unfolding bitsOf
-begin-bits s g k log strs d c j v f = begins s k log strs d c (readEach g (bitParameters j (g .enumerants) (bitsFrom 32 1 v))) f
+pub begin-bits : (s : List ℕ) (g : Grammar) (log strs : List ℕ) (d : Decoder) (c : Used) (k v : ℕ) → Few s d c → v < 4294967296
+    → Masked s (readEach g (bitParameters k (g .enumerants) (bitsOf v)) (readerOf s d)) log strs log strs c d d c g k 1 v
+unfolding bitsOf doubled
+begin-bits s g log strs d c k v f h = record {
+  left = 32;
+  running = begins s log strs d c (readEach g (bitParameters k (g .enumerants) (bitsFrom 32 1 v))) f;
+  worth = refl;
+  small = h;
+}
 
-pub all-doubled : doubled 32 1 ≡ 4294967296
-unfolding doubled
-all-doubled = refl
+module _ {s : List ℕ} {x : Read (List Operand)} {log₀ strs₀ log strs : List ℕ} {c₀ : Used} {d₀ d : Decoder} {c : Used} {g : Grammar} {k b v : ℕ}
+    (r : Masked s x log₀ strs₀ log strs c₀ d₀ d c g k b v) (h : v ≡ 0 → ⊥) where
+  more-left : 0 < r .left
+  more-left = left-some (r .left) v (r .small) h
+
+  -- the lowest bit is a word
+  pub bit-small : 2 * b ≤ 4294967296
+  bit-small = doubled-small (r .left) b more-left (r .worth)
+
+  -- its parameters come next
+  bit-first : readEach g (bitParameters k (g .enumerants) (bitsFrom (r .left) b v)) (readerOf s d)
+      ≡ after (readEach g (ifSet k b v (g .enumerants)) (readerOf s d))
+      (λ os q. prefix os (readEach g (bitParameters k (g .enumerants) (bitsFrom (r .left - 1) (2 * b) (v / 2))) q))
+  bit-first = each-next _ _ _ _ _ (bits-next k (r .left) b v (g .enumerants) more-left)
+
+  -- they are read
+  pub bit-turn : {log₁ strs₁ : List ℕ} {m : ℕ} {f : Decoder} {n : Used}
+      → Accepted s d m (readEach g (ifSet k b v (g .enumerants)) (readerOf s d)) log strs log₁ strs₁ c f n
+      → Masked s x log₀ strs₀ log₁ strs₁ c₀ d₀ f n g k (2 * b) (v / 2)
+  bit-turn t = record {
+    left = r .left - 1;
+    running = turn (r .running) _ _ bit-first t;
+    worth = doubled-next (r .left) b more-left (r .worth);
+    small = half-left (r .left) v more-left (r .small);
+  }
+
+  -- they are refused
+  pub bit-stops : (log₁ strs₁ : List ℕ) (m : ℕ) (p : Parsed) (z : Refusal) (f : Decoder)
+      → Parses s d m (readEach g (ifSet k b v (g .enumerants)) (readerOf s d)) log strs log₁ strs₁ c p → p ≡ Bad z f
+      → Parses s d₀ 0 x log₀ strs₀ log₁ strs₁ c₀ p
+  bit-stops = stops (r .running) _ _ bit-first
 
 -- a bit that is not set has none
 pub set-none : (k b v : ℕ) (es : List Enumerant) → (v % 2 ≡ 1 → ⊥) → ifSet k b v es ≡ []
@@ -275,6 +330,12 @@ pub are-known : (k v : ℕ) (g : Grammar) (ps : List ℕ) → parametersFor k v 
 unfolding parametersFor parametersAre
 are-known k v g ps e = sym (are-by k v g ps (isMask k) e)
 
+-- and where they start, unless it is a mask
+pub place-listed : (s g : List ℕ) (k : ℕ) (d : Decoder) (v p : ℕ) (e : Decoder) → KnownAs s g k d v p e → isMask k ≡ false
+    → parametersAt g p ≡ orNone (listed k v (grammarOf g .enumerants))
+place-listed s g k d v p e h m =
+    h .place m ∙ are-known k v (grammarOf g) (h .parameters) (h .listed) ∙ are-listed k v (grammarOf g) (isMask k) refl m
+
 -- OPERANDS
 
 module _ (s : List ℕ) (g : Grammar) (k : ℕ) (d : Decoder) (t : Bool) (p : t ≡ isEnum k) where
@@ -286,13 +347,6 @@ module _ (s : List ℕ) (g : Grammar) (k : ℕ) (d : Decoder) (t : Bool) (p : t 
   pub operand-bad : t ≡ true → (x : Refusal) (e : Decoder) → readEnumerant g k (readerOf s d) ≡ refused x (readerOf s e)
       → readOperand g k (readerOf s d) ≡ refused x (readerOf s e)
   operand-bad q x e h = operand-by q _ h
-
-  -- an enumerant, then its parameters
-  pub operand-known : t ≡ true → (w : ℕ) (e : Decoder) → KnownAs s g k d w e
-      → readOperand g k (readerOf s d) ≡ prefix (narrow k w ∷ []) (readEach g (parametersAre k w g) (readerOf s e))
-  operand-known q w e h =
-      operand-by q _ (h .read) ∙ cons-prefix (narrow k w) (readEach g (h .parameters) (readerOf s e))
-      ∙ ap (λ (ps : List ℕ). prefix (narrow k w ∷ []) (readEach g ps (readerOf s e))) (are-known k w g (h .parameters) (h .listed))
 
   module _ (q : t ≡ false) where
     parts-are : readOperand g k (readerOf s d) ≡ readEach g (partsOf k) (readerOf s d)
@@ -310,6 +364,13 @@ module _ (s : List ℕ) (g : Grammar) (k : ℕ) (d : Decoder) (t : Bool) (p : t 
     -- one record
     pub single : (k ≡ 50 → ⊥) → (k ≡ 51 → ⊥) → readOperand g k (readerOf s d) ≡ readEach g (k ∷ []) (readerOf s d)
     single h i = parts-are ∙ simp (ne-eqb k 50 h, ne-eqb k 51 i)
+
+-- an enumerant, then its parameters
+pub operand-known : (s g : List ℕ) (k : ℕ) (d : Decoder) (t : Bool) → t ≡ isEnum k → t ≡ true → (w p : ℕ) (e : Decoder) → KnownAs s g k d w p e
+    → readOperand (grammarOf g) k (readerOf s d) ≡ prefix (narrow k w ∷ []) (readEach (grammarOf g) (parametersAre k w (grammarOf g)) (readerOf s e))
+operand-known s g k d t b q w p e h =
+    operand-by s (grammarOf g) k d t b q _ (h .read) ∙ cons-prefix (narrow k w) (readEach (grammarOf g) (h .parameters) (readerOf s e))
+    ∙ ap (λ (ps : List ℕ). prefix (narrow k w ∷ []) (readEach (grammarOf g) ps (readerOf s e))) (are-known k w (grammarOf g) (h .parameters) (h .listed))
 
 plain-by : (k : ℕ) (a b : Bool) → within 50 k 51 ≡ b → (k ≡ 50 → ⊥) → (k ≡ 51 → ⊥) → (a || b) ≡ true → a ≡ true
 plain-by k true b e h i o = refl

@@ -1,21 +1,25 @@
 -- What one instruction comes to: the answer and the stores after it, by the reader of `spec`.
 use Prim.Native.Nat.{ℕ, _+_, _*_, _≤_}
 use mathlib.Core.Path.{_≡_}
-use mathlib.Core.Bool.{Bool, true, false}
+use mathlib.Core.Bool.{true}
 use mathlib.Core.List.{List}
 use lib.ListN.{length}
 use Rattle.spec.specs.declared.Limit.the-variants.{Unlimited}
 use Rattle.spec.specs.declared.Refusal.{Refusal}
-use Rattle.spec.specs.Records.{Instr, operandsLog, operandsStrings}
+use Rattle.spec.specs.Base.{every}
+use Rattle.spec.specs.Records.{Instr, Entry, operandsLog, operandsStrings}
+use Rattle.spec.specs.Grammar.{grammarOf}
 use Rattle.spec.specs.Reader.{Reader, Read, got, refused, readerAt}
-use Rattle.operand.specs.Log.{kept}
+use Rattle.operand.specs.Log.{Laid}
 use Rattle.tracker.specs.Track.{idIs, literalOf, Literals}
+use Rattle.parser.specs.Parse.{isOperand, slotsAt}
+use Rattle.parser.specs.Body.{bodyRead}
 use Rattle.parser.specs.declared.inst.Decoded.{Decoded}
 use Rattle.parser.specs.declared.inst.InstRead.{InstRead}
 use Rattle.parser.specs.declared.inst.InstRead.the-variants.{Got, Refused}
 
--- an instruction was read: what is handed on says it, and its operands' records are what was added to log and strings
-pub record Handed (s : List ℕ) (at : ℕ) (x : Read Instr) (k : Bool) (log₀ strs₀ log strs : List ℕ) (a b : ℕ) (r : Decoded) : Type 0 where
+-- an instruction was read: what is handed on says it, and its operands' records are what was added to log and strings where they fit
+pub record Handed (s : List ℕ) (at : ℕ) (x : Read Instr) (log₀ strs₀ log strs : List ℕ) (a b : ℕ) (r : Decoded) : Type 0 where
   pub instr : Instr
   pub read : x ≡ got instr (readerAt s (at + 4 * r .words) Unlimited)
   pub inside : at + 4 * r .words ≤ length s
@@ -32,23 +36,31 @@ pub record Handed (s : List ℕ) (at : ℕ) (x : Read Instr) (k : Bool) (log₀ 
   pub nstrings : r .strings ≡ b + length (operandsStrings (instr .operands))
   pub few-log : 4 * r .log ≤ 9 * (at + 4 * r .words)
   pub few-strings : r .strings ≤ at + 4 * r .words
-  pub log-is : log ≡ kept k log₀ a (operandsLog b (instr .operands))
-  pub strings-is : strs ≡ kept k strs₀ b (operandsStrings (instr .operands))
+  pub log-laid : Laid log₀ a (operandsLog b (instr .operands)) log
+  pub strings-laid : Laid strs₀ b (operandsStrings (instr .operands)) strs
 
--- it was refused, and the stores are as they were
-pub record Declined (x : Read Instr) (log₀ strs₀ log strs : List ℕ) (y : Refusal) : Type 0 where
+-- it was refused
+pub record Declined (x : Read Instr) (y : Refusal) : Type 0 where
   pub rest : Reader
   pub read : x ≡ refused y rest
-  pub log-is : log ≡ log₀
-  pub strings-is : strs ≡ strs₀
 
--- the answer and the stores after the read x of the instruction at a place
-unfoldable pub Decodes : List ℕ → ℕ → Read Instr → Bool → List ℕ → List ℕ → List ℕ → List ℕ → ℕ → ℕ → InstRead → Type 0
-Decodes s at x k log₀ strs₀ log strs a b (Got r) = Handed s at x k log₀ strs₀ log strs a b r
-Decodes s at x k log₀ strs₀ log strs a b (Refused y) = Declined x log₀ strs₀ log strs y
+-- the answer to the read x of the instruction at a place, and the stores after it where it is good
+unfoldable pub Decodes : List ℕ → ℕ → Read Instr → List ℕ → List ℕ → List ℕ → List ℕ → ℕ → ℕ → InstRead → Type 0
+Decodes s at x log₀ strs₀ log strs a b (Got r) = Handed s at x log₀ strs₀ log strs a b r
+Decodes s at x log₀ strs₀ log strs a b (Refused y) = Declined x y
 
--- a run that keeps is one whose records are known to fit
-unfoldable pub MayKeepInst : Bool → ℕ → ℕ → ℕ → ℕ → Read Instr → Type 0
-MayKeepInst false a b n m x = Unit
-MayKeepInst true a b n m (refused y r) = ⊥
-MayKeepInst true a b n m (got i r) = (a + length (operandsLog b (i .operands)) ≤ n) × (b + length (operandsStrings (i .operands)) ≤ m)
+-- an instruction that was read has these words, this opcode, and its row's operands from this place of the grammar on
+unfoldable pub ShapeIs : ℕ → ℕ → ℕ → InstRead → Type 0
+ShapeIs words op place (Got r) = (r .words ≡ words) × (r .opcode ≡ op) × (r .place ≡ place)
+ShapeIs words op place (Refused y) = Unit
+
+-- an instruction was read, by a row whose operands start at a place of the grammar
+pub record ByRow (g : List ℕ) (types : List Entry) (s : List ℕ) (at : ℕ) (x : Read Instr) (r : Decoded) : Type 0 where
+  pub inside : r .place ≤ length g
+  pub operands : every isOperand (slotsAt g (r .place)) ≡ true
+  pub body : x ≡ bodyRead (grammarOf g) types at (r .words) (r .opcode) (slotsAt g (r .place)) (readerAt s (at + 4) Unlimited)
+
+-- the row of an instruction that was read
+unfoldable pub RowIs : List ℕ → List Entry → List ℕ → ℕ → Read Instr → InstRead → Type 0
+RowIs g types s at x (Got r) = ByRow g types s at x r
+RowIs g types s at x (Refused y) = Unit

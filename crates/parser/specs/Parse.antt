@@ -1,30 +1,26 @@
--- The parser's answers and stores, as what the reader of `spec` comes to.
+-- The parser's answers, and the stores after those that are good, as what the reader of `spec` comes to.
 use Prim.Native.Nat.{ℕ, _+_, _*_, _-_, _%_, _≤_}
 use mathlib.Core.Path.{_≡_}
-use mathlib.Core.Bool.{Bool, true, false, _&&_, _||_}
+use mathlib.Core.Bool.{Bool, false, _&&_, _||_}
 use mathlib.Core.List.{List, [], _∷_, _++_}
 use mathlib.Core.Option.{Option, none, some}
-use lib.Dec.{eqb}
+use lib.Dec.{eqb, ltb}
 use lib.ListN.{length, drop}
 use Rattle.spec.specs.declared.Limit.{Limit}
 use Rattle.spec.specs.declared.Limit.the-variants.{Unlimited, Words}
-use Rattle.spec.specs.declared.Refusal.{Refusal}
 use Rattle.spec.specs.Base.{if_then_else_, within, isIn}
 use Rattle.spec.specs.Words.{bitsOf}
 use Rattle.spec.specs.Kinds.{isMask, isResult, mayBeOperand, mayBeParameter, mayEmbed}
-use Rattle.spec.specs.Grammar.{Grammar, Enumerant, Slot, slot, listed, parametersFor, parametersOf, slotsOf, items}
+use Rattle.spec.specs.Grammar.{Grammar, Enumerant, Slot, slot, grammarOf, listed, parametersFor, parametersOf, slotsOf, items}
 use Rattle.spec.specs.Records.{narrow, operandsLog, operandsStrings, Entry}
 use Rattle.spec.specs.Records as records
 use Rattle.spec.specs.Reader.{Read, got, refused, Parse, _>>=_, _into_, give, readWord}
 use Rattle.spec.specs.Types.{literalInt}
 use Rattle.spec.specs.Match.{Seen, selector, known, readEnumerant, readLiteral, readOperand, readEmbedded}
-use Rattle.operand.specs.declared.Operand.{Operand}
 use Rattle.operand.specs.Parts.{parts}
-use Rattle.operand.specs.Log.{recordLength, kept}
+use Rattle.operand.specs.Log.{recordLength, Laid}
 use Rattle.decoder.specs.declared.Decoder.{Decoder}
 use Rattle.decoder.specs.Answer.{readerOf}
-use Rattle.tracker.specs.declared.Id.{Id}
-use Rattle.tracker.specs.Track.{idIs, literalOf}
 use Rattle.parser.specs.declared.used.Used.{Used}
 use Rattle.parser.specs.declared.used.Parsed.{Parsed}
 use Rattle.parser.specs.declared.used.Parsed.the-variants.{Good, Bad}
@@ -40,9 +36,13 @@ pub record Notes : Type 0 where
   pub second : Option ℕ
   pub id : Option ℕ
 
+-- what may be missing is 2^32 and a word where it is there
+unfoldable pub wordIs : ℕ → Option ℕ
+wordIs n = if ltb n 4294967296 then none else some (n % 4294967296)
+
 -- the notes of what is in use
 unfoldable pub notesOf : Used → Notes
-notesOf u = record { count = u .operands; first = literalOf (u .first); second = literalOf (u .second); id = idIs (u .selector) }
+notesOf u = record { count = u .operands; first = wordIs (u .first); second = wordIs (u .second); id = wordIs (u .selector) }
 
 -- the notes with one operand more, of which the literal number and the id are known
 unfoldable pub noteAs : Option ℕ → Option ℕ → Notes → Notes
@@ -66,12 +66,12 @@ notes (o ∷ os) n = notes os (note o n)
 -- ONE RECORD MORE
 
 -- the same results and strings, one operand more, and the log up to a place
-pub record Noted (u : Used) (o : Operand) (i : Id) (log : ℕ) (r : Used) : Type 0 where
+pub record Noted (u : Used) (a i log : ℕ) (r : Used) : Type 0 where
   pub rtype : r .rtype ≡ u .rtype
   pub rid : r .rid ≡ u .rid
   pub strings : r .strings ≡ u .strings
   pub log-is : r .log ≡ log
-  pub noted : notesOf r ≡ noteAs (literalOf o) (idIs i) (notesOf u)
+  pub noted : notesOf r ≡ noteAs (wordIs a) (wordIs i) (notesOf u)
 
 -- the value where the kind is that one
 unfoldable pub valueIf : ℕ → ℕ → ℕ → Option ℕ
@@ -121,44 +121,28 @@ pub record Few (s : List ℕ) (d : Decoder) (u : Used) : Type 0 where
   pub strings : u .strings ≤ d .offset
   pub log : 4 * u .log ≤ 9 * d .offset
 
--- operands are what was added to the stores and to what is in use
-pub record Held (k : Bool) (log₀ strs₀ log strs : List ℕ) (u n : Used) (os : List records.Operand) : Type 0 where
+-- operands are what was added to what is in use and, where they fit, to the stores
+pub record Held (log₀ strs₀ log strs : List ℕ) (u n : Used) (os : List records.Operand) : Type 0 where
   pub rtype : n .rtype ≡ u .rtype
   pub rid : n .rid ≡ u .rid
   pub nlog : n .log ≡ u .log + length (operandsLog (u .strings) os)
   pub nstrings : n .strings ≡ u .strings + length (operandsStrings os)
   pub noted : notesOf n ≡ notes os (notesOf u)
-  pub log-is : log ≡ kept k log₀ (u .log) (operandsLog (u .strings) os)
-  pub strings-is : strs ≡ kept k strs₀ (u .strings) (operandsStrings os)
+  pub log-laid : Laid log₀ (u .log) (operandsLog (u .strings) os) log
+  pub strings-laid : Laid strs₀ (u .strings) (operandsStrings os) strs
 
 -- operands were read, and they are held
-pub record Accepted (s : List ℕ) (d : Decoder) (m : ℕ) (x : Read (List records.Operand)) (k : Bool) (log₀ strs₀ log strs : List ℕ) (u : Used) (e : Decoder) (n : Used) : Type 0 where
+pub record Accepted (s : List ℕ) (d : Decoder) (m : ℕ) (x : Read (List records.Operand)) (log₀ strs₀ log strs : List ℕ) (u : Used) (e : Decoder) (n : Used) : Type 0 where
   pub operands : List records.Operand
   pub read : x ≡ got operands (readerOf s e)
-  pub held : Held k log₀ strs₀ log strs u n operands
+  pub held : Held log₀ strs₀ log strs u n operands
   pub few : Few s e n
   pub went : Went d e m
 
--- they were refused, and the stores are as they were
-pub record Denied (s : List ℕ) (x : Read (List records.Operand)) (log₀ strs₀ log strs : List ℕ) (y : Refusal) (e : Decoder) : Type 0 where
-  pub read : x ≡ refused y (readerOf s e)
-  pub log-is : log ≡ log₀
-  pub strings-is : strs ≡ strs₀
-
--- the answer and the stores after a read that comes to x, so many bytes on or more
-unfoldable pub Parses : List ℕ → Decoder → ℕ → Read (List records.Operand) → Bool → List ℕ → List ℕ → List ℕ → List ℕ → Used → Parsed → Type 0
-Parses s d m x k log₀ strs₀ log strs u (Good e n) = Accepted s d m x k log₀ strs₀ log strs u e n
-Parses s d m x k log₀ strs₀ log strs u (Bad y e) = Denied s x log₀ strs₀ log strs y e
-
--- the records of operands fit the stores
-unfoldable pub Fit : Used → ℕ → ℕ → List records.Operand → Type 0
-Fit u n m os = (u .log + length (operandsLog (u .strings) os) ≤ n) × (u .strings + length (operandsStrings os) ≤ m)
-
--- a run that keeps is one whose records are known to fit
-unfoldable pub MayKeep : Bool → Used → ℕ → ℕ → Read (List records.Operand) → Type 0
-MayKeep false u n m x = Unit
-MayKeep true u n m (refused y r) = ⊥
-MayKeep true u n m (got os r) = Fit u n m os
+-- the answer to a read that comes to x, so many bytes on or more, and the stores after it where it is good
+unfoldable pub Parses : List ℕ → Decoder → ℕ → Read (List records.Operand) → List ℕ → List ℕ → List ℕ → List ℕ → Used → Parsed → Type 0
+Parses s d m x log₀ strs₀ log strs u (Good e n) = Accepted s d m x log₀ strs₀ log strs u e n
+Parses s d m x log₀ strs₀ log strs u (Bad y e) = x ≡ refused y (readerOf s e)
 
 -- operands before those of the rest
 unfoldable pub prefix : List records.Operand → Read (List records.Operand) → Read (List records.Operand)
@@ -181,17 +165,23 @@ isOperand (slot k q) = mayBeOperand k
 
 -- ENUMERANTS
 
--- a value that is known, with its parameters' kinds
-pub record KnownAs (s : List ℕ) (g : Grammar) (k : ℕ) (d : Decoder) (v : ℕ) (e : Decoder) : Type 0 where
+-- the parameters from a place on
+unfoldable pub parametersAt : List ℕ → ℕ → List ℕ
+parametersAt g p = parametersOf (items (drop p g))
+
+-- a value that is known, with its parameters' kinds, which start at a place of the grammar unless it is a mask
+pub record KnownAs (s g : List ℕ) (k : ℕ) (d : Decoder) (v p : ℕ) (e : Decoder) : Type 0 where
   pub parameters : List ℕ
-  pub listed : parametersFor k v g ≡ some parameters
-  pub read : readEnumerant g k (readerOf s d) ≡ got (known v parameters) (readerOf s e)
+  pub listed : parametersFor k v (grammarOf g) ≡ some parameters
+  pub read : readEnumerant (grammarOf g) k (readerOf s d) ≡ got (known v parameters) (readerOf s e)
   pub step : Step s d e 1
+  pub inside : p ≤ length g
+  pub place : isMask k ≡ false → parametersAt g p ≡ parameters
 
 -- what the read of an enumerant answers
-unfoldable pub EnumIs : List ℕ → Grammar → ℕ → Decoder → EnumRead → Type 0
-EnumIs s g k d (KnownAt v e) = KnownAs s g k d v e
-EnumIs s g k d (Unread y e) = readEnumerant g k (readerOf s d) ≡ refused y (readerOf s e)
+unfoldable pub EnumIs : List ℕ → List ℕ → ℕ → Decoder → EnumRead → Type 0
+EnumIs s g k d (KnownAt v p e) = KnownAs s g k d v p e
+EnumIs s g k d (Unread y e) = readEnumerant (grammarOf g) k (readerOf s d) ≡ refused y (readerOf s e)
 
 -- the parameters that are listed, or none
 unfoldable pub orNone : Option (List ℕ) → List ℕ
@@ -210,10 +200,6 @@ parametersAre k v g = if isMask k then bitParameters k (g .enumerants) (bitsOf v
 -- the parameters of a bit that is set
 unfoldable pub ifSet : ℕ → ℕ → ℕ → List Enumerant → List ℕ
 ifSet k b v es = if eqb (v % 2) 1 then orNone (listed k b es) else []
-
--- the parameters from a place on
-unfoldable pub parametersAt : List ℕ → ℕ → List ℕ
-parametersAt g p = parametersOf (items (drop p g))
 
 -- LITERALS BY TYPE
 
@@ -264,37 +250,25 @@ kindAlone g types t i k =
 unfoldable pub noNotes : Notes
 noNotes = record { count = 0; first = none; second = none; id = none }
 
--- what was seen of a row is what was added to the stores, from these places on, and to what is in use
-pub record Walked (k : Bool) (log₀ strs₀ log strs : List ℕ) (a b : ℕ) (n : Used) (x : Seen) : Type 0 where
-  pub rtype : idIs (n .rtype) ≡ x .resultType
-  pub rid : idIs (n .rid) ≡ x .resultId
+-- what was seen of a row is what was added, from these places on, to what is in use and, where it fits, to the stores
+pub record Walked (log₀ strs₀ log strs : List ℕ) (a b : ℕ) (n : Used) (x : Seen) : Type 0 where
+  pub rtype : wordIs (n .rtype) ≡ x .resultType
+  pub rid : wordIs (n .rid) ≡ x .resultId
   pub nlog : n .log ≡ a + length (operandsLog b (x .operands))
   pub nstrings : n .strings ≡ b + length (operandsStrings (x .operands))
   pub noted : notesOf n ≡ notes (x .operands) noNotes
-  pub log-is : log ≡ kept k log₀ a (operandsLog b (x .operands))
-  pub strings-is : strs ≡ kept k strs₀ b (operandsStrings (x .operands))
+  pub log-laid : Laid log₀ a (operandsLog b (x .operands)) log
+  pub strings-laid : Laid strs₀ b (operandsStrings (x .operands)) strs
 
 -- a row was read to its end
-pub record RowRead (s : List ℕ) (d : Decoder) (x : Read Seen) (k : Bool) (log₀ strs₀ log strs : List ℕ) (a b : ℕ) (e : Decoder) (n : Used) : Type 0 where
+pub record RowRead (s : List ℕ) (d : Decoder) (x : Read Seen) (log₀ strs₀ log strs : List ℕ) (a b : ℕ) (e : Decoder) (n : Used) : Type 0 where
   pub seen : Seen
   pub read : x ≡ got seen (readerOf s e)
-  pub walked : Walked k log₀ strs₀ log strs a b n seen
+  pub walked : Walked log₀ strs₀ log strs a b n seen
   pub few : Few s e n
   pub went : Went d e 0
 
--- it was refused, and the stores are as they were
-pub record RowDenied (s : List ℕ) (x : Read Seen) (log₀ strs₀ log strs : List ℕ) (y : Refusal) (e : Decoder) : Type 0 where
-  pub read : x ≡ refused y (readerOf s e)
-  pub log-is : log ≡ log₀
-  pub strings-is : strs ≡ strs₀
-
--- the answer and the stores after the walk of a row that comes to x
-unfoldable pub Walks : List ℕ → Decoder → Read Seen → Bool → List ℕ → List ℕ → List ℕ → List ℕ → ℕ → ℕ → Parsed → Type 0
-Walks s d x k log₀ strs₀ log strs a b (Good e n) = RowRead s d x k log₀ strs₀ log strs a b e n
-Walks s d x k log₀ strs₀ log strs a b (Bad y e) = RowDenied s x log₀ strs₀ log strs y e
-
--- a walk that keeps is one whose records are known to fit
-unfoldable pub MayKeepRow : Bool → ℕ → ℕ → ℕ → ℕ → Read Seen → Type 0
-MayKeepRow false a b n m x = Unit
-MayKeepRow true a b n m (refused y r) = ⊥
-MayKeepRow true a b n m (got x r) = (a + length (operandsLog b (x .operands)) ≤ n) × (b + length (operandsStrings (x .operands)) ≤ m)
+-- the answer to the walk of a row that comes to x, and the stores after it where it is good
+unfoldable pub Walks : List ℕ → Decoder → Read Seen → List ℕ → List ℕ → List ℕ → List ℕ → ℕ → ℕ → Parsed → Type 0
+Walks s d x log₀ strs₀ log strs a b (Good e n) = RowRead s d x log₀ strs₀ log strs a b e n
+Walks s d x log₀ strs₀ log strs a b (Bad y e) = x ≡ refused y (readerOf s e)

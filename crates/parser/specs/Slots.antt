@@ -1,32 +1,24 @@
 -- One operand of a row: what the walk of the row comes to with it.
 use Prim.Native.Nat.{ℕ}
 use mathlib.Core.Path.{_≡_}
-use mathlib.Core.Bool.{Bool}
 use mathlib.Core.List.{List}
 use lib.Dec.{eqb}
 use Rattle.spec.specs.Base.{if_then_else_}
-use Rattle.spec.specs.Reader.{Read, got}
+use Rattle.spec.specs.Reader.{Read, got, refused}
 use Rattle.spec.specs.Match.{Seen}
-use Rattle.operand.specs.declared.Operand.the-variants.{IdRef}
 use Rattle.decoder.specs.declared.Decoder.{Decoder}
 use Rattle.decoder.specs.Answer.{readerOf}
-use Rattle.tracker.specs.declared.Id.{Id}
-use Rattle.tracker.specs.declared.Id.the-variants.{Absent, Is}
 use Rattle.parser.specs.declared.used.Used.{Used}
 use Rattle.parser.specs.declared.used.Parsed.{Parsed}
 use Rattle.parser.specs.declared.used.Parsed.the-variants.{Good, Bad}
-use Rattle.parser.specs.Parse.{Went, Few, Walked, RowDenied}
+use Rattle.parser.specs.Parse.{Went, Few, Walked}
 
--- what is in use with these results and no operand, from these places on
-unfoldable pub usedFrom : Id → Id → ℕ → ℕ → Used
-usedFrom t i a b = record { rtype = t; rid = i; selector = Absent; operands = 0; first = IdRef 0; second = IdRef 0; log = a; strings = b }
-
--- what is in use before the first operand
+-- what is in use before the first operand, from these places on
 unfoldable pub unused : ℕ → ℕ → Used
-unused a b = usedFrom Absent Absent a b
+unused a b = record { rtype = 0; rid = 0; selector = 0; operands = 0; first = 0; second = 0; log = a; strings = b }
 
 -- the same operands with other results
-unfoldable pub withResults : Id → Id → Used → Used
+unfoldable pub withResults : ℕ → ℕ → Used → Used
 withResults t i u =
     record {
       rtype = t;
@@ -41,23 +33,22 @@ withResults t i u =
 
 -- a result more: the result type for 46, else the result id
 unfoldable pub withResult : ℕ → ℕ → Used → Used
-withResult k w u = if eqb k 46 then withResults (Is w) (u .rid) u else withResults (u .rtype) (Is w) u
+withResult k n u = if eqb k 46 then withResults n (u .rid) u else withResults (u .rtype) n u
 
 -- an operand of a row was read, a word or more, and it is part of what was seen
-pub record SlotRead (s : List ℕ) (d : Decoder) (x : Read Seen) (k : Bool) (log₀ strs₀ log strs : List ℕ) (a b : ℕ) (e : Decoder) (n : Used) : Type 0 where
+pub record SlotRead (s : List ℕ) (d : Decoder) (x : Read Seen) (log₀ strs₀ log strs : List ℕ) (a b : ℕ) (e : Decoder) (n : Used) : Type 0 where
   pub seen : Seen
   pub read : x ≡ got seen (readerOf s e)
-  pub walked : Walked k log₀ strs₀ log strs a b n seen
+  pub walked : Walked log₀ strs₀ log strs a b n seen
   pub few : Few s e n
   pub went : Went d e 4
 
--- the answer and the stores after the read x of an operand; a refusal leaves the stores as the operands before it left them
-unfoldable pub SlotIs : List ℕ → Decoder → Read Seen → Bool → List ℕ → List ℕ → List ℕ → List ℕ → List ℕ → List ℕ → ℕ → ℕ → Parsed → Type 0
-SlotIs s d x k log₀ strs₀ log strs log₁ strs₁ a b (Good e n) = SlotRead s d x k log₀ strs₀ log₁ strs₁ a b e n
-SlotIs s d x k log₀ strs₀ log strs log₁ strs₁ a b (Bad y e) = RowDenied s x log strs log₁ strs₁ y e
+-- the answer to the read x of an operand, and the stores after it where it is good
+unfoldable pub SlotIs : List ℕ → Decoder → Read Seen → List ℕ → List ℕ → List ℕ → List ℕ → ℕ → ℕ → Parsed → Type 0
+SlotIs s d x log₀ strs₀ log₁ strs₁ a b (Good e n) = SlotRead s d x log₀ strs₀ log₁ strs₁ a b e n
+SlotIs s d x log₀ strs₀ log₁ strs₁ a b (Bad y e) = x ≡ refused y (readerOf s e)
 
 -- the same, whatever the walk has seen so far
-unfoldable pub SlotWalks : List ℕ → Decoder → (Seen → Read Seen) → Bool → List ℕ → List ℕ → List ℕ → List ℕ → Used → Parsed → Type 0
-SlotWalks s d f k log strs log₁ strs₁ u v =
-    (log₀ strs₀ : List ℕ) (a b : ℕ) (x : Seen) → Walked k log₀ strs₀ log strs a b u x
-    → SlotIs s d (f x) k log₀ strs₀ log strs log₁ strs₁ a b v
+unfoldable pub SlotWalks : List ℕ → Decoder → (Seen → Read Seen) → List ℕ → List ℕ → List ℕ → List ℕ → Used → Parsed → Type 0
+SlotWalks s d f log strs log₁ strs₁ u v =
+    (log₀ strs₀ : List ℕ) (a b : ℕ) (x : Seen) → Walked log₀ strs₀ log strs a b u x → SlotIs s d (f x) log₀ strs₀ log₁ strs₁ a b v

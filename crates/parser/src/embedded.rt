@@ -8,7 +8,7 @@ ghost use Rattle.spec.specs.Grammar.{grammarOf};
 ghost use Rattle.spec.specs.Match.{embeds, readOnce, readEmbedded};
 ghost use Rattle.decoder.specs.Answer.{readerOf};
 ghost use Rattle.grammar.specs.Index.{Indexed};
-ghost use Rattle.parser.specs.Parse.{Few, MayKeep, Parses, isOperand, isInner, onceAlone, slotsAt};
+ghost use Rattle.parser.specs.Parse.{Few, Parses, isOperand, isInner, onceAlone, slotsAt};
 use crate::operands::parse_operand;
 use crate::used::Parsed;
 use crate::used::Used;
@@ -48,17 +48,15 @@ fn parse_inner(
     log: &mut [u8],
     strings: &mut [u8],
     u: Used,
-    keep: bool,
 ) -> Parsed
     requires { ⌜ Indexed (now g) (now index) ⌝ }
     requires { ⌜ Few (now s) d u × (isInner kind ≡ true) ⌝ }
-    requires { ⌜ MayKeep keep u (length (now log)) (length (now strings)) (onceAlone (grammarOf (now g)) kind (readerOf (now s) d)) ⌝ }
-    ensures { λ r. ⌜ Parses (now (s .entry)) d 0 (onceAlone (grammarOf (now (g .entry))) kind (readerOf (now (s .entry)) d)) keep (now (log .entry)) (now (strings .entry)) (now (log .exit)) (now (strings .exit)) u r ⌝ }
+    ensures { λ r. ⌜ Parses (now (s .entry)) d 0 (onceAlone (grammarOf (now (g .entry))) kind (readerOf (now (s .entry)) d)) (now (log .entry)) (now (strings .entry)) (now (log .exit)) (now (strings .exit)) u r ⌝ }
 {
     if grammar::is_result(kind) {
         return Parsed::Good(d, u);
     }
-    parse_operand(d, s, g, index, kind, log, strings, u, keep)
+    parse_operand(d, s, g, index, kind, log, strings, u)
 }
 
 // The operands of the row that starts at a place, each but the results read exactly once.
@@ -71,12 +69,10 @@ fn parse_once(
     log: &mut [u8],
     strings: &mut [u8],
     used: Used,
-    keep: bool,
 ) -> Parsed
     requires { ⌜ Indexed (now g) (now index) ⌝ }
     requires { ⌜ Few (now s) start used × (place ≤ length (now g)) × (every isOperand (slotsAt (now g) place) ≡ true) × (every embeds (slotsAt (now g) place) ≡ true) ⌝ }
-    requires { ⌜ MayKeep keep used (length (now log)) (length (now strings)) (readOnce (grammarOf (now g)) (slotsAt (now g) place) (readerOf (now s) start)) ⌝ }
-    ensures { λ r. ⌜ Parses (now (s .entry)) start 0 (readOnce (grammarOf (now (g .entry))) (slotsAt (now (g .entry)) place) (readerOf (now (s .entry)) start)) keep (now (log .entry)) (now (strings .entry)) (now (log .exit)) (now (strings .exit)) used r ⌝ }
+    ensures { λ r. ⌜ Parses (now (s .entry)) start 0 (readOnce (grammarOf (now (g .entry))) (slotsAt (now (g .entry)) place) (readerOf (now (s .entry)) start)) (now (log .entry)) (now (strings .entry)) (now (log .exit)) (now (strings .exit)) used r ⌝ }
 {
     let mut d = start;
     let mut u = used;
@@ -86,7 +82,7 @@ fn parse_once(
         let SlotAt::Slot(kind, _) = x else {
             return Parsed::Good(d, u);
         };
-        let r = parse_inner(d, s, g, index, kind, log, strings, u, keep);
+        let r = parse_inner(d, s, g, index, kind, log, strings, u);
         let Parsed::Good(e, n) = r else {
             return r;
         };
@@ -106,12 +102,10 @@ pub fn parse_spec_constant_op(
     log: &mut [u8],
     strings: &mut [u8],
     u: Used,
-    keep: bool,
 ) -> Parsed
     requires { ⌜ Indexed (now g) (now index) ⌝ }
     requires { ⌜ Few (now s) d u ⌝ }
-    requires { ⌜ MayKeep keep u (length (now log)) (length (now strings)) (readEmbedded (grammarOf (now g)) (readerOf (now s) d)) ⌝ }
-    ensures { λ r. ⌜ Parses (now (s .entry)) d 4 (readEmbedded (grammarOf (now (g .entry))) (readerOf (now (s .entry)) d)) keep (now (log .entry)) (now (strings .entry)) (now (log .exit)) (now (strings .exit)) u r ⌝ }
+    ensures { λ r. ⌜ Parses (now (s .entry)) d 4 (readEmbedded (grammarOf (now (g .entry))) (readerOf (now (s .entry)) d)) (now (log .entry)) (now (strings .entry)) (now (log .exit)) (now (strings .exit)) u r ⌝ }
 {
     let w = d.word(s);
     match w {
@@ -125,8 +119,8 @@ pub fn parse_spec_constant_op(
             if !may_embed(g, p) {
                 return bad(14, e.offset, e);
             }
-            let n = push(log, 39, opcode as u64, u, keep);
-            parse_once(e, s, g, index, p, log, strings, n, keep)
+            let n = push(log, 39, opcode as u64, u);
+            parse_once(e, s, g, index, p, log, strings, n)
         }
     }
 }

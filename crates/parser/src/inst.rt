@@ -10,11 +10,14 @@ ghost use Rattle.spec.specs.Grammar.{grammarOf};
 ghost use Rattle.spec.specs.Match.{readInstr};
 ghost use Rattle.grammar.specs.Index.{Indexed};
 ghost use Rattle.tracker.specs.Entries.{entriesOf};
+ghost use Rattle.tracker.specs.Hints.{Hinted};
 ghost use Rattle.parser.specs.Parse.{isOperand, slotsAt};
-ghost use Rattle.parser.specs.Inst.{Decodes, MayKeepInst};
+ghost use Rattle.parser.specs.Inst.{Decodes, ShapeIs, RowIs};
 ghost use Rattle.parser.specs.Body.{bodyRead};
 use crate::rows::parse_operands;
 use crate::used::Parsed;
+use crate::used::id_of;
+use crate::used::literal_of;
 use decoder::Decoder;
 use decoder::WordRead;
 use operand::Operand;
@@ -24,11 +27,12 @@ use spec::Refusal;
 use tracker::Id;
 use tracker::TypeTracker;
 
-// An instruction that was read: its opcode, results and word count, how many operands, the first two, and where log and strings go on
+// An instruction that was read: its opcode, results and word count, where its row's operands start, how many operands, the first two, and where log and strings go on
 // after its records.
 pub struct Decoded {
     pub opcode: u16,
     pub words: u16,
+    pub place: usize,
     pub rtype: Id,
     pub rid: Id,
     pub operands: usize,
@@ -58,12 +62,13 @@ fn no_inst(number: u32, place: usize, value: u32) -> InstRead
 
 // The instruction at a place after its first word: the operands of the row that starts at a place of the grammar, then 7 where words
 // are left over.
-fn parse_body(
+pub fn parse_body(
     s: &[u8],
     at: usize,
     g: &[u8],
     index: &[u16],
     types: &[u32],
+    hints: &[u32],
     tracker: TypeTracker,
     words: u16,
     opcode: u16,
@@ -72,14 +77,14 @@ fn parse_body(
     log_at: usize,
     strings: &mut [u8],
     strings_at: usize,
-    keep: bool,
 ) -> InstRead
     requires { ⌜ Indexed (now g) (now index) ⌝ }
     requires { ⌜ (length (now s) ≤ 67108864) × (at + 4 ≤ length (now s)) × (1 ≤ words) × (3 * tracker .count ≤ length (now types)) ⌝ }
     requires { ⌜ (4 * «log_at» ≤ 9 * at) × («strings_at» ≤ at) ⌝ }
     requires { ⌜ (place ≤ length (now g)) × (every isOperand (slotsAt (now g) place) ≡ true) ⌝ }
-    requires { ⌜ MayKeepInst keep «log_at» «strings_at» (length (now log)) (length (now strings)) (bodyRead (grammarOf (now g)) (entriesOf (tracker .count) (now types)) at words opcode (slotsAt (now g) place) (readerAt (now s) (at + 4) Unlimited)) ⌝ }
-    ensures { λ r. ⌜ Decodes (now (s .entry)) at (bodyRead (grammarOf (now (g .entry))) (entriesOf (tracker .count) (now (types .entry))) at words opcode (slotsAt (now (g .entry)) place) (readerAt (now (s .entry)) (at + 4) Unlimited)) keep (now (log .entry)) (now (strings .entry)) (now (log .exit)) (now (strings .exit)) «log_at» «strings_at» r ⌝ }
+    requires { ⌜ Hinted (tracker .count) (now types) (now hints) (tracker .greatest) ⌝ }
+    ensures { λ r. ⌜ Decodes (now (s .entry)) at (bodyRead (grammarOf (now (g .entry))) (entriesOf (tracker .count) (now (types .entry))) at words opcode (slotsAt (now (g .entry)) place) (readerAt (now (s .entry)) (at + 4) Unlimited)) (now (log .entry)) (now (strings .entry)) (now (log .exit)) (now (strings .exit)) «log_at» «strings_at» r ⌝ }
+    ensures { λ r. ⌜ ShapeIs words opcode place r ⌝ }
 {
     let start = Decoder {
         offset: at + 4,
@@ -91,28 +96,29 @@ fn parse_body(
         g,
         index,
         types,
+        hints,
         tracker,
         place,
         log,
         log_at,
         strings,
         strings_at,
-        keep,
     );
     match parsed {
         Parsed::Bad(x, _) => InstRead::Refused(x),
         Parsed::Good(e, u) => {
-            let rtype = u.rtype;
-            let rid = u.rid;
+            let rtype = id_of(u.rtype);
+            let rid = id_of(u.rid);
             let operands = u.operands;
-            let first = u.first;
-            let second = u.second;
+            let first = literal_of(u.first);
+            let second = literal_of(u.second);
             let log = u.log;
             let strings = u.strings;
             if e.limit_reached() {
                 return InstRead::Got(Decoded {
                     opcode,
                     words,
+                    place,
                     rtype,
                     rid,
                     operands,
@@ -127,26 +133,27 @@ fn parse_body(
     }
 }
 
-// The instruction at a place, by the types known so far. Its operands' records go to the stores from the places given on, or are only
-// measured.
+// The instruction at a place, by the types known so far. Its operands' records go to the stores from the places given on, each where
+// it fits.
 pub fn parse_inst(
     s: &[u8],
     at: usize,
     g: &[u8],
     index: &[u16],
     types: &[u32],
+    hints: &[u32],
     tracker: TypeTracker,
     log: &mut [u8],
     log_at: usize,
     strings: &mut [u8],
     strings_at: usize,
-    keep: bool,
 ) -> InstRead
     requires { ⌜ Indexed (now g) (now index) ⌝ }
     requires { ⌜ (length (now s) ≤ 67108864) × (at ≤ length (now s)) × (3 * tracker .count ≤ length (now types)) ⌝ }
     requires { ⌜ (4 * «log_at» ≤ 9 * at) × («strings_at» ≤ at) ⌝ }
-    requires { ⌜ MayKeepInst keep «log_at» «strings_at» (length (now log)) (length (now strings)) (readInstr (grammarOf (now g)) (entriesOf (tracker .count) (now types)) (readerAt (now s) at Unlimited)) ⌝ }
-    ensures { λ r. ⌜ Decodes (now (s .entry)) at (readInstr (grammarOf (now (g .entry))) (entriesOf (tracker .count) (now (types .entry))) (readerAt (now (s .entry)) at Unlimited)) keep (now (log .entry)) (now (strings .entry)) (now (log .exit)) (now (strings .exit)) «log_at» «strings_at» r ⌝ }
+    requires { ⌜ Hinted (tracker .count) (now types) (now hints) (tracker .greatest) ⌝ }
+    ensures { λ r. ⌜ Decodes (now (s .entry)) at (readInstr (grammarOf (now (g .entry))) (entriesOf (tracker .count) (now (types .entry))) (readerAt (now (s .entry)) at Unlimited)) (now (log .entry)) (now (strings .entry)) (now (log .exit)) (now (strings .exit)) «log_at» «strings_at» r ⌝ }
+    ensures { λ r. ⌜ RowIs (now (g .entry)) (entriesOf (tracker .count) (now (types .entry))) (now (s .entry)) at (readInstr (grammarOf (now (g .entry))) (entriesOf (tracker .count) (now (types .entry))) (readerAt (now (s .entry)) at Unlimited)) r ⌝ }
 {
     let start = Decoder {
         offset: at,
@@ -171,6 +178,7 @@ pub fn parse_inst(
                 g,
                 index,
                 types,
+                hints,
                 tracker,
                 words,
                 opcode,
@@ -179,7 +187,6 @@ pub fn parse_inst(
                 log_at,
                 strings,
                 strings_at,
-                keep,
             )
         }
     }

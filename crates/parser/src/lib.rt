@@ -1,4 +1,4 @@
-// The parser: an instruction's operands matched against the row of its opcode, in one walk that keeps their records or only measures them.
+// The parser: an instruction's operands matched against the row of its opcode, in one walk that keeps their records where they fit.
 mod embedded;
 mod inst;
 mod literals;
@@ -8,4 +8,5 @@ mod used;
 
 pub use inst::Decoded;
 pub use inst::InstRead;
+pub use inst::parse_body;
 pub use inst::parse_inst;

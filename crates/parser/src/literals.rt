@@ -7,8 +7,9 @@ ghost use Rattle.spec.specs.Match.{literalKind, literalKindOf, typeOf};
 ghost use Rattle.decoder.specs.Answer.{readerOf};
 ghost use Rattle.grammar.specs.Index.{Indexed};
 ghost use Rattle.tracker.specs.Entries.{entriesOf};
+ghost use Rattle.tracker.specs.Hints.{Hinted};
 ghost use Rattle.tracker.specs.Track.{idIs};
-ghost use Rattle.parser.specs.Parse.{Few, MayKeep, Parses, kindIs, isLiteral, literalAlone, pairAlone};
+ghost use Rattle.parser.specs.Parse.{Few, Parses, kindIs, isLiteral, literalAlone, pairAlone};
 use crate::operands::read_one;
 use crate::used::Parsed;
 use crate::used::Used;
@@ -47,14 +48,15 @@ fn integer_kind(width: u32) -> u8
 }
 
 // The kind of a literal by the type of an id: one word where it is not known.
-fn literal_kind(types: &[u32], tracker: TypeTracker, id: Id) -> u8
+fn literal_kind(types: &[u32], hints: &[u32], tracker: TypeTracker, id: Id) -> u8
     requires { ⌜ 3 * tracker .count ≤ length (now types) ⌝ }
+    requires { ⌜ Hinted (tracker .count) (now types) (now hints) (tracker .greatest) ⌝ }
     ensures { λ r. ⌜ (kindIs r ≡ literalKindOf (typeOf (idIs id) (entriesOf (tracker .count) (now (types .entry))))) × (isLiteral r ≡ true) ⌝ }
 {
     let Id::Is(i) = id else {
         return 34;
     };
-    let resolved = tracker.resolve(types, i);
+    let resolved = tracker.resolve(types, hints, i);
     match resolved {
         Resolved::Unknown => 34,
         Resolved::Type { width, sort } => {
@@ -73,19 +75,19 @@ pub fn parse_literal(
     g: &[u8],
     index: &[u16],
     types: &[u32],
+    hints: &[u32],
     tracker: TypeTracker,
     id: Id,
     log: &mut [u8],
     strings: &mut [u8],
     u: Used,
-    keep: bool,
 ) -> Parsed
     requires { ⌜ Indexed (now g) (now index) ⌝ }
     requires { ⌜ Few (now s) d u × (3 * tracker .count ≤ length (now types)) ⌝ }
-    requires { ⌜ MayKeep keep u (length (now log)) (length (now strings)) (literalAlone (entriesOf (tracker .count) (now types)) (idIs id) (readerOf (now s) d)) ⌝ }
-    ensures { λ r. ⌜ Parses (now (s .entry)) d 4 (literalAlone (entriesOf (tracker .count) (now (types .entry))) (idIs id) (readerOf (now (s .entry)) d)) keep (now (log .entry)) (now (strings .entry)) (now (log .exit)) (now (strings .exit)) u r ⌝ }
+    requires { ⌜ Hinted (tracker .count) (now types) (now hints) (tracker .greatest) ⌝ }
+    ensures { λ r. ⌜ Parses (now (s .entry)) d 4 (literalAlone (entriesOf (tracker .count) (now (types .entry))) (idIs id) (readerOf (now (s .entry)) d)) (now (log .entry)) (now (strings .entry)) (now (log .exit)) (now (strings .exit)) u r ⌝ }
 {
-    let kind = literal_kind(types, tracker, id);
+    let kind = literal_kind(types, hints, tracker, id);
     if kind == 0 {
         return bad(12, d.offset, d);
     }
@@ -93,10 +95,10 @@ pub fn parse_literal(
         let long = d.int64(s);
         match long {
             LongRead::Refused(x, e) => Parsed::Bad(x, e),
-            LongRead::Got(v, e) => Parsed::Good(e, push(log, kind, v, u, keep)),
+            LongRead::Got(v, e) => Parsed::Good(e, push(log, kind, v, u)),
         }
     } else {
-        read_one(d, s, g, index, kind, log, strings, u, keep)
+        read_one(d, s, g, index, kind, log, strings, u)
     }
 }
 
@@ -107,21 +109,21 @@ pub fn parse_literal_pair(
     g: &[u8],
     index: &[u16],
     types: &[u32],
+    hints: &[u32],
     tracker: TypeTracker,
     id: Id,
     log: &mut [u8],
     strings: &mut [u8],
     u: Used,
-    keep: bool,
 ) -> Parsed
     requires { ⌜ Indexed (now g) (now index) ⌝ }
     requires { ⌜ Few (now s) d u × (3 * tracker .count ≤ length (now types)) ⌝ }
-    requires { ⌜ MayKeep keep u (length (now log)) (length (now strings)) (pairAlone (entriesOf (tracker .count) (now types)) (idIs id) (readerOf (now s) d)) ⌝ }
-    ensures { λ r. ⌜ Parses (now (s .entry)) d 4 (pairAlone (entriesOf (tracker .count) (now (types .entry))) (idIs id) (readerOf (now (s .entry)) d)) keep (now (log .entry)) (now (strings .entry)) (now (log .exit)) (now (strings .exit)) u r ⌝ }
+    requires { ⌜ Hinted (tracker .count) (now types) (now hints) (tracker .greatest) ⌝ }
+    ensures { λ r. ⌜ Parses (now (s .entry)) d 4 (pairAlone (entriesOf (tracker .count) (now (types .entry))) (idIs id) (readerOf (now (s .entry)) d)) (now (log .entry)) (now (strings .entry)) (now (log .exit)) (now (strings .exit)) u r ⌝ }
 {
-    let r = parse_literal(d, s, g, index, types, tracker, id, log, strings, u, keep);
+    let r = parse_literal(d, s, g, index, types, hints, tracker, id, log, strings, u);
     let Parsed::Good(e, n) = r else {
         return r;
     };
-    read_one(e, s, g, index, 33, log, strings, n, keep)
+    read_one(e, s, g, index, 33, log, strings, n)
 }

@@ -1,17 +1,18 @@
 // Operands: one record of a kind, enumerants with their parameters, and pairs.
 ghost use mathlib.Core.Path.{_≡_};
-ghost use mathlib.Core.Bool.{true};
-ghost use mathlib.Core.List.{_∷_, []};
-ghost use Prim.Native.Nat.{_≤_};
+ghost use mathlib.Core.Bool.{true, false};
+ghost use mathlib.Core.List.{List, _∷_, []};
+ghost use Prim.Native.Nat.{ℕ, _≤_};
 ghost use lib.ListN.{length};
 ghost use Rattle.spec.specs.Base.{every};
+ghost use Rattle.spec.specs.Kinds.{isEnum, isMask};
 ghost use Rattle.spec.specs.Reader.{refusal};
 ghost use Rattle.spec.specs.Words.{bitsOf};
-ghost use Rattle.spec.specs.Grammar.{grammarOf, listed};
+ghost use Rattle.spec.specs.Grammar.{Grammar, grammarOf, listed};
 ghost use Rattle.spec.specs.Match.{readEach, readOperand};
 ghost use Rattle.decoder.specs.Answer.{readerOf};
 ghost use Rattle.grammar.specs.Index.{Indexed};
-ghost use Rattle.parser.specs.Parse.{EnumIs, Few, MayKeep, Parses, isSingle, isPlain, orNone, ifSet, bitParameters, parametersAre, parametersAt};
+ghost use Rattle.parser.specs.Parse.{EnumIs, Few, Parses, isSingle, isPlain, orNone, ifSet, bitParameters, parametersAre, parametersAt};
 use crate::used::Parsed;
 use crate::used::Used;
 use crate::used::push;
@@ -23,9 +24,9 @@ use grammar::ParameterAt;
 use spec::Found;
 use spec::Refusal;
 
-// A value that is known, or a refusal; each with the decoder after it.
+// A value that is known, and where its parameters start unless it is a mask, or a refusal; each with the decoder after it.
 pub enum EnumRead {
-    Known(u32, Decoder),
+    Known(u32, usize, Decoder),
     Unread(Refusal, Decoder),
 }
 
@@ -44,7 +45,7 @@ fn unread(number: u32, place: usize, value: u32, d: Decoder) -> EnumRead
 // An enumerant's word: 9 on a spent limit, 10 where the value is not known.
 fn read_enumerant(d: Decoder, s: &[u8], g: &[u8], index: &[u16], kind: u8) -> EnumRead
     requires { ⌜ Indexed (now g) (now index) ⌝ }
-    ensures { λ r. ⌜ EnumIs (now (s .entry)) (grammarOf (now (g .entry))) kind d r ⌝ }
+    ensures { λ r. ⌜ EnumIs (now (s .entry)) (now (g .entry)) kind d r ⌝ }
 {
     let at = d.offset;
     if d.limit_reached() {
@@ -54,11 +55,30 @@ fn read_enumerant(d: Decoder, s: &[u8], g: &[u8], index: &[u16], kind: u8) -> En
     match w {
         WordRead::Refused(x, e) => EnumRead::Unread(x, e),
         WordRead::Got(v, e) => {
-            if grammar::is_known(g, index, kind, v) {
-                return EnumRead::Known(v, e);
+            if grammar::is_mask(kind) {
+                if grammar::is_known(g, index, kind, v) {
+                    return EnumRead::Known(v, g.len(), e);
+                }
+                return unread(10, at, v, e);
             }
-            unread(10, at, v, e)
+            let found = grammar::find_enumerant(g, index, kind, v);
+            let Found::At(place) = found else {
+                return unread(10, at, v, e);
+            };
+            EnumRead::Known(v, place, e)
         }
+    }
+}
+
+// One record of a word.
+pub fn read_word(d: Decoder, s: &[u8], kind: u8, log: &mut [u8], u: Used) -> Parsed
+    requires { ⌜ Few (now s) d u × (isSingle kind ≡ true) × (isEnum kind ≡ false) × (kind ≡ 40 → ⊥) ⌝ }
+    ensures { λ r. ⌜ ((g : Grammar) (t : List ℕ) → Parses (now (s .entry)) d 4 (readEach g (kind ∷ []) (readerOf (now (s .entry)) d)) (now (log .entry)) t (now (log .exit)) t u r) ⌝ }
+{
+    let w = d.word(s);
+    match w {
+        WordRead::Refused(x, e) => Parsed::Bad(x, e),
+        WordRead::Got(v, e) => Parsed::Good(e, push(log, kind, v as u64, u)),
     }
 }
 
@@ -72,18 +92,16 @@ pub fn read_one(
     log: &mut [u8],
     strings: &mut [u8],
     u: Used,
-    keep: bool,
 ) -> Parsed
     requires { ⌜ Indexed (now g) (now index) ⌝ }
     requires { ⌜ Few (now s) d u × (isSingle kind ≡ true) ⌝ }
-    requires { ⌜ MayKeep keep u (length (now log)) (length (now strings)) (readEach (grammarOf (now g)) (kind ∷ []) (readerOf (now s) d)) ⌝ }
-    ensures { λ r. ⌜ Parses (now (s .entry)) d 4 (readEach (grammarOf (now (g .entry))) (kind ∷ []) (readerOf (now (s .entry)) d)) keep (now (log .entry)) (now (strings .entry)) (now (log .exit)) (now (strings .exit)) u r ⌝ }
+    ensures { λ r. ⌜ Parses (now (s .entry)) d 4 (readEach (grammarOf (now (g .entry))) (kind ∷ []) (readerOf (now (s .entry)) d)) (now (log .entry)) (now (strings .entry)) (now (log .exit)) (now (strings .exit)) u r ⌝ }
 {
     if grammar::is_enum(kind) {
         let r = read_enumerant(d, s, g, index, kind);
         match r {
             EnumRead::Unread(x, e) => Parsed::Bad(x, e),
-            EnumRead::Known(v, e) => Parsed::Good(e, push(log, kind, v as u64, u, keep)),
+            EnumRead::Known(v, _, e) => Parsed::Good(e, push(log, kind, v as u64, u)),
         }
     } else {
         if kind == 40 {
@@ -92,16 +110,12 @@ pub fn read_one(
                 TextRead::Refused(x, e) => Parsed::Bad(x, e),
                 TextRead::Got(x) => {
                     let e = x.next;
-                    let n = push_text(log, strings, s, x.start, x.length, u, keep);
+                    let n = push_text(log, strings, s, x.start, x.length, u);
                     Parsed::Good(e, n)
                 }
             }
         } else {
-            let w = d.word(s);
-            match w {
-                WordRead::Refused(x, e) => Parsed::Bad(x, e),
-                WordRead::Got(v, e) => Parsed::Good(e, push(log, kind, v as u64, u, keep)),
-            }
+            read_word(d, s, kind, log, u)
         }
     }
 }
@@ -116,12 +130,10 @@ fn parse_parameters(
     log: &mut [u8],
     strings: &mut [u8],
     used: Used,
-    keep: bool,
 ) -> Parsed
     requires { ⌜ Indexed (now g) (now index) ⌝ }
     requires { ⌜ Few (now s) start used × (place ≤ length (now g)) × (every isSingle (parametersAt (now g) place) ≡ true) ⌝ }
-    requires { ⌜ MayKeep keep used (length (now log)) (length (now strings)) (readEach (grammarOf (now g)) (parametersAt (now g) place) (readerOf (now s) start)) ⌝ }
-    ensures { λ r. ⌜ Parses (now (s .entry)) start 0 (readEach (grammarOf (now (g .entry))) (parametersAt (now (g .entry)) place) (readerOf (now (s .entry)) start)) keep (now (log .entry)) (now (strings .entry)) (now (log .exit)) (now (strings .exit)) used r ⌝ }
+    ensures { λ r. ⌜ Parses (now (s .entry)) start 0 (readEach (grammarOf (now (g .entry))) (parametersAt (now (g .entry)) place) (readerOf (now (s .entry)) start)) (now (log .entry)) (now (strings .entry)) (now (log .exit)) (now (strings .exit)) used r ⌝ }
 {
     let mut d = start;
     let mut u = used;
@@ -131,7 +143,7 @@ fn parse_parameters(
         let ParameterAt::Parameter(k) = x else {
             return Parsed::Good(d, u);
         };
-        let r = read_one(d, s, g, index, k, log, strings, u, keep);
+        let r = read_one(d, s, g, index, k, log, strings, u);
         let Parsed::Good(e, n) = r else {
             return r;
         };
@@ -153,18 +165,16 @@ fn parse_listed(
     log: &mut [u8],
     strings: &mut [u8],
     u: Used,
-    keep: bool,
 ) -> Parsed
     requires { ⌜ Indexed (now g) (now index) ⌝ }
     requires { ⌜ Few (now s) d u ⌝ }
-    requires { ⌜ MayKeep keep u (length (now log)) (length (now strings)) (readEach (grammarOf (now g)) (orNone (listed kind value (grammarOf (now g) .enumerants))) (readerOf (now s) d)) ⌝ }
-    ensures { λ r. ⌜ Parses (now (s .entry)) d 0 (readEach (grammarOf (now (g .entry))) (orNone (listed kind value (grammarOf (now (g .entry)) .enumerants))) (readerOf (now (s .entry)) d)) keep (now (log .entry)) (now (strings .entry)) (now (log .exit)) (now (strings .exit)) u r ⌝ }
+    ensures { λ r. ⌜ Parses (now (s .entry)) d 0 (readEach (grammarOf (now (g .entry))) (orNone (listed kind value (grammarOf (now (g .entry)) .enumerants))) (readerOf (now (s .entry)) d)) (now (log .entry)) (now (strings .entry)) (now (log .exit)) (now (strings .exit)) u r ⌝ }
 {
     let found = grammar::find_enumerant(g, index, kind, value);
     let Found::At(p) = found else {
         return Parsed::Good(d, u);
     };
-    parse_parameters(d, s, g, index, p, log, strings, u, keep)
+    parse_parameters(d, s, g, index, p, log, strings, u)
 }
 
 // The parameters of a bit, where it is set: the lowest of what is left of a mask.
@@ -179,17 +189,15 @@ fn parse_bit(
     log: &mut [u8],
     strings: &mut [u8],
     u: Used,
-    keep: bool,
 ) -> Parsed
     requires { ⌜ Indexed (now g) (now index) ⌝ }
     requires { ⌜ Few (now s) d u ⌝ }
-    requires { ⌜ MayKeep keep u (length (now log)) (length (now strings)) (readEach (grammarOf (now g)) (ifSet kind bit rest (grammarOf (now g) .enumerants)) (readerOf (now s) d)) ⌝ }
-    ensures { λ r. ⌜ Parses (now (s .entry)) d 0 (readEach (grammarOf (now (g .entry))) (ifSet kind bit rest (grammarOf (now (g .entry)) .enumerants)) (readerOf (now (s .entry)) d)) keep (now (log .entry)) (now (strings .entry)) (now (log .exit)) (now (strings .exit)) u r ⌝ }
+    ensures { λ r. ⌜ Parses (now (s .entry)) d 0 (readEach (grammarOf (now (g .entry))) (ifSet kind bit rest (grammarOf (now (g .entry)) .enumerants)) (readerOf (now (s .entry)) d)) (now (log .entry)) (now (strings .entry)) (now (log .exit)) (now (strings .exit)) u r ⌝ }
 {
     if rest % 2 != 1 {
         return Parsed::Good(d, u);
     }
-    parse_listed(d, s, g, index, kind, bit, log, strings, u, keep)
+    parse_listed(d, s, g, index, kind, bit, log, strings, u)
 }
 
 // The parameters of each bit of a mask that is set, lowest first.
@@ -203,32 +211,17 @@ fn parse_bits(
     log: &mut [u8],
     strings: &mut [u8],
     used: Used,
-    keep: bool,
 ) -> Parsed
     requires { ⌜ Indexed (now g) (now index) ⌝ }
     requires { ⌜ Few (now s) start used ⌝ }
-    requires { ⌜ MayKeep keep used (length (now log)) (length (now strings)) (readEach (grammarOf (now g)) (bitParameters kind (grammarOf (now g) .enumerants) (bitsOf value)) (readerOf (now s) start)) ⌝ }
-    ensures { λ r. ⌜ Parses (now (s .entry)) start 0 (readEach (grammarOf (now (g .entry))) (bitParameters kind (grammarOf (now (g .entry)) .enumerants) (bitsOf value)) (readerOf (now (s .entry)) start)) keep (now (log .entry)) (now (strings .entry)) (now (log .exit)) (now (strings .exit)) used r ⌝ }
+    ensures { λ r. ⌜ Parses (now (s .entry)) start 0 (readEach (grammarOf (now (g .entry))) (bitParameters kind (grammarOf (now (g .entry)) .enumerants) (bitsOf value)) (readerOf (now (s .entry)) start)) (now (log .entry)) (now (strings .entry)) (now (log .exit)) (now (strings .exit)) used r ⌝ }
 {
     let mut d = start;
     let mut u = used;
     let mut rest = value;
     let mut bit: u64 = 1;
-    let mut left: usize = 32;
-    while 0 < left {
-        let r = parse_bit(
-            d,
-            s,
-            g,
-            index,
-            kind,
-            bit as u32,
-            rest,
-            log,
-            strings,
-            u,
-            keep,
-        );
+    while rest != 0 {
+        let r = parse_bit(d, s, g, index, kind, bit as u32, rest, log, strings, u);
         let Parsed::Good(e, n) = r else {
             return r;
         };
@@ -236,12 +229,11 @@ fn parse_bits(
         u = n;
         rest = rest / 2;
         bit = 2 * bit;
-        left -= 1;
     }
     Parsed::Good(d, u)
 }
 
-// The parameters of a value.
+// The parameters of a value, which start at a place unless it is a mask.
 fn parse_values(
     d: Decoder,
     s: &[u8],
@@ -249,20 +241,20 @@ fn parse_values(
     index: &[u16],
     kind: u8,
     value: u32,
+    place: usize,
     log: &mut [u8],
     strings: &mut [u8],
     u: Used,
-    keep: bool,
 ) -> Parsed
     requires { ⌜ Indexed (now g) (now index) ⌝ }
-    requires { ⌜ Few (now s) d u ⌝ }
-    requires { ⌜ MayKeep keep u (length (now log)) (length (now strings)) (readEach (grammarOf (now g)) (parametersAre kind value (grammarOf (now g))) (readerOf (now s) d)) ⌝ }
-    ensures { λ r. ⌜ Parses (now (s .entry)) d 0 (readEach (grammarOf (now (g .entry))) (parametersAre kind value (grammarOf (now (g .entry)))) (readerOf (now (s .entry)) d)) keep (now (log .entry)) (now (strings .entry)) (now (log .exit)) (now (strings .exit)) u r ⌝ }
+    requires { ⌜ Few (now s) d u × (place ≤ length (now g)) ⌝ }
+    requires { ⌜ (isMask kind ≡ false → parametersAt (now g) place ≡ orNone (listed kind value (grammarOf (now g) .enumerants))) ⌝ }
+    ensures { λ r. ⌜ Parses (now (s .entry)) d 0 (readEach (grammarOf (now (g .entry))) (parametersAre kind value (grammarOf (now (g .entry)))) (readerOf (now (s .entry)) d)) (now (log .entry)) (now (strings .entry)) (now (log .exit)) (now (strings .exit)) u r ⌝ }
 {
     if grammar::is_mask(kind) {
-        return parse_bits(d, s, g, index, kind, value, log, strings, u, keep);
+        return parse_bits(d, s, g, index, kind, value, log, strings, u);
     }
-    parse_listed(d, s, g, index, kind, value, log, strings, u, keep)
+    parse_parameters(d, s, g, index, place, log, strings, u)
 }
 
 // A pair: an id, then a record of one word.
@@ -275,18 +267,16 @@ fn parse_pair(
     log: &mut [u8],
     strings: &mut [u8],
     u: Used,
-    keep: bool,
 ) -> Parsed
     requires { ⌜ Indexed (now g) (now index) ⌝ }
     requires { ⌜ Few (now s) d u × (isSingle second ≡ true) ⌝ }
-    requires { ⌜ MayKeep keep u (length (now log)) (length (now strings)) (readEach (grammarOf (now g)) (33 ∷ second ∷ []) (readerOf (now s) d)) ⌝ }
-    ensures { λ r. ⌜ Parses (now (s .entry)) d 4 (readEach (grammarOf (now (g .entry))) (33 ∷ second ∷ []) (readerOf (now (s .entry)) d)) keep (now (log .entry)) (now (strings .entry)) (now (log .exit)) (now (strings .exit)) u r ⌝ }
+    ensures { λ r. ⌜ Parses (now (s .entry)) d 4 (readEach (grammarOf (now (g .entry))) (33 ∷ second ∷ []) (readerOf (now (s .entry)) d)) (now (log .entry)) (now (strings .entry)) (now (log .exit)) (now (strings .exit)) u r ⌝ }
 {
-    let r = read_one(d, s, g, index, 33, log, strings, u, keep);
+    let r = read_one(d, s, g, index, 33, log, strings, u);
     let Parsed::Good(e, n) = r else {
         return r;
     };
-    read_one(e, s, g, index, second, log, strings, n, keep)
+    read_one(e, s, g, index, second, log, strings, n)
 }
 
 // An operand with its parameters.
@@ -299,29 +289,27 @@ pub fn parse_operand(
     log: &mut [u8],
     strings: &mut [u8],
     u: Used,
-    keep: bool,
 ) -> Parsed
     requires { ⌜ Indexed (now g) (now index) ⌝ }
     requires { ⌜ Few (now s) d u × (isPlain kind ≡ true) ⌝ }
-    requires { ⌜ MayKeep keep u (length (now log)) (length (now strings)) (readOperand (grammarOf (now g)) kind (readerOf (now s) d)) ⌝ }
-    ensures { λ r. ⌜ Parses (now (s .entry)) d 4 (readOperand (grammarOf (now (g .entry))) kind (readerOf (now (s .entry)) d)) keep (now (log .entry)) (now (strings .entry)) (now (log .exit)) (now (strings .exit)) u r ⌝ }
+    ensures { λ r. ⌜ Parses (now (s .entry)) d 4 (readOperand (grammarOf (now (g .entry))) kind (readerOf (now (s .entry)) d)) (now (log .entry)) (now (strings .entry)) (now (log .exit)) (now (strings .exit)) u r ⌝ }
 {
     if grammar::is_enum(kind) {
         let r = read_enumerant(d, s, g, index, kind);
         match r {
             EnumRead::Unread(x, e) => Parsed::Bad(x, e),
-            EnumRead::Known(v, e) => {
-                let n = push(log, kind, v as u64, u, keep);
-                parse_values(e, s, g, index, kind, v, log, strings, n, keep)
+            EnumRead::Known(v, place, e) => {
+                let n = push(log, kind, v as u64, u);
+                parse_values(e, s, g, index, kind, v, place, log, strings, n)
             }
         }
     } else {
         if kind == 50 {
-            return parse_pair(d, s, g, index, 34, log, strings, u, keep);
+            return parse_pair(d, s, g, index, 34, log, strings, u);
         }
         if kind == 51 {
-            return parse_pair(d, s, g, index, 33, log, strings, u, keep);
+            return parse_pair(d, s, g, index, 33, log, strings, u);
         }
-        read_one(d, s, g, index, kind, log, strings, u, keep)
+        read_one(d, s, g, index, kind, log, strings, u)
     }
 }

@@ -12,21 +12,22 @@ ghost use Rattle.spec.specs.Match.{nothingSeen, readRow, readSlot};
 ghost use Rattle.decoder.specs.Answer.{readerOf};
 ghost use Rattle.grammar.specs.Index.{Indexed};
 ghost use Rattle.tracker.specs.Entries.{entriesOf};
-ghost use Rattle.tracker.specs.Track.{idIs};
-ghost use Rattle.parser.specs.Parse.{Few, MayKeep, Parses, Walks, MayKeepRow, isOperand, kindAlone, slotsAt, leftOf};
+ghost use Rattle.tracker.specs.Hints.{Hinted};
+ghost use Rattle.parser.specs.Parse.{Few, Parses, Walks, wordIs, isOperand, kindAlone, slotsAt, leftOf};
 ghost use Rattle.parser.specs.Slots.{SlotWalks, unused, withResult};
 use crate::embedded::parse_spec_constant_op;
 use crate::literals::parse_literal;
 use crate::literals::parse_literal_pair;
 use crate::operands::parse_operand;
+use crate::operands::read_word;
 use crate::used::Parsed;
 use crate::used::Used;
 use crate::used::bad;
+use crate::used::id_of;
+use crate::used::there;
 use decoder::Decoder;
 use decoder::WordRead;
 use grammar::SlotAt;
-use operand::Operand;
-use tracker::Id;
 use tracker::TypeTracker;
 
 // What is in use before the first operand.
@@ -34,19 +35,19 @@ fn nothing_used(log: usize, strings: usize) -> Used
     ensures { λ r. ⌜ r ≡ unused «log» «strings» ⌝ }
 {
     Used {
-        rtype: Id::Absent,
-        rid: Id::Absent,
-        selector: Id::Absent,
+        rtype: 0,
+        rid: 0,
+        selector: 0,
         operands: 0,
-        first: Operand::IdRef(0),
-        second: Operand::IdRef(0),
+        first: 0,
+        second: 0,
         log,
         strings,
     }
 }
 
 // A result more: the result type for 46, else the result id.
-fn with_result(u: Used, kind: u8, id: u32) -> Used
+fn with_result(u: Used, kind: u8, id: u64) -> Used
     ensures { λ r. ⌜ r ≡ withResult kind id u ⌝ }
 {
     let rtype = u.rtype;
@@ -59,7 +60,7 @@ fn with_result(u: Used, kind: u8, id: u32) -> Used
     let strings = u.strings;
     if kind == 46 {
         return Used {
-            rtype: Id::Is(id),
+            rtype: id,
             rid,
             selector,
             operands,
@@ -71,7 +72,7 @@ fn with_result(u: Used, kind: u8, id: u32) -> Used
     }
     Used {
         rtype,
-        rid: Id::Is(id),
+        rid: id,
         selector,
         operands,
         first,
@@ -99,30 +100,30 @@ fn parse_kind(
     g: &[u8],
     index: &[u16],
     types: &[u32],
+    hints: &[u32],
     tracker: TypeTracker,
     kind: u8,
     log: &mut [u8],
     strings: &mut [u8],
     u: Used,
-    keep: bool,
 ) -> Parsed
     requires { ⌜ Indexed (now g) (now index) ⌝ }
     requires { ⌜ Few (now s) d u × (3 * tracker .count ≤ length (now types)) × (mayBeOperand kind ≡ true) × (isResult kind ≡ false) ⌝ }
-    requires { ⌜ MayKeep keep u (length (now log)) (length (now strings)) (kindAlone (grammarOf (now g)) (entriesOf (tracker .count) (now types)) (idIs (u .rtype)) (idIs (u .selector)) kind (readerOf (now s) d)) ⌝ }
-    ensures { λ r. ⌜ Parses (now (s .entry)) d 4 (kindAlone (grammarOf (now (g .entry))) (entriesOf (tracker .count) (now (types .entry))) (idIs (u .rtype)) (idIs (u .selector)) kind (readerOf (now (s .entry)) d)) keep (now (log .entry)) (now (strings .entry)) (now (log .exit)) (now (strings .exit)) u r ⌝ }
+    requires { ⌜ Hinted (tracker .count) (now types) (now hints) (tracker .greatest) ⌝ }
+    ensures { λ r. ⌜ Parses (now (s .entry)) d 4 (kindAlone (grammarOf (now (g .entry))) (entriesOf (tracker .count) (now (types .entry))) (wordIs (u .rtype)) (wordIs (u .selector)) kind (readerOf (now (s .entry)) d)) (now (log .entry)) (now (strings .entry)) (now (log .exit)) (now (strings .exit)) u r ⌝ }
 {
     if kind == 48 {
-        let id = u.rtype;
-        return parse_literal(d, s, g, index, types, tracker, id, log, strings, u, keep);
+        let id = id_of(u.rtype);
+        return parse_literal(d, s, g, index, types, hints, tracker, id, log, strings, u);
     }
     if kind == 49 {
-        let id = u.selector;
-        return parse_literal_pair(d, s, g, index, types, tracker, id, log, strings, u, keep);
+        let id = id_of(u.selector);
+        return parse_literal_pair(d, s, g, index, types, hints, tracker, id, log, strings, u);
     }
     if kind == 39 {
-        return parse_spec_constant_op(d, s, g, index, log, strings, u, keep);
+        return parse_spec_constant_op(d, s, g, index, log, strings, u);
     }
-    parse_operand(d, s, g, index, kind, log, strings, u, keep)
+    parse_operand(d, s, g, index, kind, log, strings, u)
 }
 
 // An operand of a row.
@@ -132,26 +133,29 @@ fn parse_slot(
     g: &[u8],
     index: &[u16],
     types: &[u32],
+    hints: &[u32],
     tracker: TypeTracker,
     kind: u8,
     log: &mut [u8],
     strings: &mut [u8],
     u: Used,
-    keep: bool,
 ) -> Parsed
     requires { ⌜ Indexed (now g) (now index) ⌝ }
     requires { ⌜ Few (now s) d u × (3 * tracker .count ≤ length (now types)) × (mayBeOperand kind ≡ true) ⌝ }
-    requires { ⌜ (isResult kind ≡ false → MayKeep keep u (length (now log)) (length (now strings)) (kindAlone (grammarOf (now g)) (entriesOf (tracker .count) (now types)) (idIs (u .rtype)) (idIs (u .selector)) kind (readerOf (now s) d))) ⌝ }
-    ensures { λ r. ⌜ SlotWalks (now (s .entry)) d (λ x. readSlot (grammarOf (now (g .entry))) (entriesOf (tracker .count) (now (types .entry))) x kind (readerOf (now (s .entry)) d)) keep (now (log .entry)) (now (strings .entry)) (now (log .exit)) (now (strings .exit)) u r ⌝ }
+    requires { ⌜ Hinted (tracker .count) (now types) (now hints) (tracker .greatest) ⌝ }
+    ensures { λ r. ⌜ SlotWalks (now (s .entry)) d (λ x. readSlot (grammarOf (now (g .entry))) (entriesOf (tracker .count) (now (types .entry))) x kind (readerOf (now (s .entry)) d)) (now (log .entry)) (now (strings .entry)) (now (log .exit)) (now (strings .exit)) u r ⌝ }
 {
     if grammar::is_result(kind) {
         let w = d.word(s);
         match w {
             WordRead::Refused(x, e) => Parsed::Bad(x, e),
-            WordRead::Got(id, e) => Parsed::Good(e, with_result(u, kind, id)),
+            WordRead::Got(id, e) => Parsed::Good(e, with_result(u, kind, there(id))),
         }
     } else {
-        parse_kind(d, s, g, index, types, tracker, kind, log, strings, u, keep)
+        if (31 <= kind) & (kind <= 35) {
+            return read_word(d, s, kind, log, u);
+        }
+        parse_kind(d, s, g, index, types, hints, tracker, kind, log, strings, u)
     }
 }
 
@@ -162,20 +166,20 @@ pub fn parse_operands(
     g: &[u8],
     index: &[u16],
     types: &[u32],
+    hints: &[u32],
     tracker: TypeTracker,
     place: usize,
     log: &mut [u8],
     log_at: usize,
     strings: &mut [u8],
     strings_at: usize,
-    keep: bool,
 ) -> Parsed
     requires { ⌜ Indexed (now g) (now index) ⌝ }
     requires { ⌜ (length (now s) ≤ 67108864) × (start .offset ≤ length (now s)) × (start .limit ≡ Words (leftOf (start .limit))) × (3 * tracker .count ≤ length (now types)) ⌝ }
     requires { ⌜ (4 * «log_at» ≤ 9 * start .offset) × («strings_at» ≤ start .offset) ⌝ }
     requires { ⌜ (place ≤ length (now g)) × (every isOperand (slotsAt (now g) place) ≡ true) ⌝ }
-    requires { ⌜ MayKeepRow keep «log_at» «strings_at» (length (now log)) (length (now strings)) (readRow (grammarOf (now g)) (entriesOf (tracker .count) (now types)) (leftOf (start .limit)) (slotsAt (now g) place) nothingSeen (readerOf (now s) start)) ⌝ }
-    ensures { λ r. ⌜ Walks (now (s .entry)) start (readRow (grammarOf (now (g .entry))) (entriesOf (tracker .count) (now (types .entry))) (leftOf (start .limit)) (slotsAt (now (g .entry)) place) nothingSeen (readerOf (now (s .entry)) start)) keep (now (log .entry)) (now (strings .entry)) (now (log .exit)) (now (strings .exit)) «log_at» «strings_at» r ⌝ }
+    requires { ⌜ Hinted (tracker .count) (now types) (now hints) (tracker .greatest) ⌝ }
+    ensures { λ r. ⌜ Walks (now (s .entry)) start (readRow (grammarOf (now (g .entry))) (entriesOf (tracker .count) (now (types .entry))) (leftOf (start .limit)) (slotsAt (now (g .entry)) place) nothingSeen (readerOf (now (s .entry)) start)) (now (log .entry)) (now (strings .entry)) (now (log .exit)) (now (strings .exit)) «log_at» «strings_at» r ⌝ }
 {
     let mut d = start;
     let mut u = nothing_used(log_at, strings_at);
@@ -191,7 +195,7 @@ pub fn parse_operands(
             }
             return Parsed::Good(d, u);
         }
-        let r = parse_slot(d, s, g, index, types, tracker, k, log, strings, u, keep);
+        let r = parse_slot(d, s, g, index, types, hints, tracker, k, log, strings, u);
         let Parsed::Good(e, n) = r else {
             return r;
         };

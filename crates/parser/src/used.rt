@@ -1,29 +1,31 @@
 // What an instruction has come to so far, and one record more.
 ghost use mathlib.Core.Path.{_≡_};
-ghost use mathlib.Core.Bool.{true};
-ghost use Prim.Native.Nat.{_+_, _*_, _≤_, _<_};
+ghost use mathlib.Core.Bool.{false};
+ghost use mathlib.Core.Option.{some};
+ghost use Prim.Native.Nat.{_+_, _*_, _≤_};
 ghost use lib.ListN.{length};
 ghost use lib.Seq.{slice};
 ghost use Rattle.spec.specs.Reader.{refusal};
-ghost use Rattle.operand.specs.Parts.{parts, Fits};
-ghost use Rattle.operand.specs.Log.{recordOf, recordLength, kept};
-ghost use Rattle.tracker.specs.Track.{idIs};
-ghost use Rattle.parser.specs.Parse.{valueIf, Noted, Pushed, Copied};
+ghost use Rattle.operand.specs.Parts.{parts, isTwo, Fits};
+ghost use Rattle.operand.specs.Log.{recordOf, Laid};
+ghost use Rattle.tracker.specs.Track.{idIs, literalOf};
+ghost use Rattle.parser.specs.Parse.{wordIs, valueIf, Noted, Pushed, Copied};
 use decoder::Decoder;
 use operand::Operand;
 use operand::Parts;
 use spec::Refusal;
 use tracker::Id;
 
-// The results and the operands of an instruction so far: the id that the first operand is, how many operands, the first two, and how
-// much of the operand log and of the string bytes is in use.
+// The results and the operands of an instruction so far: the id that the first operand is, how many operands, the literal numbers of
+// the first two, and how much of the operand log and of the string bytes is in use. What may be missing is 2^32 and a word where it is
+// there, else 0.
 pub struct Used {
-    pub rtype: Id,
-    pub rid: Id,
-    pub selector: Id,
+    pub rtype: u64,
+    pub rid: u64,
+    pub selector: u64,
     pub operands: usize,
-    pub first: Operand,
-    pub second: Operand,
+    pub first: u64,
+    pub second: u64,
     pub log: usize,
     pub strings: usize,
 }
@@ -46,21 +48,48 @@ pub fn bad(number: u32, place: usize, d: Decoder) -> Parsed
     Parsed::Bad(refusal, d)
 }
 
-// The id that an operand of a kind and a value is.
-fn id_of(kind: u8, value: u64) -> Id
-    requires { ⌜ Fits kind value ⌝ }
-    ensures { λ r. ⌜ idIs r ≡ valueIf 33 kind value ⌝ }
+// A word that is there.
+pub fn there(w: u32) -> u64
+    ensures { λ r. ⌜ wordIs r ≡ some w ⌝ }
 {
-    if kind == 33 {
-        return Id::Is(value as u32);
-    }
-    Id::Absent
+    4294967296 + (w as u64)
 }
 
-// One operand more, whose record ends there in the log; the first two are remembered, and the id that the first one is.
-fn noted(u: Used, operand: Operand, id: Id, log: usize) -> Used
+// The id that a word is, where it is there.
+pub fn id_of(x: u64) -> Id
+    ensures { λ r. ⌜ idIs r ≡ wordIs x ⌝ }
+{
+    if x < 4294967296 {
+        return Id::Absent;
+    }
+    Id::Is((x % 4294967296) as u32)
+}
+
+// A literal number, where it is there, else an operand that is none.
+pub fn literal_of(x: u64) -> Operand
+    ensures { λ r. ⌜ literalOf r ≡ wordIs x ⌝ }
+{
+    if x < 4294967296 {
+        return Operand::IdRef(0);
+    }
+    Operand::LiteralInt32((x % 4294967296) as u32)
+}
+
+// The value of an operand that is of that kind, a kind of one word.
+fn value_if(wanted: u8, kind: u8, value: u64) -> u64
+    requires { ⌜ Fits kind value × (isTwo wanted ≡ false) ⌝ }
+    ensures { λ r. ⌜ wordIs r ≡ valueIf wanted kind value ⌝ }
+{
+    if kind == wanted {
+        return 4294967296 + value;
+    }
+    0
+}
+
+// One operand more, a literal number or an id or neither, whose record ends there in the log.
+fn noted(u: Used, literal: u64, id: u64, log: usize) -> Used
     requires { ⌜ u .operands ≤ 1000000000 ⌝ }
-    ensures { λ r. ⌜ Noted u operand id log r ⌝ }
+    ensures { λ r. ⌜ Noted u literal id log r ⌝ }
 {
     let rtype = u.rtype;
     let rid = u.rid;
@@ -75,7 +104,7 @@ fn noted(u: Used, operand: Operand, id: Id, log: usize) -> Used
             rid,
             selector: id,
             operands: 1,
-            first: operand,
+            first: literal,
             second,
             log,
             strings,
@@ -88,7 +117,7 @@ fn noted(u: Used, operand: Operand, id: Id, log: usize) -> Used
             selector,
             operands: 2,
             first,
-            second: operand,
+            second: literal,
             log,
             strings,
         };
@@ -105,20 +134,20 @@ fn noted(u: Used, operand: Operand, id: Id, log: usize) -> Used
     }
 }
 
-// A record of a kind and a value, kept or only measured.
-pub fn push(log: &mut [u8], kind: u8, value: u64, u: Used, keep: bool) -> Used
+// A record of a kind and a value, kept where it fits.
+pub fn push(log: &mut [u8], kind: u8, value: u64, u: Used) -> Used
     requires { ⌜ (u .log ≤ 1000000000) × (u .operands ≤ 1000000000) × Fits kind value ⌝ }
-    requires { ⌜ (keep ≡ true → u .log + recordLength (parts kind value) ≤ length (now log)) ⌝ }
     ensures { λ r. ⌜ Pushed kind value u r ⌝ }
-    ensures { λ r. ⌜ now (log .exit) ≡ kept keep (now (log .entry)) (u .log) (recordOf (parts kind value)) ⌝ }
+    ensures { λ r. ⌜ Laid (now (log .entry)) (u .log) (recordOf (parts kind value)) (now (log .exit)) ⌝ }
 {
     let at = u.log;
-    let next = operand::keep_record(log, at, Parts { kind, value }, keep);
-    let id = id_of(kind, value);
-    noted(u, operand::operand_of(kind, value), id, next)
+    let next = operand::keep_record(log, at, Parts { kind, value });
+    let literal = value_if(34, kind, value);
+    let id = value_if(33, kind, value);
+    noted(u, literal, id, next)
 }
 
-// A string's record, and its bytes: those of `s` from a place on.
+// A string's record, and its bytes, those of `s` from a place on: each kept where it fits.
 pub fn push_text(
     log: &mut [u8],
     strings: &mut [u8],
@@ -126,26 +155,17 @@ pub fn push_text(
     from: usize,
     size: usize,
     u: Used,
-    keep: bool,
 ) -> Used
     requires { ⌜ (u .log ≤ 1000000000) × (u .operands ≤ 1000000000) × (u .strings ≤ 1000000000) × (size ≤ 1000000000) ⌝ }
     requires { ⌜ from + size ≤ length (now s) ⌝ }
-    requires { ⌜ (keep ≡ true → u .log + 9 ≤ length (now log)) ⌝ }
-    requires { ⌜ (keep ≡ true → u .strings + size ≤ length (now strings)) ⌝ }
     ensures { λ r. ⌜ Copied size u r ⌝ }
-    ensures { λ r. ⌜ now (log .exit) ≡ kept keep (now (log .entry)) (u .log) (recordOf (parts 40 (u .strings + 4294967296 * size))) ⌝ }
-    ensures { λ r. ⌜ now (strings .exit) ≡ kept keep (now (strings .entry)) (u .strings) (slice from (from + size) (now (s .entry))) ⌝ }
+    ensures { λ r. ⌜ Laid (now (log .entry)) (u .log) (recordOf (parts 40 (u .strings + 4294967296 * size))) (now (log .exit)) ⌝ }
+    ensures { λ r. ⌜ Laid (now (strings .entry)) (u .strings) (slice from (from + size) (now (s .entry))) (now (strings .exit)) ⌝ }
 {
     let start = u.strings;
     let to = from + size;
-    let mut n = push(
-        log,
-        40,
-        (start as u64) + 4294967296 * (size as u64),
-        u,
-        keep,
-    );
-    operand::keep_bytes(strings, start, &s[from..to], keep);
+    let mut n = push(log, 40, (start as u64) + 4294967296 * (size as u64), u);
+    operand::keep_bytes(strings, start, &s[from..to]);
     n.strings = start + size;
     n
 }

@@ -1,7 +1,7 @@
 -- The calls between the crates, which may ask something of their callers: where that is met, any two results that the contract
 -- allows coincide. `Asked` is what the contract's `requires` asks of a caller, `Learnt` what its `ensures` tells one.
 use Prim.Native.Nat.{ℕ}
-use mathlib.Core.Path.{_≡_, refl, ap, sym, _∙_}
+use mathlib.Core.Path.{_≡_, refl, ap₂, sym, _∙_}
 use mathlib.Core.List.{List}
 use native.Mathlib.Omega.{arith}
 use Rattle.spec.specs.Grammar.{Slot}
@@ -36,6 +36,7 @@ use Rattle.operand.proofs.put_word as put-word-call
 use Rattle.operand.proofs.is_two as is-two-call
 use Rattle.operand.proofs.record_length as record-length-call
 use Rattle.operand.proofs.keep_record as keep-record-call
+use Rattle.operand.proofs.put_bytes as put-bytes-call
 use Rattle.operand.proofs.keep_bytes as keep-bytes-call
 use Rattle.listed.proofs.decimal as decimal-call
 use Rattle.listed.proofs.listing as listing-call
@@ -67,9 +68,9 @@ same-resolved i («Type» w s) Unknown e = let z : _≡_ {A = ℕ} 0 1 = cc in a
 same-resolved i Unknown («Type» v r) e = let z : _≡_ {A = ℕ} 0 1 = cc in absurd (omega arith)
 same-resolved i Unknown Unknown e = refl
 
--- trackers, which are a count
-same-tracker : {x y : TypeTracker} → x .count ≡ y .count → x ≡ y
-same-tracker e = ap (λ (n : ℕ). record { count = n }) e
+-- trackers, which are a count and a greatest id
+same-tracker : {x y : TypeTracker} → x .count ≡ y .count → x .greatest ≡ y .greatest → x ≡ y
+same-tracker e f = ap₂ (λ (n g : ℕ). record { count = n; greatest = g }) e f
 
 -- THE CALLS
 
@@ -113,7 +114,7 @@ is-result = λ κs a x y after other ask p q. (both p q, refl)
 
 -- a tracker of no types
 pub tracker-new : Determined tracker-new-call.Kinds.ps tracker-new-call.Kinds.r tracker-new-call.Reads.Asked tracker-new-call.Reads.Learnt
-tracker-new = λ κs a x y after other ask p q. (same-tracker (both p q), refl)
+tracker-new = λ κs a x y after other ask p q. (same-tracker (both (p .0) (q .0)) (both (p .1) (q .1)), refl)
 
 -- the type of an id
 pub tracker-resolve : Determined tracker-resolve-call.Kinds.ps tracker-resolve-call.Kinds.r tracker-resolve-call.Reads.Asked tracker-resolve-call.Reads.Learnt
@@ -123,10 +124,12 @@ tracker-resolve = λ κs a x y after other ask p q. (same-resolved _ x y (both p
 pub tracker-after : Determined tracker-after-call.Kinds.ps tracker-after-call.Kinds.r tracker-after-call.Reads.Asked tracker-after-call.Reads.Learnt
 tracker-after = λ κs a x y after other ask p q. (both p q, refl)
 
--- the tracker and the types after an instruction
+-- the tracker, the types and their hints after an instruction
 pub tracker-track : Determined tracker-track-call.Kinds.ps tracker-track-call.Kinds.r tracker-track-call.Reads.Asked tracker-track-call.Reads.Learnt
-tracker-track = λ κs a x y after other ask p q.
-    (same-tracker (both (p .0) (q .0)), and refl (and (both (p .1) (q .1)) refl))
+tracker-track = λ κs a x y after other ask p q. (
+  same-tracker (both (p .0) (q .0)) (both (p .1 .1 .1 .0) (q .1 .1 .1 .0)),
+  and refl (and (both (p .1 .0) (q .1 .0)) (and (both (p .1 .1 .0) (q .1 .1 .0)) refl)),
+)
 
 -- the words of a record
 pub fields-at : Determined fields-at-call.Kinds.ps fields-at-call.Kinds.r fields-at-call.Reads.Asked fields-at-call.Reads.Learnt
@@ -155,11 +158,15 @@ is-two = λ κs a x y after other ask p q. (both p q, refl)
 pub record-length : Determined record-length-call.Kinds.ps record-length-call.Kinds.r record-length-call.Reads.Asked record-length-call.Reads.Learnt
 record-length = λ κs a x y after other ask p q. (both p q, refl)
 
--- an operand kept in the log
+-- an operand kept in the log where it fits
 pub keep-record : Determined keep-record-call.Kinds.ps keep-record-call.Kinds.r keep-record-call.Reads.Asked keep-record-call.Reads.Learnt
 keep-record = λ κs a x y after other ask p q. (both (p .0) (q .0), and (both (p .1) (q .1)) refl)
 
--- bytes kept in a store
+-- bytes put into a store
+pub put-bytes : Determined put-bytes-call.Kinds.ps put-bytes-call.Kinds.r put-bytes-call.Reads.Asked put-bytes-call.Reads.Learnt
+put-bytes = λ κs a x y after other ask p q. (refl, and (both p q) refl)
+
+-- bytes kept in a store where they fit
 pub keep-bytes : Determined keep-bytes-call.Kinds.ps keep-bytes-call.Kinds.r keep-bytes-call.Reads.Asked keep-bytes-call.Reads.Learnt
 keep-bytes = λ κs a x y after other ask p q. (refl, and (both p q) refl)
 

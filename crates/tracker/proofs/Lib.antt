@@ -4,3 +4,4 @@ pub mod Literal
 pub mod Changes
 pub mod Growth
 pub mod Instruction
+pub mod Hinting

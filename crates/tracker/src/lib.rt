@@ -1,15 +1,19 @@
 // Type tracking: ids and their types, kept as entries of three words in a lent store.
 ghost use mathlib.Core.Path.{_≡_};
 ghost use mathlib.Core.List.{List, _∷_, []};
-ghost use Prim.Native.Nat.{_+_, _*_, _≤_};
+ghost use Prim.Native.Nat.{_+_, _*_, _<_, _≤_};
 ghost use lib.ListN.{length};
 ghost use lib.Seq.{sets};
 ghost use Rattle.spec.specs.Records.{Entry};
 ghost use Rattle.spec.specs.Types.{entryOf, define, trackValue};
 ghost use Rattle.tracker.specs.Entries.{entriesOf, stored, placeOf, typeAt, resolvedIs};
+ghost use Rattle.tracker.specs.Hints.{hintOf, noted, newOf, hintsWith, greaterOf, greatestWith, Hinted};
 ghost use Rattle.tracker.specs.Track.{idIs, literalOf, intOf, floatOf, typeOf, trackOf, changed};
 use operand::Operand;
 use spec::Found;
+
+// More entries than this have no hints, as a hint has 32 bits.
+const MOST_HINTED: usize = 4294967296;
 
 // An id that is there or not: a result type or a result id.
 pub enum Id {
@@ -29,13 +33,14 @@ enum Change {
     Nothing,
 }
 
-// How many entries there are in the store, which is lent to each call.
+// How many entries there are in the store, which is lent to each call, and an id above which none has an entry.
 pub struct TypeTracker {
     pub count: usize,
+    pub greatest: u32,
 }
 
-// Where an id's entry stands among the first `count`.
-fn find(types: &[u32], count: usize, id: u32) -> Found
+// Where an id's entry stands among the first `count`, by a look at each.
+fn scan(types: &[u32], count: usize, id: u32) -> Found
     requires { ⌜ 3 * count ≤ length (now types) ⌝ }
     ensures { λ r. ⌜ r ≡ placeOf id (entriesOf count (now (types .entry))) ⌝ }
 {
@@ -47,6 +52,62 @@ fn find(types: &[u32], count: usize, id: u32) -> Found
         i += 1;
     }
     Found::Nothing
+}
+
+// The entry that the hint of an id names, where that is the id's own.
+fn tested(types: &[u32], count: usize, hints: &[u32], id: u32) -> Found
+    requires { ⌜ (3 * count ≤ length (now types)) × (id < length (now hints)) ⌝ }
+    ensures { λ r. ⌜ r ≡ hintOf count (now (types .entry)) (now (hints .entry)) id ⌝ }
+{
+    let at = id as usize;
+    let h = hints[at] as usize;
+    if h < count {
+        let own = types[3 * h];
+        if own == id {
+            return Found::At(h);
+        }
+    }
+    Found::Nothing
+}
+
+// Where an id's entry stands: an id above the greatest has none, and one that has a hint stands where that says.
+fn find(types: &[u32], count: usize, hints: &[u32], greatest: u32, id: u32) -> Found
+    requires { ⌜ 3 * count ≤ length (now types) ⌝ }
+    requires { ⌜ Hinted count (now types) (now hints) greatest ⌝ }
+    ensures { λ r. ⌜ r ≡ placeOf id (entriesOf count (now (types .entry))) ⌝ }
+{
+    if greatest < id {
+        return Found::Nothing;
+    }
+    let at = id as usize;
+    if at < hints.len() {
+        if count <= MOST_HINTED {
+            return tested(types, count, hints, id);
+        }
+    }
+    scan(types, count, id)
+}
+
+// Notes the index of an id's entry as its hint, where there is one for it.
+fn note(hints: &mut [u32], id: u32, index: usize)
+    ensures { λ _. ⌜ now (hints .exit) ≡ noted (now (hints .entry)) id index ⌝ }
+{
+    let at = id as usize;
+    if at < hints.len() {
+        if index < MOST_HINTED {
+            hints[at] = index as u32;
+        }
+    }
+}
+
+// The greater of two ids.
+fn greater(a: u32, b: u32) -> u32
+    ensures { λ r. ⌜ r ≡ greaterOf a b ⌝ }
+{
+    if a < b {
+        return b;
+    }
+    a
 }
 
 // The type that the entry at an index says.
@@ -117,17 +178,21 @@ fn track_type(opcode: u16, id: u32, count: usize, first: Operand, second: Operan
 impl TypeTracker {
     // No entries.
     pub fn new() -> TypeTracker
-        ensures { λ r. ⌜ r .count ≡ 0 ⌝ }
+        ensures { λ r. ⌜ (r .count ≡ 0) × (r .greatest ≡ 0) ⌝ }
     {
-        TypeTracker { count: 0 }
+        TypeTracker {
+            count: 0,
+            greatest: 0,
+        }
     }
 
     // The type of an id.
-    pub fn resolve(self, types: &[u32], id: u32) -> Resolved
+    pub fn resolve(self, types: &[u32], hints: &[u32], id: u32) -> Resolved
         requires { ⌜ 3 * self .count ≤ length (now types) ⌝ }
+        requires { ⌜ Hinted (self .count) (now types) (now hints) (self .greatest) ⌝ }
         ensures { λ r. ⌜ resolvedIs id r ≡ entryOf id (entriesOf (self .count) (now (types .entry))) ⌝ }
     {
-        let found = find(types, self.count, id);
+        let found = find(types, self.count, hints, self.greatest, id);
         let Found::At(i) = found else {
             return Resolved::Unknown;
         };
@@ -135,15 +200,16 @@ impl TypeTracker {
     }
 
     // A result that is no type: it has the type of its result type, where that is known.
-    fn track_value(self, types: &[u32], id: u32, rtype: Id) -> Change
+    fn track_value(self, types: &[u32], hints: &[u32], id: u32, rtype: Id) -> Change
         requires { ⌜ 3 * self .count ≤ length (now types) ⌝ }
+        requires { ⌜ Hinted (self .count) (now types) (now hints) (self .greatest) ⌝ }
         ensures { λ r. ⌜ changed r (entriesOf (self .count) (now (types .entry)))
             ≡ trackValue id (idIs rtype) (entriesOf (self .count) (now (types .entry))) ⌝ }
     {
         let Id::Is(t) = rtype else {
             return Change::Nothing;
         };
-        let resolved = self.resolve(types, t);
+        let resolved = self.resolve(types, hints, t);
         let Resolved::Type { width, sort } = resolved else {
             return Change::Nothing;
         };
@@ -154,6 +220,7 @@ impl TypeTracker {
     fn change(
         self,
         types: &[u32],
+        hints: &[u32],
         opcode: u16,
         rtype: Id,
         rid: Id,
@@ -162,6 +229,7 @@ impl TypeTracker {
         second: Operand,
     ) -> Change
         requires { ⌜ 3 * self .count ≤ length (now types) ⌝ }
+        requires { ⌜ Hinted (self .count) (now types) (now hints) (self .greatest) ⌝ }
         ensures { λ r. ⌜ changed r (entriesOf (self .count) (now (types .entry)))
             ≡ trackOf opcode (idIs rtype) (idIs rid) count (literalOf first) (literalOf second)
             (entriesOf (self .count) (now (types .entry))) ⌝ }
@@ -172,13 +240,14 @@ impl TypeTracker {
         if reflect::is_type(opcode) {
             return track_type(opcode, id, count, first, second);
         }
-        self.track_value(types, id, rtype)
+        self.track_value(types, hints, id, rtype)
     }
 
     // How many entries there are after an instruction, before anything is stored.
     pub fn after(
         self,
         types: &[u32],
+        hints: &[u32],
         opcode: u16,
         rtype: Id,
         rid: Id,
@@ -187,11 +256,12 @@ impl TypeTracker {
         second: Operand,
     ) -> usize
         requires { ⌜ 3 * self .count ≤ length (now types) ⌝ }
+        requires { ⌜ Hinted (self .count) (now types) (now hints) (self .greatest) ⌝ }
         ensures { λ r. ⌜ r ≡ length (trackOf opcode (idIs rtype) (idIs rid) count (literalOf first) (literalOf second)
             (entriesOf (self .count) (now (types .entry)))) ⌝ }
     {
         let entries = self.count;
-        let change = self.change(types, opcode, rtype, rid, count, first, second);
+        let change = self.change(types, hints, opcode, rtype, rid, count, first, second);
         let Change::Define {
             id,
             width: _,
@@ -200,7 +270,7 @@ impl TypeTracker {
         else {
             return entries;
         };
-        let found = find(types, entries, id);
+        let found = find(types, entries, hints, self.greatest, id);
         let Found::At(_) = found else {
             return entries + 1;
         };
@@ -208,17 +278,31 @@ impl TypeTracker {
     }
 
     // "The last definition of an id holds, in the same entry"; a new id's entry comes last.
-    fn define(mut self, types: &mut [u32], id: u32, width: u32, sort: u32) -> TypeTracker
+    fn define(
+        mut self,
+        types: &mut [u32],
+        hints: &mut [u32],
+        id: u32,
+        width: u32,
+        sort: u32,
+    ) -> TypeTracker
         requires { ⌜ 3 * self .count ≤ length (now types) ⌝ }
+        requires { ⌜ Hinted (self .count) (now types) (now hints) (self .greatest) ⌝ }
         requires { ⌜ 3 * length (define id width sort (entriesOf (self .count) (now types))) ≤ length (now types) ⌝ }
         ensures { λ r. ⌜ r .count ≡ length (define id width sort (entriesOf (self .count) (now (types .entry)))) ⌝ }
         ensures { λ _. ⌜ now (types .exit) ≡ stored (now (types .entry)) (define id width sort (entriesOf (self .count) (now (types .entry)))) ⌝ }
+        ensures { λ _. ⌜ now (hints .exit) ≡ hintsWith (self .count) (newOf (self .count) (define id width sort (entriesOf (self .count) (now (types .entry))))) (now (hints .entry)) ⌝ }
+        ensures { λ r. ⌜ r .greatest ≡ greatestWith (newOf (self .count) (define id width sort (entriesOf (self .count) (now (types .entry))))) (self .greatest) ⌝ }
+        ensures { λ r. ⌜ Hinted (r .count) (now (types .exit)) (now (hints .exit)) (r .greatest) ⌝ }
     {
         let count = self.count;
-        let found = find(types, count, id);
+        let greatest = self.greatest;
+        let found = find(types, count, hints, greatest, id);
         let Found::At(i) = found else {
             put_entry(types, count, id, width, sort);
+            note(hints, id, count);
             self.count = count + 1;
+            self.greatest = greater(greatest, id);
             return self;
         };
         put_entry(types, i, id, width, sort);
@@ -229,6 +313,7 @@ impl TypeTracker {
     pub fn track(
         self,
         types: &mut [u32],
+        hints: &mut [u32],
         opcode: u16,
         rtype: Id,
         rid: Id,
@@ -236,17 +321,23 @@ impl TypeTracker {
         first: Operand,
         second: Operand,
     ) -> TypeTracker
+        requires { ⌜ Hinted (self .count) (now types) (now hints) (self .greatest) ⌝ }
         requires { ⌜ 3 * length (trackOf opcode (idIs rtype) (idIs rid) count (literalOf first) (literalOf second)
             (entriesOf (self .count) (now types))) ≤ length (now types) ⌝ }
         ensures { λ r. ⌜ r .count ≡ length (trackOf opcode (idIs rtype) (idIs rid) count (literalOf first) (literalOf second)
             (entriesOf (self .count) (now (types .entry)))) ⌝ }
         ensures { λ _. ⌜ now (types .exit) ≡ stored (now (types .entry)) (trackOf opcode (idIs rtype) (idIs rid) count (literalOf first) (literalOf second)
             (entriesOf (self .count) (now (types .entry)))) ⌝ }
+        ensures { λ _. ⌜ now (hints .exit) ≡ hintsWith (self .count) (newOf (self .count) (trackOf opcode (idIs rtype) (idIs rid) count (literalOf first) (literalOf second)
+            (entriesOf (self .count) (now (types .entry))))) (now (hints .entry)) ⌝ }
+        ensures { λ r. ⌜ r .greatest ≡ greatestWith (newOf (self .count) (trackOf opcode (idIs rtype) (idIs rid) count (literalOf first) (literalOf second)
+            (entriesOf (self .count) (now (types .entry))))) (self .greatest) ⌝ }
+        ensures { λ r. ⌜ Hinted (r .count) (now (types .exit)) (now (hints .exit)) (r .greatest) ⌝ }
     {
-        let change = self.change(types, opcode, rtype, rid, count, first, second);
+        let change = self.change(types, hints, opcode, rtype, rid, count, first, second);
         let Change::Define { id, width, sort } = change else {
             return self;
         };
-        self.define(types, id, width, sort)
+        self.define(types, hints, id, width, sort)
     }
 }

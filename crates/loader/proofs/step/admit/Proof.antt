@@ -7,7 +7,7 @@ use Rattle.loader.proofs.step.admit.Statement.{statement}
 use Rattle.loader.proofs.step.admit.Tie as tie
 
 place-requires : tie.Need-place-requires
-place-requires c κs = c .before .pre .1
+place-requires c κs = c .before .before .pre .1 .0
 
 enum-known-cell : tie.Need-enum-known-cell
 enum-known-cell c = search needs
@@ -22,7 +22,7 @@ enum-known-cell-2 : tie.Need-enum-known-cell-2
 enum-known-cell-2 c = search needs
 
 need-after-requires : tie.Need-need-after-requires
-need-after-requires c κs = c .before .before .before .before .before .pre .0
+need-after-requires c κs = (c .before .before .before .before .before .before .pre .0, c .before .before .before .before .before .before .pre .1 .1)
 
 room-fault-requires : tie.Need-room-fault-requires
 room-fault-requires c κs = search needs

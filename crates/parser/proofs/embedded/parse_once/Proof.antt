@@ -10,18 +10,18 @@ use Rattle.spec.specs.Match.{embeds, readOnce}
 use Rattle.decoder.specs.Answer.{readerOf}
 use Rattle.parser.specs.Parse.{isOperand, slotsAt}
 use Rattle.parser.proofs.Carried.{indexed-short}
-use Rattle.parser.proofs.Walk.{good-told, same-log, same-strings}
-use Rattle.parser.proofs.Values.{Running, begins, ends, may-next, turn, stops}
+use Rattle.parser.proofs.Walk.{good-told}
+use Rattle.parser.proofs.Values.{Running, begins, ends, turn, stops}
 use Rattle.parser.proofs.Once.{slot-told, end-told, three-told, end-past, inner-first, inner-rest, once-none, once-next}
 use borrow.Author.Needs.{needs}
 use Rattle.parser.proofs.embedded.parse_once.Statement.{statement}
 use Rattle.parser.proofs.embedded.parse_once.Tie as tie
 
 abbrev Inv-loop : tie.InvT-loop
-Inv-loop s g index place log₀ strings₀ keep d₀ u₀ p₀ log strings d u p = Running s (readOnce (grammarOf g) (slotsAt g place) (readerOf s d₀)) keep log₀ strings₀ log strings u₀ d₀ d u (readOnce (grammarOf g) (slotsAt g p)) × (p ≤ length g) × ((every isOperand (slotsAt g p) ≡ true) × (every embeds (slotsAt g p) ≡ true))
+Inv-loop s g index place log₀ strings₀ d₀ u₀ p₀ log strings d u p = Running s (readOnce (grammarOf g) (slotsAt g place) (readerOf s d₀)) log₀ strings₀ log strings u₀ d₀ d u (readOnce (grammarOf g) (slotsAt g p)) × (p ≤ length g) × ((every isOperand (slotsAt g p) ≡ true) × (every embeds (slotsAt g p) ≡ true))
 
 abbrev μ-loop : tie.MeasureT-loop
-μ-loop s g index place log₀ strings₀ keep d₀ u₀ p₀ log strings d u p = length g - p
+μ-loop s g index place log₀ strings₀ d₀ u₀ p₀ log strings d u p = length g - p
 
 pub parse-once-spec : {M : Type 1} → statement M
 parse-once-spec =
@@ -29,22 +29,22 @@ parse-once-spec =
     (tie.spec
     Inv-loop
     μ-loop
-    (λ c. (begins _ _ _ _ _ _ _ (c .before .before .before .before .before .pre .1 .0 .0), c .before .before .before .before .before .pre .1 .0 .1, (c .before .before .before .before .before .pre .1 .0 .2, c .before .before .before .before .before .pre .1 .0 .3)))
+    (λ c. (begins _ _ _ _ _ _ (c .before .before .before .before .before .pre .1 .0), c .before .before .before .before .before .pre .1 .1, (c .before .before .before .before .before .pre .1 .2, c .before .before .before .before .before .pre .1 .3)))
     (λ c κs. search needs)
     (λ c. search needs)
     (λ c. search needs)
-    (λ c. same-log (c .before .before .before .before .loop .inv .0 .held))
-    (λ c. same-strings (c .before .before .before .before .loop .inv .0 .held))
+    (λ c. c .before .before .before .before .loop .inv .0 .held .log-laid .same)
+    (λ c. c .before .before .before .before .loop .inv .0 .held .strings-laid .same)
     (λ c. ends (c .before .before .before .before .loop .inv .0) (once-none _ _ _ (end-told _ _ _ (c .before .before .slot-at .ensures .0) (c .enum-told .given .1))))
-    (λ c κs. (c .before .before .before .before .before .before .before .before .before .before .before .before .before .pre .0, ((c .before .before .before .before .before .before .before .loop .inv .0 .few, inner-first _ _ _ _ (slot-told _ _ _ (c .before .before .before .before .before .slot-at .ensures .0) _ _ (c .before .before .before .x .given .1)) (c .before .before .before .before .before .before .before .loop .inv .2 .0) (c .before .before .before .before .before .before .before .loop .inv .2 .1)), may-next (c .before .before .before .before .before .before .before .loop .inv .0) _ _ (once-next _ _ _ _ _ _ (slot-told _ _ _ (c .before .before .before .before .before .slot-at .ensures .0) _ _ (c .before .before .before .x .given .1))) (c .before .before .before .before .before .before .before .before .before .before .before .before .before .pre .1 .1))))
+    (λ c κs. (c .before .before .before .before .before .before .before .before .before .before .before .before .before .pre .0, (c .before .before .before .before .before .before .before .loop .inv .0 .few, inner-first _ _ _ _ (slot-told _ _ _ (c .before .before .before .before .before .slot-at .ensures .0) _ _ (c .before .before .before .x .given .1)) (c .before .before .before .before .before .before .before .loop .inv .2 .0) (c .before .before .before .before .before .before .before .loop .inv .2 .1))))
     (λ c. search needs)
     (λ c. search needs)
-    (λ c. c .before .before .before .before .before .before .parse-inner .kept .1 .1 .1 .1 .1 .0 ∙ same-log (c .before .before .before .before .before .before .before .before .before .before .before .before .before .before .loop .inv .0 .held))
-    (λ c. c .before .before .before .before .before .before .parse-inner .kept .1 .1 .1 .1 .1 .1 .0 ∙ same-strings (c .before .before .before .before .before .before .before .before .before .before .before .before .before .before .loop .inv .0 .held))
-    (λ c. stops (c .before .before .before .before .before .before .before .before .before .before .before .before .before .before .loop .inv .0) _ _ (once-next _ _ _ _ _ _ (slot-told _ _ _ (c .before .before .before .before .before .before .before .before .before .before .before .before .slot-at .ensures .0) _ _ (c .before .before .before .before .before .before .before .before .before .before .x .given .1))) _ _ _ _ _ _ (c .before .before .before .before .before .before .before .before .before .before .before .before .before .before .before .before .before .before .before .before .pre .1 .1) (c .before .before .before .before .before .before .parse-inner .ensures) (c .enum-told2 .given .1))
+    (λ c. c .before .before .before .before .before .before .parse-inner .kept .1 .1 .1 .1 .1 .0 ∙ c .before .before .before .before .before .before .before .before .before .before .before .before .before .before .loop .inv .0 .held .log-laid .same)
+    (λ c. c .before .before .before .before .before .before .parse-inner .kept .1 .1 .1 .1 .1 .1 .0 ∙ c .before .before .before .before .before .before .before .before .before .before .before .before .before .before .loop .inv .0 .held .strings-laid .same)
+    (λ c. stops (c .before .before .before .before .before .before .before .before .before .before .before .before .before .before .loop .inv .0) _ _ (once-next _ _ _ _ _ _ (slot-told _ _ _ (c .before .before .before .before .before .before .before .before .before .before .before .before .slot-at .ensures .0) _ _ (c .before .before .before .before .before .before .before .before .before .before .x .given .1))) _ _ _ _ _ _ (c .before .before .before .before .before .before .parse-inner .ensures) (c .enum-told2 .given .1))
     (λ c. omega (arith, c .before .before .before .before .before .before .before .before .before .before .before .before .before .before .loop-test .taken, indexed-short _ _ (c .before .before .before .before .before .before .before .before .before .before .before .before .before .before .before .before .before .before .before .before .before .pre .0)))
     (λ c. omega (arith, three-told _ _ _ _ (c .before .before .before .before .before .before .before .before .before .before .before .before .before .slot-at .ensures .1) (c .before .before .before .before .before .before .before .before .before .before .before .x .given .1)))
     (λ c. (turn (c .before .before .before .before .before .before .before .before .before .before .before .before .before .before .before .loop .inv .0) _ _ (once-next _ _ _ _ _ _ (slot-told _ _ _ (c .before .before .before .before .before .before .before .before .before .before .before .before .before .slot-at .ensures .0) _ _ (c .before .before .before .before .before .before .before .before .before .before .before .x .given .1))) (good-told _ _ _ (c .before .before .before .before .before .before .before .parse-inner .ensures) (c .before .r .given .1)), omega (arith, three-told _ _ _ _ (c .before .before .before .before .before .before .before .before .before .before .before .before .before .slot-at .ensures .1) (c .before .before .before .before .before .before .before .before .before .before .before .x .given .1)), inner-rest _ _ _ _ (slot-told _ _ _ (c .before .before .before .before .before .before .before .before .before .before .before .before .before .slot-at .ensures .0) _ _ (c .before .before .before .before .before .before .before .before .before .before .before .x .given .1)) (c .before .before .before .before .before .before .before .before .before .before .before .before .before .before .before .loop .inv .2 .0) (c .before .before .before .before .before .before .before .before .before .before .before .before .before .before .before .loop .inv .2 .1)))
-    (λ c. same-log (c .before .loop .inv .0 .held))
-    (λ c. same-strings (c .before .loop .inv .0 .held))
+    (λ c. c .before .loop .inv .0 .held .log-laid .same)
+    (λ c. c .before .loop .inv .0 .held .strings-laid .same)
     (λ c. ends (c .before .loop .inv .0) (once-none _ _ _ (end-past _ _ (c .loop-test .left)))))

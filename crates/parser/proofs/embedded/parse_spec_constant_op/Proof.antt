@@ -3,8 +3,8 @@ use mathlib.Core.Path.{refl, sym, _∙_}
 use native.Mathlib.Omega.{arith}
 use borrow.Author.Tests.{not-false}
 use Rattle.parser.proofs.Carried.{indexed-short, row-operands}
-use Rattle.parser.proofs.Walk.{deny, step-went, may-tail, seq}
-use Rattle.parser.proofs.One.{few-small, few-pushed, held-narrow, narrow-room, step-word}
+use Rattle.parser.proofs.Walk.{deny, step-went, seq}
+use Rattle.parser.proofs.One.{few-small, few-pushed, held-narrow, step-word}
 use Rattle.parser.proofs.Values.{place-told}
 use Rattle.parser.proofs.Once.{embedded-bad, embedded-none, embedded-barred, embedded-row, row-told, number-fits}
 use borrow.Author.Needs.{needs}
@@ -23,14 +23,14 @@ parse-spec-constant-op-spec =
     (λ c. search needs)
     (λ c. search needs)
     (λ c κs. search needs)
-    (λ c. deny _ _ _ _ _ _ _ _ _ _ _ (c .bad .ensures) (embedded-none _ _ _ _ _ (sym (c .before .before .before .before .before .w2 .given .1) ∙ c .before .before .before .before .before .before .before .word .ensures) _ (c .before .before .before .find-row .ensures .0) (c .before .enum-told .given .1)))
+    (λ c. deny _ _ _ _ _ _ _ _ _ _ _ _ (c .bad .ensures) (embedded-none _ _ _ _ _ (sym (c .before .before .before .before .before .w2 .given .1) ∙ c .before .before .before .before .before .before .before .word .ensures) _ (c .before .before .before .find-row .ensures .0) (c .before .enum-told .given .1)))
     (λ c κs. (indexed-short _ _ (c .before .before .before .before .before .before .before .before .before .before .before .before .before .pre .0), place-told _ _ _ (c .before .before .before .find-row .ensures .1) (c .before .found .given .1)))
     (λ c κs. search needs)
-    (λ c. deny _ _ _ _ _ _ _ _ _ _ _ (c .bad2 .ensures) (embedded-barred _ _ _ _ _ (sym (c .before .before .before .before .before .before .before .before .w2 .given .1) ∙ c .before .before .before .before .before .before .before .before .before .before .word .ensures) _ (c .before .before .before .before .before .before .find-row .ensures .0) _ (c .before .before .before .before .found .given .1) _ (c .before .before .may-embed .ensures) (c .before .if1 .taken)))
+    (λ c. deny _ _ _ _ _ _ _ _ _ _ _ _ (c .bad2 .ensures) (embedded-barred _ _ _ _ _ (sym (c .before .before .before .before .before .before .before .before .w2 .given .1) ∙ c .before .before .before .before .before .before .before .before .before .before .word .ensures) _ (c .before .before .before .before .before .before .find-row .ensures .0) _ (c .before .before .before .before .found .given .1) _ (c .before .before .may-embed .ensures) (c .before .if1 .taken)))
     (λ c. search needs)
-    (λ c κs. let s = few-small _ _ _ (c .before .before .before .before .before .before .before .before .before .before .before .before .before .before .before .before .pre .1 .0) in ((s .0, s .1, number-fits _), narrow-room _ _ _ _ _ _ _ _ refl (c .before .before .before .before .before .before .before .before .before .before .before .before .before .before .before .before .pre .1 .1) (embedded-row _ _ _ _ _ (sym (c .before .before .before .before .before .before .before .before .w2 .given .1) ∙ c .before .before .before .before .before .before .before .before .before .before .word .ensures) _ (c .before .before .before .before .before .before .find-row .ensures .0) _ (c .before .before .before .before .found .given .1) _ (c .before .before .may-embed .ensures) (c .before .if1 .left))))
-    (λ c κs. let h = (sym (c .before .before .before .before .before .before .before .before .before .before .before .before .before .w2 .given .1) ∙ c .before .before .before .before .before .before .before .before .before .before .before .before .before .before .before .word .ensures) in let t = row-told _ _ _ _ (c .before .before .before .before .before .before .before .before .before .before .before .find-row .ensures .0) (c .before .before .before .before .before .before .before .before .before .found .given .1) in (c .before .before .before .before .before .before .before .before .before .before .before .before .before .before .before .before .before .before .before .before .before .pre .0, ((few-pushed _ _ _ _ _ _ _ _ (c .before .before .before .before .before .before .before .before .before .before .before .before .before .before .before .before .before .before .before .before .before .pre .1 .0) (step-word _ _ _ _ h) (omega arith) (c .before .before .before .before .push .ensures .0), place-told _ _ _ (c .before .before .before .before .before .before .before .before .before .before .before .find-row .ensures .1) (c .before .before .before .before .before .before .before .before .before .found .given .1), row-operands _ _ (c .before .before .before .before .before .before .before .before .before .before .before .before .before .before .before .before .before .before .before .before .before .pre .0) _ _ t, sym (c .before .before .before .before .before .before .before .may-embed .ensures) ∙ not-false _ (c .before .before .before .before .before .before .if1 .left)), may-tail (held-narrow _ _ (c .before .before .before .before .before .before .before .before .before .before .before .before .before .before .before .before .before .before .before .before .before .args .strings .now) _ _ _ _ _ refl (c .before .before .before .before .push .ensures .0) (c .before .before .before .before .push .ensures .1)) _ _ (c .before .before .before .before .before .before .before .before .before .before .before .before .before .before .before .before .before .before .before .before .before .pre .1 .1) (embedded-row _ _ _ _ _ h _ (c .before .before .before .before .before .before .before .before .before .before .before .find-row .ensures .0) _ (c .before .before .before .before .before .before .before .before .before .found .given .1) _ (c .before .before .before .before .before .before .before .may-embed .ensures) (c .before .before .before .before .before .before .if1 .left)))))
-    (λ c. deny _ _ _ _ _ _ _ _ _ _ _ refl (embedded-bad _ _ _ _ _ (sym (c .before .w .given .1) ∙ c .before .before .before .word .ensures)))
+    (λ c κs. let s = few-small _ _ _ (c .before .before .before .before .before .before .before .before .before .before .before .before .before .before .before .before .pre .1) in (s .0, s .1, number-fits _))
+    (λ c κs. let h = (sym (c .before .before .before .before .before .before .before .before .before .before .before .before .before .w2 .given .1) ∙ c .before .before .before .before .before .before .before .before .before .before .before .before .before .before .before .word .ensures) in let t = row-told _ _ _ _ (c .before .before .before .before .before .before .before .before .before .before .before .find-row .ensures .0) (c .before .before .before .before .before .before .before .before .before .found .given .1) in (c .before .before .before .before .before .before .before .before .before .before .before .before .before .before .before .before .before .before .before .before .before .pre .0, (few-pushed _ _ _ _ _ _ _ _ (c .before .before .before .before .before .before .before .before .before .before .before .before .before .before .before .before .before .before .before .before .before .pre .1) (step-word _ _ _ _ h) (omega arith) (c .before .before .before .before .push .ensures .0), place-told _ _ _ (c .before .before .before .before .before .before .before .before .before .before .before .find-row .ensures .1) (c .before .before .before .before .before .before .before .before .before .found .given .1), row-operands _ _ (c .before .before .before .before .before .before .before .before .before .before .before .before .before .before .before .before .before .before .before .before .before .pre .0) _ _ t, sym (c .before .before .before .before .before .before .before .may-embed .ensures) ∙ not-false _ (c .before .before .before .before .before .before .if1 .left))))
+    (λ c. deny _ _ _ _ _ _ _ _ _ _ _ _ refl (embedded-bad _ _ _ _ _ (sym (c .before .w .given .1) ∙ c .before .before .before .word .ensures)))
     (λ c. search needs)
     (λ c. search needs)
-    (λ c. let h = (sym (c .before .before .before .before .before .before .before .before .before .before .before .before .before .before .before .before .before .before .w2 .given .1) ∙ c .before .before .before .before .before .before .before .before .before .before .before .before .before .before .before .before .before .before .before .before .word .ensures) in seq (held-narrow _ _ _ _ _ _ _ _ refl (c .before .before .before .before .before .before .before .before .before .push .ensures .0) (c .before .before .before .before .before .before .before .before .before .push .ensures .1)) _ _ _ _ _ _ (step-went _ _ _ _ (step-word _ _ _ _ h) _ (c .before .before .before .before .before .before .before .before .before .before .before .before .before .before .before .before .before .before .before .before .before .before .before .before .before .before .pre .1 .0 .limited)) (c .before .before .before .before .before .before .before .before .before .before .before .before .before .before .before .before .before .before .before .before .before .before .before .before .before .before .pre .1 .1) (embedded-row _ _ _ _ _ h _ (c .before .before .before .before .before .before .before .before .before .before .before .before .before .before .before .before .find-row .ensures .0) _ (c .before .before .before .before .before .before .before .before .before .before .before .before .before .before .found .given .1) _ (c .before .before .before .before .before .before .before .before .before .before .before .before .may-embed .ensures) (c .before .before .before .before .before .before .before .before .before .before .before .if1 .left)) _ (c .before .before .before .before .parse-once .ensures)))
+    (λ c. let h = (sym (c .before .before .before .before .before .before .before .before .before .before .before .before .before .before .before .before .before .before .w2 .given .1) ∙ c .before .before .before .before .before .before .before .before .before .before .before .before .before .before .before .before .before .before .before .before .word .ensures) in seq (held-narrow _ _ _ _ _ _ _ refl (c .before .before .before .before .before .before .before .before .before .push .ensures .0) (c .before .before .before .before .before .before .before .before .before .push .ensures .1)) _ _ _ _ _ _ (step-went _ _ _ _ (step-word _ _ _ _ h) _ (c .before .before .before .before .before .before .before .before .before .before .before .before .before .before .before .before .before .before .before .before .before .before .before .before .before .before .pre .1 .limited)) (embedded-row _ _ _ _ _ h _ (c .before .before .before .before .before .before .before .before .before .before .before .before .before .before .before .before .find-row .ensures .0) _ (c .before .before .before .before .before .before .before .before .before .before .before .before .before .before .found .given .1) _ (c .before .before .before .before .before .before .before .before .before .before .before .before .may-embed .ensures) (c .before .before .before .before .before .before .before .before .before .before .before .if1 .left)) _ (c .before .before .before .before .parse-once .ensures)))

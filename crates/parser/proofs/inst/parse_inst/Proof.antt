@@ -1,6 +1,6 @@
 -- `parser::inst::parse_inst` meets its contract. Assumes nothing.
-use Rattle.parser.proofs.InstLaws.{some-words, word-inside, place-told, same-may-inst, same-decodes, inst-no-word, inst-zero, inst-unknown, inst-row}
-use mathlib.Core.Path.{sym, _∙_}
+use Rattle.parser.proofs.InstLaws.{some-words, word-inside, place-told, row-refused, inst-no-word, inst-zero, inst-unknown, inst-by}
+use mathlib.Core.Path.{refl, sym, _∙_}
 use borrow.Author.Needs.{needs}
 use Rattle.parser.proofs.inst.parse_inst.Statement.{statement}
 use Rattle.parser.proofs.inst.parse_inst.Tie as tie
@@ -15,15 +15,15 @@ parse-inst-spec =
     (λ c. search needs)
     (λ c. search needs)
     (λ c κs. search needs)
-    (λ c. inst-zero _ _ _ _ _ _ (sym (c .before .before .before .first2 .given .1) ∙ c .before .before .before .before .before .word .ensures) _ _ _ _ _ _ (c .before .if1 .taken) (c .no-inst .ensures))
+    (λ c. (inst-zero _ _ _ _ _ _ _ _ _ _ _ _ (sym (c .before .before .before .first2 .given .1) ∙ c .before .before .before .before .before .word .ensures) _ (c .before .if1 .taken) (c .no-inst .ensures), row-refused _ _ _ _ _ _ _ (c .no-inst .ensures)))
     (λ c κs. search needs)
     (λ c. search needs)
     (λ c. search needs)
     (λ c. search needs)
     (λ c κs. search needs)
-    (λ c. inst-unknown _ _ _ _ _ _ (sym (c .before .before .before .before .before .before .first2 .given .1) ∙ c .before .before .before .before .before .before .before .before .word .ensures) (c .before .before .before .before .if1 .left) _ (c .before .before .before .find-row .ensures .0) _ _ _ _ _ _ (c .before .enum-told .given .1) (c .no-inst2 .ensures))
-    (λ c κs. let w = (sym (c .before .before .before .before .before .before .before .before .first2 .given .1) ∙ c .before .before .before .before .before .before .before .before .before .before .word .ensures) in (c .before .before .before .before .before .before .before .before .before .before .before .before .before .before .before .before .before .pre .0, ((c .before .before .before .before .before .before .before .before .before .before .before .before .before .before .before .before .before .pre .1 .0 .0, word-inside _ _ _ _ w, some-words _ (c .before .before .before .before .before .before .if1 .left), c .before .before .before .before .before .before .before .before .before .before .before .before .before .before .before .before .before .pre .1 .0 .2), (c .before .before .before .before .before .before .before .before .before .before .before .before .before .before .before .before .before .pre .1 .1 .0, (place-told _ _ (c .before .before .before .before .before .before .before .before .before .before .before .before .before .before .before .before .before .pre .0) _ _ _ (c .before .before .before .before .before .find-row .ensures .0) (c .before .before .before .before .before .find-row .ensures .1) (c .before .before .before .row .given .1), same-may-inst _ _ _ _ _ _ _ (inst-row _ _ _ _ _ _ w (c .before .before .before .before .before .before .if1 .left) _ (c .before .before .before .before .before .find-row .ensures .0) _ (c .before .before .before .row .given .1)) (c .before .before .before .before .before .before .before .before .before .before .before .before .before .before .before .before .before .pre .1 .1 .1))))))
-    (λ c. inst-no-word _ _ _ _ _ _ _ _ _ _ _ (sym (c .before .first .given .1) ∙ c .before .before .before .word .ensures))
+    (λ c. (inst-unknown _ _ _ _ _ _ (sym (c .before .before .before .before .before .before .first2 .given .1) ∙ c .before .before .before .before .before .before .before .before .word .ensures) (c .before .before .before .before .if1 .left) _ (c .before .before .before .find-row .ensures .0) _ _ _ _ _ _ _ (c .before .enum-told .given .1) (c .no-inst2 .ensures), row-refused _ _ _ _ _ _ _ (c .no-inst2 .ensures)))
+    (λ c κs. (c .before .before .before .before .before .before .before .before .before .before .before .before .before .before .before .before .before .before .pre .0, ((c .before .before .before .before .before .before .before .before .before .before .before .before .before .before .before .before .before .before .pre .1 .0 .0, word-inside _ _ _ _ (sym (c .before .before .before .before .before .before .before .before .first2 .given .1) ∙ c .before .before .before .before .before .before .before .before .before .before .word .ensures), some-words _ (c .before .before .before .before .before .before .if1 .left), c .before .before .before .before .before .before .before .before .before .before .before .before .before .before .before .before .before .before .pre .1 .0 .2), (c .before .before .before .before .before .before .before .before .before .before .before .before .before .before .before .before .before .before .pre .1 .1 .0, (place-told _ _ (c .before .before .before .before .before .before .before .before .before .before .before .before .before .before .before .before .before .before .pre .0) _ _ _ (c .before .before .before .before .before .find-row .ensures .0) (c .before .before .before .before .before .find-row .ensures .1) (c .before .before .before .row .given .1), c .before .before .before .before .before .before .before .before .before .before .before .before .before .before .before .before .before .before .pre .1 .1 .1)))))
+    (λ c. (inst-no-word _ _ _ _ _ _ _ _ _ _ _ _ (sym (c .before .first .given .1) ∙ c .before .before .before .word .ensures), row-refused _ _ _ _ _ _ _ refl))
     (λ c. search needs)
     (λ c. search needs)
-    (λ c. same-decodes _ _ _ _ _ _ _ _ _ _ _ _ (inst-row _ _ _ _ _ _ (sym (c .before .before .before .before .before .before .before .before .before .before .before .before .before .first2 .given .1) ∙ c .before .before .before .before .before .before .before .before .before .before .before .before .before .before .before .word .ensures) (c .before .before .before .before .before .before .before .before .before .before .before .if1 .left) _ (c .before .before .before .before .before .before .before .before .before .before .find-row .ensures .0) _ (c .before .before .before .before .before .before .before .before .row .given .1)) (c .before .before .before .before .parse-body .ensures)))
+    (λ c. inst-by _ _ _ _ _ _ (sym (c .before .before .before .before .before .before .before .before .before .before .before .before .before .first2 .given .1) ∙ c .before .before .before .before .before .before .before .before .before .before .before .before .before .before .before .word .ensures) (c .before .before .before .before .before .before .before .before .before .before .before .if1 .left) _ (c .before .before .before .before .before .before .before .before .before .before .find-row .ensures .0) _ (c .before .before .before .before .before .before .before .before .row .given .1) (place-told _ _ (c .before .before .before .before .before .before .before .before .before .before .before .before .before .before .before .before .before .before .before .before .before .before .before .pre .0) _ _ _ (c .before .before .before .before .before .before .before .before .before .before .find-row .ensures .0) (c .before .before .before .before .before .before .before .before .before .before .find-row .ensures .1) (c .before .before .before .before .before .before .before .before .row .given .1)) _ _ _ _ _ _ _ (c .before .before .before .before .parse-body .ensures .0) (c .before .before .before .before .parse-body .ensures .1)))

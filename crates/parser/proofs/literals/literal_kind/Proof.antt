@@ -14,7 +14,7 @@ returns : tie.Need-returns
 returns c = kind-absent _ _ (c .enum-told .given .1)
 
 resolve-requires : tie.Need-resolve-requires
-resolve-requires c κs = search needs
+resolve-requires c κs = c .before .before .before .before .before .pre
 
 enum-told-2 : tie.Need-enum-told-2
 enum-told-2 c = search needs

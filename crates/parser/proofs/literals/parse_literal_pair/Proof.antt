@@ -1,14 +1,14 @@
 -- `parser::literals::parse_literal_pair` meets its contract. Assumes nothing.
 use Rattle.spec.specs.Grammar.{grammarOf}
 use Rattle.parser.proofs.Values.{id-single}
-use Rattle.parser.proofs.Walk.{may-first, first-bad, first-done, good-told, may-tail, seq}
+use Rattle.parser.proofs.Walk.{first-bad, first-done, good-told, seq}
 use Rattle.parser.proofs.TypeLaws.{pair-is}
 use borrow.Author.Needs.{needs}
 use Rattle.parser.proofs.literals.parse_literal_pair.Statement.{statement}
 use Rattle.parser.proofs.literals.parse_literal_pair.Tie as tie
 
 parse-literal-requires : tie.Need-parse-literal-requires
-parse-literal-requires c κs = (c .before .before .before .before .before .before .before .before .pre .0, (c .before .before .before .before .before .before .before .before .pre .1 .0, may-first _ _ _ (pair-is (grammarOf (c .before .before .before .before .before .before .before .before .args .g .now)) _ _ _) _ _ _ _ (c .before .before .before .before .before .before .before .before .pre .1 .1)))
+parse-literal-requires c κs = (c .before .before .before .before .before .before .before .before .before .pre .0, (c .before .before .before .before .before .before .before .before .before .pre .1 .0, c .before .before .before .before .before .before .before .before .before .pre .1 .1))
 
 enum-known-r : tie.Need-enum-known-r
 enum-known-r c = search needs
@@ -23,10 +23,10 @@ same-length-2 : tie.Need-same-length-2
 same-length-2 c = search needs
 
 returns : tie.Need-returns
-returns c = first-bad _ _ _ (pair-is (grammarOf (c .before .before .before .before .before .before .before .before .before .before .before .before .before .before .before .args .g .now)) _ _ _) _ _ _ _ _ _ _ _ _ _ _ _ (c .before .before .before .before .before .before .parse-literal .ensures) (c .enum-told .given .1)
+returns c = first-bad _ _ _ (pair-is (grammarOf (c .before .before .before .before .before .before .before .before .before .before .before .before .before .before .before .before .args .g .now)) _ _ _) _ _ _ _ _ _ _ _ _ _ _ (c .before .before .before .before .before .before .parse-literal .ensures) (c .enum-told .given .1)
 
 read-one-requires : tie.Need-read-one-requires
-read-one-requires c κs = let a = good-told _ _ _ (c .before .before .before .before .before .before .before .before .before .parse-literal .ensures) (c .before .before .before .r .given .1) in (c .before .before .before .before .before .before .before .before .before .before .before .before .before .before .before .before .before .before .pre .0, ((a .few, id-single), may-tail (a .held) _ _ (c .before .before .before .before .before .before .before .before .before .before .before .before .before .before .before .before .before .before .pre .1 .1) (first-done _ _ _ (pair-is (grammarOf (c .before .before .before .before .before .before .before .before .before .before .before .before .before .before .before .before .before .before .args .g .now)) _ _ _) _ _ (a .read))))
+read-one-requires c κs = let a = good-told _ _ _ (c .before .before .before .before .before .before .before .before .before .parse-literal .ensures) (c .before .before .before .r .given .1) in (c .before .before .before .before .before .before .before .before .before .before .before .before .before .before .before .before .before .before .before .pre .0, (a .few, id-single))
 
 same-length-3 : tie.Need-same-length-3
 same-length-3 c = search needs
@@ -35,7 +35,7 @@ same-length-4 : tie.Need-same-length-4
 same-length-4 c = search needs
 
 returns-2 : tie.Need-returns-2
-returns-2 c = let a = good-told _ _ _ (c .before .before .before .before .before .before .before .before .before .before .before .before .before .before .parse-literal .ensures) (c .before .before .before .before .before .before .before .before .r .given .1) in seq (a .held) _ _ _ _ _ _ (a .went) (c .before .before .before .before .before .before .before .before .before .before .before .before .before .before .before .before .before .before .before .before .before .before .before .pre .1 .1) (first-done _ _ _ (pair-is (grammarOf (c .before .before .before .before .before .before .before .before .before .before .before .before .before .before .before .before .before .before .before .before .before .before .before .args .g .now)) _ _ _) _ _ (a .read)) _ (c .before .before .before .before .read-one .ensures)
+returns-2 c = let a = good-told _ _ _ (c .before .before .before .before .before .before .before .before .before .before .before .before .before .before .parse-literal .ensures) (c .before .before .before .before .before .before .before .before .r .given .1) in seq (a .held) _ _ _ _ _ _ (a .went) (first-done _ _ _ (pair-is (grammarOf (c .before .before .before .before .before .before .before .before .before .before .before .before .before .before .before .before .before .before .before .before .before .before .before .before .args .g .now)) _ _ _) _ _ (a .read)) _ (c .before .before .before .before .read-one .ensures)
 
 pub parse-literal-pair-spec : {M : Type 1} → statement M
 parse-literal-pair-spec =

@@ -1,9 +1,9 @@
 -- `parser::operands::parse_operand` meets its contract. Assumes nothing.
 use native.Mathlib.Omega.{arith}
 use mathlib.Core.Path.{refl}
-use Rattle.parser.proofs.One.{known-told, unread-told, single-one, enum-text, single-fits, held-narrow, few-pushed, few-small, narrow-room}
-use Rattle.parser.proofs.Walk.{same-may, same-read, may-tail, seq, deny, step-went}
-use Rattle.parser.proofs.Values.{enum-plain, plain-single, operand-known, operand-bad, pair-number, pair-ids, single, id-single, number-single}
+use Rattle.parser.proofs.One.{known-told, unread-told, single-one, enum-text, single-fits, held-narrow, few-pushed, few-small}
+use Rattle.parser.proofs.Walk.{same-read, seq, deny, step-went}
+use Rattle.parser.proofs.Values.{enum-plain, plain-single, place-listed, operand-known, operand-bad, pair-number, pair-ids, single, id-single, number-single}
 use borrow.Author.Needs.{needs}
 use Rattle.parser.proofs.operands.parse_operand.Statement.{statement}
 use Rattle.parser.proofs.operands.parse_operand.Tie as tie
@@ -24,13 +24,13 @@ cast-push : tie.Need-cast-push
 cast-push c = search needs
 
 push-requires : tie.Need-push-requires
-push-requires c κs = let s = few-small _ _ _ (c .before .before .before .before .before .before .before .before .before .before .before .before .pre .1 .0 .0) in ((s .0, s .1, single-fits _ _ (enum-plain _ _ (c .before .before .before .before .before .before .is-enum .ensures) (c .before .before .before .before .before .if1 .taken) (c .before .before .before .before .before .before .before .before .before .before .before .before .pre .1 .0 .1)) (omega arith)), narrow-room _ _ _ _ _ _ _ _ (single-one _ (enum-plain _ _ (c .before .before .before .before .before .before .is-enum .ensures) (c .before .before .before .before .before .if1 .taken) (c .before .before .before .before .before .before .before .before .before .before .before .before .pre .1 .0 .1)) (enum-text _ _ (c .before .before .before .before .before .before .is-enum .ensures) (c .before .before .before .before .before .if1 .taken))) (c .before .before .before .before .before .before .before .before .before .before .before .before .pre .1 .1) (operand-known _ _ _ _ _ (c .before .before .before .before .before .before .is-enum .ensures) (c .before .before .before .before .before .if1 .taken) _ _ (known-told _ _ _ _ _ _ _ (c .before .before .before .before .read-enumerant .ensures) (c .before .before .r2 .given .1))))
+push-requires c κs = let s = few-small _ _ _ (c .before .before .before .before .before .before .before .before .before .before .before .before .pre .1 .0) in (s .0, s .1, single-fits _ _ (enum-plain _ _ (c .before .before .before .before .before .before .is-enum .ensures) (c .before .before .before .before .before .if1 .taken) (c .before .before .before .before .before .before .before .before .before .before .before .before .pre .1 .1)) (omega arith))
 
 parse-values-requires : tie.Need-parse-values-requires
-parse-values-requires c κs = let k = (known-told _ _ _ _ _ _ _ (c .before .before .before .before .before .before .before .before .before .read-enumerant .ensures) (c .before .before .before .before .before .before .before .r2 .given .1)) in (c .before .before .before .before .before .before .before .before .before .before .before .before .before .before .before .before .before .pre .0, (few-pushed _ _ _ _ _ _ _ _ (c .before .before .before .before .before .before .before .before .before .before .before .before .before .before .before .before .before .pre .1 .0 .0) (k .step) (omega arith) (c .before .before .before .before .push .ensures .0), may-tail (held-narrow _ _ (c .before .before .before .before .before .before .before .before .before .before .before .before .before .before .before .before .before .args .strings .now) _ _ _ _ _ (single-one _ (enum-plain _ _ (c .before .before .before .before .before .before .before .before .before .before .before .is-enum .ensures) (c .before .before .before .before .before .before .before .before .before .before .if1 .taken) (c .before .before .before .before .before .before .before .before .before .before .before .before .before .before .before .before .before .pre .1 .0 .1)) (enum-text _ _ (c .before .before .before .before .before .before .before .before .before .before .before .is-enum .ensures) (c .before .before .before .before .before .before .before .before .before .before .if1 .taken))) (c .before .before .before .before .push .ensures .0) (c .before .before .before .before .push .ensures .1)) _ _ (c .before .before .before .before .before .before .before .before .before .before .before .before .before .before .before .before .before .pre .1 .1) (operand-known _ _ _ _ _ (c .before .before .before .before .before .before .before .before .before .before .before .is-enum .ensures) (c .before .before .before .before .before .before .before .before .before .before .if1 .taken) _ _ (known-told _ _ _ _ _ _ _ (c .before .before .before .before .before .before .before .before .before .read-enumerant .ensures) (c .before .before .before .before .before .before .before .r2 .given .1)))))
+parse-values-requires c κs = let k = known-told _ _ _ _ _ _ _ _ (c .before .before .before .before .before .before .before .before .before .read-enumerant .ensures) (c .before .before .before .before .before .before .before .r2 .given .1) in (c .before .before .before .before .before .before .before .before .before .before .before .before .before .before .before .before .before .pre .0, ((few-pushed _ _ _ _ _ _ _ _ (c .before .before .before .before .before .before .before .before .before .before .before .before .before .before .before .before .before .pre .1 .0) (k .step) (omega arith) (c .before .before .before .before .push .ensures .0), k .inside), place-listed _ _ _ _ _ _ _ k))
 
 parse-pair-requires : tie.Need-parse-pair-requires
-parse-pair-requires c κs = (c .before .before .before .before .before .before .before .before .before .before .pre .0, ((c .before .before .before .before .before .before .before .before .before .before .pre .1 .0 .0, number-single), same-may _ _ _ _ _ _ (pair-number _ _ _ _ _ (c .before .before .before .before .is-enum .ensures) (c .before .before .before .if1 .left) (c .before .before .if2 .taken)) (c .before .before .before .before .before .before .before .before .before .before .pre .1 .1)))
+parse-pair-requires c κs = (c .before .before .before .before .before .before .before .before .before .before .pre .0, (c .before .before .before .before .before .before .before .before .before .before .pre .1 .0, number-single))
 
 same-length : tie.Need-same-length
 same-length c = search needs
@@ -39,10 +39,10 @@ same-length-2 : tie.Need-same-length-2
 same-length-2 c = search needs
 
 returns : tie.Need-returns
-returns c = same-read _ _ _ _ _ _ _ _ _ _ _ _ (pair-number _ _ _ _ _ (c .before .before .before .before .before .before .before .before .before .is-enum .ensures) (c .before .before .before .before .before .before .before .before .if1 .left) (c .before .before .before .before .before .before .before .if2 .taken)) (c .before .before .before .before .parse-pair .ensures)
+returns c = same-read _ _ _ _ _ _ _ _ _ _ _ (pair-number _ _ _ _ _ (c .before .before .before .before .before .before .before .before .before .is-enum .ensures) (c .before .before .before .before .before .before .before .before .if1 .left) (c .before .before .before .before .before .before .before .if2 .taken)) (c .before .before .before .before .parse-pair .ensures)
 
 parse-pair-requires-2 : tie.Need-parse-pair-requires-2
-parse-pair-requires-2 c κs = (c .before .before .before .before .before .before .before .before .before .before .before .pre .0, ((c .before .before .before .before .before .before .before .before .before .before .before .pre .1 .0 .0, id-single), same-may _ _ _ _ _ _ (pair-ids _ _ _ _ _ (c .before .before .before .before .before .is-enum .ensures) (c .before .before .before .before .if1 .left) (c .before .before .if3 .taken)) (c .before .before .before .before .before .before .before .before .before .before .before .pre .1 .1)))
+parse-pair-requires-2 c κs = (c .before .before .before .before .before .before .before .before .before .before .before .pre .0, (c .before .before .before .before .before .before .before .before .before .before .before .pre .1 .0, id-single))
 
 same-length-3 : tie.Need-same-length-3
 same-length-3 c = search needs
@@ -51,13 +51,13 @@ same-length-4 : tie.Need-same-length-4
 same-length-4 c = search needs
 
 returns-2 : tie.Need-returns-2
-returns-2 c = same-read _ _ _ _ _ _ _ _ _ _ _ _ (pair-ids _ _ _ _ _ (c .before .before .before .before .before .before .before .before .before .before .is-enum .ensures) (c .before .before .before .before .before .before .before .before .before .if1 .left) (c .before .before .before .before .before .before .before .if3 .taken)) (c .before .before .before .before .parse-pair2 .ensures)
+returns-2 c = same-read _ _ _ _ _ _ _ _ _ _ _ (pair-ids _ _ _ _ _ (c .before .before .before .before .before .before .before .before .before .before .is-enum .ensures) (c .before .before .before .before .before .before .before .before .before .if1 .left) (c .before .before .before .before .before .before .before .if3 .taken)) (c .before .before .before .before .parse-pair2 .ensures)
 
 read-one-requires : tie.Need-read-one-requires
-read-one-requires c κs = (c .before .before .before .before .before .before .before .before .before .before .before .pre .0, ((c .before .before .before .before .before .before .before .before .before .before .before .pre .1 .0 .0, plain-single _ (c .before .before .before .before .before .before .before .before .before .before .before .pre .1 .0 .1) (c .before .before .before .if2 .left) (c .before .before .if3 .left)), same-may _ _ _ _ _ _ (single _ _ _ _ _ (c .before .before .before .before .before .is-enum .ensures) (c .before .before .before .before .if1 .left) (c .before .before .before .if2 .left) (c .before .before .if3 .left)) (c .before .before .before .before .before .before .before .before .before .before .before .pre .1 .1)))
+read-one-requires c κs = (c .before .before .before .before .before .before .before .before .before .before .before .pre .0, (c .before .before .before .before .before .before .before .before .before .before .before .pre .1 .0, plain-single _ (c .before .before .before .before .before .before .before .before .before .before .before .pre .1 .1) (c .before .before .before .if2 .left) (c .before .before .if3 .left)))
 
 returns-3 : tie.Need-returns-3
-returns-3 c = deny _ _ _ _ _ _ _ _ _ _ _ refl (operand-bad _ _ _ _ _ (c .before .before .before .before .before .is-enum .ensures) (c .before .before .before .before .if1 .taken) _ _ (unread-told _ _ _ _ _ _ _ (c .before .before .before .read-enumerant .ensures) (c .before .r .given .1)))
+returns-3 c = deny _ _ _ _ _ _ _ _ _ _ _ _ refl (operand-bad _ _ _ _ _ (c .before .before .before .before .before .is-enum .ensures) (c .before .before .before .before .if1 .taken) _ _ (unread-told _ _ _ _ _ _ _ (c .before .before .before .read-enumerant .ensures) (c .before .r .given .1)))
 
 same-length-5 : tie.Need-same-length-5
 same-length-5 c = search needs
@@ -66,7 +66,7 @@ same-length-6 : tie.Need-same-length-6
 same-length-6 c = search needs
 
 returns-4 : tie.Need-returns-4
-returns-4 c = let k = (known-told _ _ _ _ _ _ _ (c .before .before .before .before .before .before .before .before .before .before .before .before .before .before .read-enumerant .ensures) (c .before .before .before .before .before .before .before .before .before .before .before .before .r2 .given .1)) in seq (held-narrow _ _ _ _ _ _ _ _ (single-one _ (enum-plain _ _ (c .before .before .before .before .before .before .before .before .before .before .before .before .before .before .before .before .is-enum .ensures) (c .before .before .before .before .before .before .before .before .before .before .before .before .before .before .before .if1 .taken) (c .before .before .before .before .before .before .before .before .before .before .before .before .before .before .before .before .before .before .before .before .before .before .pre .1 .0 .1)) (enum-text _ _ (c .before .before .before .before .before .before .before .before .before .before .before .before .before .before .before .before .is-enum .ensures) (c .before .before .before .before .before .before .before .before .before .before .before .before .before .before .before .if1 .taken))) (c .before .before .before .before .before .before .before .before .before .push .ensures .0) (c .before .before .before .before .before .before .before .before .before .push .ensures .1)) _ _ _ _ _ _ (step-went _ _ _ _ (k .step) _ (c .before .before .before .before .before .before .before .before .before .before .before .before .before .before .before .before .before .before .before .before .before .before .pre .1 .0 .0 .limited)) (c .before .before .before .before .before .before .before .before .before .before .before .before .before .before .before .before .before .before .before .before .before .before .pre .1 .1) (operand-known _ _ _ _ _ (c .before .before .before .before .before .before .before .before .before .before .before .before .before .before .before .before .is-enum .ensures) (c .before .before .before .before .before .before .before .before .before .before .before .before .before .before .before .if1 .taken) _ _ (known-told _ _ _ _ _ _ _ (c .before .before .before .before .before .before .before .before .before .before .before .before .before .before .read-enumerant .ensures) (c .before .before .before .before .before .before .before .before .before .before .before .before .r2 .given .1))) _ (c .before .before .before .before .parse-values .ensures)
+returns-4 c = let k = known-told _ _ _ _ _ _ _ _ (c .before .before .before .before .before .before .before .before .before .before .before .before .before .before .read-enumerant .ensures) (c .before .before .before .before .before .before .before .before .before .before .before .before .r2 .given .1) in seq (held-narrow _ _ _ _ _ _ _ (single-one _ (enum-plain _ _ (c .before .before .before .before .before .before .before .before .before .before .before .before .before .before .before .before .is-enum .ensures) (c .before .before .before .before .before .before .before .before .before .before .before .before .before .before .before .if1 .taken) (c .before .before .before .before .before .before .before .before .before .before .before .before .before .before .before .before .before .before .before .before .before .before .pre .1 .1)) (enum-text _ _ (c .before .before .before .before .before .before .before .before .before .before .before .before .before .before .before .before .is-enum .ensures) (c .before .before .before .before .before .before .before .before .before .before .before .before .before .before .before .if1 .taken))) (c .before .before .before .before .before .before .before .before .before .push .ensures .0) (c .before .before .before .before .before .before .before .before .before .push .ensures .1)) _ _ _ _ _ _ (step-went _ _ _ _ (k .step) _ (c .before .before .before .before .before .before .before .before .before .before .before .before .before .before .before .before .before .before .before .before .before .before .pre .1 .0 .limited)) (operand-known _ _ _ _ _ (c .before .before .before .before .before .before .before .before .before .before .before .before .before .before .before .before .is-enum .ensures) (c .before .before .before .before .before .before .before .before .before .before .before .before .before .before .before .if1 .taken) _ _ _ k) _ (c .before .before .before .before .parse-values .ensures)
 
 same-length-7 : tie.Need-same-length-7
 same-length-7 c = search needs
@@ -75,7 +75,7 @@ same-length-8 : tie.Need-same-length-8
 same-length-8 c = search needs
 
 returns-5 : tie.Need-returns-5
-returns-5 c = same-read _ _ _ _ _ _ _ _ _ _ _ _ (single _ _ _ _ _ (c .before .before .before .before .before .before .before .before .before .before .is-enum .ensures) (c .before .before .before .before .before .before .before .before .before .if1 .left) (c .before .before .before .before .before .before .before .before .if2 .left) (c .before .before .before .before .before .before .before .if3 .left)) (c .before .before .before .before .read-one .ensures)
+returns-5 c = same-read _ _ _ _ _ _ _ _ _ _ _ (single _ _ _ _ _ (c .before .before .before .before .before .before .before .before .before .before .is-enum .ensures) (c .before .before .before .before .before .before .before .before .before .if1 .left) (c .before .before .before .before .before .before .before .before .if2 .left) (c .before .before .before .before .before .before .before .if3 .left)) (c .before .before .before .before .read-one .ensures)
 
 pub parse-operand-spec : {M : Type 1} → statement M
 parse-operand-spec =

@@ -2,7 +2,7 @@
 use native.Mathlib.Omega.{arith}
 use mathlib.Core.Path.{refl, sym, _∙_}
 use Rattle.parser.proofs.Walk.{deny, accept, step-went}
-use Rattle.parser.proofs.One.{known-told, unread-told, single-one, enum-text, single-fits, word-good, word-bad, text-good, text-bad, enum-good, enum-bad, held-narrow, few-pushed, few-small, alone, narrow-room, step-word, step-text, text-inside, held-text, text-rooms, few-copied, text-went}
+use Rattle.parser.proofs.One.{known-told, unread-told, single-one, enum-text, single-fits, text-good, text-bad, enum-good, enum-bad, held-narrow, few-pushed, few-small, step-text, text-inside, held-text, few-copied, text-went}
 use borrow.Author.Needs.{needs}
 use Rattle.parser.proofs.operands.read_one.Statement.{statement}
 use Rattle.parser.proofs.operands.read_one.Tie as tie
@@ -23,7 +23,7 @@ cast-push : tie.Need-cast-push
 cast-push c = search needs
 
 push-requires : tie.Need-push-requires
-push-requires c κs = let s = few-small _ _ _ (c .before .before .before .before .before .before .before .before .before .before .before .before .pre .1 .0 .0) in ((s .0, s .1, single-fits _ _ (c .before .before .before .before .before .before .before .before .before .before .before .before .pre .1 .0 .1) (omega arith)), narrow-room _ _ _ _ _ _ _ _ (single-one _ (c .before .before .before .before .before .before .before .before .before .before .before .before .pre .1 .0 .1) (enum-text _ _ (c .before .before .before .before .before .before .is-enum .ensures) (c .before .before .before .before .before .if1 .taken))) (c .before .before .before .before .before .before .before .before .before .before .before .before .pre .1 .1) (enum-good _ _ _ _ _ (c .before .before .before .before .before .before .is-enum .ensures) (c .before .before .before .before .before .if1 .taken) _ _ (known-told _ _ _ _ _ _ _ (c .before .before .before .before .read-enumerant .ensures) (c .before .before .r2 .given .1)) ∙ alone _ _))
+push-requires c κs = let s = few-small _ _ _ (c .before .before .before .before .before .before .before .before .before .before .before .before .pre .1 .0) in (s .0, s .1, single-fits _ _ (c .before .before .before .before .before .before .before .before .before .before .before .before .pre .1 .1) (omega arith))
 
 string-requires : tie.Need-string-requires
 string-requires c κs = search needs
@@ -35,34 +35,22 @@ enum-known-t-2 : tie.Need-enum-known-t-2
 enum-known-t-2 c = search needs
 
 push-text-requires : tie.Need-push-text-requires
-push-text-requires c κs = let s = few-small _ _ _ (c .before .before .before .before .before .before .before .before .before .before .before .before .before .before .before .pre .1 .0 .0) in let i = text-inside _ _ _ (sym (c .before .before .before .before .t2 .given .1) ∙ c .before .before .before .before .before .before .string .ensures) in let r = text-rooms _ _ _ i _ _ _ _ _ _ (c .before .before .before .before .before .before .before .before .before .before .before .before .before .before .before .pre .1 .1) (text-good _ _ _ _ _ (c .before .before .before .before .before .before .before .before .before .is-enum .ensures) (c .before .before .before .before .before .before .before .before .if1 .left) (c .before .before .before .before .before .before .before .if2 .taken) (c .before .before .before .before .before .before .before .before .before .before .before .before .before .before .before .pre .1 .0 .0 .inside) _ (sym (c .before .before .before .before .t2 .given .1) ∙ c .before .before .before .before .before .before .string .ensures)) in ((s .0, s .1, omega (arith, s .2), omega (arith, i, c .before .before .before .before .before .before .before .before .before .before .before .before .before .before .before .pre .1 .0 .0 .short)), (omega (arith, i), ((λ e. r e .0), (λ e. r e .1))))
+push-text-requires c κs = let s = few-small _ _ _ (c .before .before .before .before .before .before .before .before .before .before .before .before .before .before .before .pre .1 .0) in let i = text-inside _ _ _ (sym (c .before .before .before .before .t2 .given .1) ∙ c .before .before .before .before .before .before .string .ensures) in ((s .0, s .1, omega (arith, s .2), omega (arith, i, c .before .before .before .before .before .before .before .before .before .before .before .before .before .before .before .pre .1 .0 .short)), omega (arith, i))
 
-word-requires : tie.Need-word-requires
-word-requires c κs = search needs
-
-enum-known-w : tie.Need-enum-known-w
-enum-known-w c = search needs
-
-enum-known-w-2 : tie.Need-enum-known-w-2
-enum-known-w-2 c = search needs
-
-cast-push-2 : tie.Need-cast-push-2
-cast-push-2 c = search needs
-
-push-requires-2 : tie.Need-push-requires-2
-push-requires-2 c κs = let s = few-small _ _ _ (c .before .before .before .before .before .before .before .before .before .before .before .before .before .pre .1 .0 .0) in ((s .0, s .1, single-fits _ _ (c .before .before .before .before .before .before .before .before .before .before .before .before .before .pre .1 .0 .1) (omega arith)), narrow-room _ _ _ _ _ _ _ _ (single-one _ (c .before .before .before .before .before .before .before .before .before .before .before .before .before .pre .1 .0 .1) (c .before .before .before .before .before .if2 .left)) (c .before .before .before .before .before .before .before .before .before .before .before .before .before .pre .1 .1) (word-good _ _ _ _ _ (c .before .before .before .before .before .before .before .is-enum .ensures) (c .before .before .before .before .before .before .if1 .left) (c .before .before .before .before .before .if2 .left) _ _ (sym (c .before .before .w2 .given .1) ∙ c .before .before .before .before .word .ensures) ∙ alone _ _))
+read-word-requires : tie.Need-read-word-requires
+read-word-requires c κs = (c .before .before .before .before .before .before .before .before .before .pre .1 .0, c .before .before .before .before .before .before .before .before .before .pre .1 .1, sym (c .before .before .before .is-enum .ensures) ∙ c .before .before .if1 .left, c .before .if2 .left)
 
 returns : tie.Need-returns
-returns c = deny _ _ _ _ _ _ _ _ _ _ _ refl (enum-bad _ _ _ _ _ (c .before .before .before .before .before .is-enum .ensures) (c .before .before .before .before .if1 .taken) _ _ (unread-told _ _ _ _ _ _ _ (c .before .before .before .read-enumerant .ensures) (c .before .r .given .1)))
+returns c = deny _ _ _ _ _ _ _ _ _ _ _ _ refl (enum-bad _ _ _ _ _ (c .before .before .before .before .before .is-enum .ensures) (c .before .before .before .before .if1 .taken) _ _ (unread-told _ _ _ _ _ _ _ (c .before .before .before .read-enumerant .ensures) (c .before .r .given .1)))
 
 same-length : tie.Need-same-length
 same-length c = search needs
 
 returns-2 : tie.Need-returns-2
-returns-2 c = let k = (known-told _ _ _ _ _ _ _ (c .before .before .before .before .before .before .before .read-enumerant .ensures) (c .before .before .before .before .before .r2 .given .1)) in let f = c .before .before .before .before .before .before .before .before .before .before .before .before .before .before .before .pre .1 .0 .0 in accept _ _ _ _ _ _ _ _ _ _ _ _ _ (enum-good _ _ _ _ _ (c .before .before .before .before .before .before .before .before .before .is-enum .ensures) (c .before .before .before .before .before .before .before .before .if1 .taken) _ _ k) (held-narrow _ _ _ _ _ _ _ _ (single-one _ (c .before .before .before .before .before .before .before .before .before .before .before .before .before .before .before .pre .1 .0 .1) (enum-text _ _ (c .before .before .before .before .before .before .before .before .before .is-enum .ensures) (c .before .before .before .before .before .before .before .before .if1 .taken))) (c .before .before .push .ensures .0) (c .before .before .push .ensures .1)) (few-pushed _ _ _ _ _ _ _ _ f (k .step) (omega arith) (c .before .before .push .ensures .0)) (step-went _ _ _ _ (k .step) _ (f .limited))
+returns-2 c = let k = (known-told _ _ _ _ _ _ _ _ (c .before .before .before .before .before .before .before .read-enumerant .ensures) (c .before .before .before .before .before .r2 .given .1)) in let f = c .before .before .before .before .before .before .before .before .before .before .before .before .before .before .before .pre .1 .0 in accept _ _ _ _ _ _ _ _ _ _ _ _ (enum-good _ _ _ _ _ (c .before .before .before .before .before .before .before .before .before .is-enum .ensures) (c .before .before .before .before .before .before .before .before .if1 .taken) _ _ _ k) (held-narrow _ _ _ _ _ _ _ (single-one _ (c .before .before .before .before .before .before .before .before .before .before .before .before .before .before .before .pre .1 .1) (enum-text _ _ (c .before .before .before .before .before .before .before .before .before .is-enum .ensures) (c .before .before .before .before .before .before .before .before .if1 .taken))) (c .before .before .push .ensures .0) (c .before .before .push .ensures .1)) (few-pushed _ _ _ _ _ _ _ _ f (k .step) (omega arith) (c .before .before .push .ensures .0)) (step-went _ _ _ _ (k .step) _ (f .limited))
 
 returns-3 : tie.Need-returns-3
-returns-3 c = deny _ _ _ _ _ _ _ _ _ _ _ refl (text-bad _ _ _ _ _ (c .before .before .before .before .before .before .is-enum .ensures) (c .before .before .before .before .before .if1 .left) (c .before .before .before .before .if2 .taken) (c .before .before .before .before .before .before .before .before .before .before .before .before .pre .1 .0 .0 .inside) _ _ (sym (c .before .t .given .1) ∙ c .before .before .before .string .ensures))
+returns-3 c = deny _ _ _ _ _ _ _ _ _ _ _ _ refl (text-bad _ _ _ _ _ (c .before .before .before .before .before .before .is-enum .ensures) (c .before .before .before .before .before .if1 .left) (c .before .before .before .before .if2 .taken) (c .before .before .before .before .before .before .before .before .before .before .before .before .pre .1 .0 .inside) _ _ (sym (c .before .t .given .1) ∙ c .before .before .before .string .ensures))
 
 same-length-2 : tie.Need-same-length-2
 same-length-2 c = search needs
@@ -71,16 +59,13 @@ same-length-3 : tie.Need-same-length-3
 same-length-3 c = search needs
 
 returns-4 : tie.Need-returns-4
-returns-4 c = let h = (sym (c .before .before .before .before .before .before .before .before .before .t2 .given .1) ∙ c .before .before .before .before .before .before .before .before .before .before .before .string .ensures) in let f = c .before .before .before .before .before .before .before .before .before .before .before .before .before .before .before .before .before .before .before .before .pre .1 .0 .0 in let i = text-inside _ _ _ h in let t = step-text _ _ _ _ h f in accept _ _ _ _ _ _ _ _ _ _ _ _ _ (text-good _ _ _ _ _ (c .before .before .before .before .before .before .before .before .before .before .before .before .before .before .is-enum .ensures) (c .before .before .before .before .before .before .before .before .before .before .before .before .before .if1 .left) (c .before .before .before .before .before .before .before .before .before .before .before .before .if2 .taken) (f .inside) _ h) (held-text _ _ _ i _ _ _ _ _ _ _ (omega (arith, few-small _ _ _ f .2)) (c .before .before .before .before .push-text .ensures .0) (c .before .before .before .before .push-text .ensures .1 .0) (c .before .before .before .before .push-text .ensures .1 .1)) (few-copied _ _ _ _ _ _ f t (c .before .before .before .before .push-text .ensures .0)) (text-went _ _ _ _ _ t (f .limited))
-
-returns-5 : tie.Need-returns-5
-returns-5 c = deny _ _ _ _ _ _ _ _ _ _ _ refl (word-bad _ _ _ _ _ (c .before .before .before .before .before .before .is-enum .ensures) (c .before .before .before .before .before .if1 .left) (c .before .before .before .before .if2 .left) _ _ (sym (c .before .w .given .1) ∙ c .before .before .before .word .ensures))
+returns-4 c = let h = (sym (c .before .before .before .before .before .before .before .before .before .t2 .given .1) ∙ c .before .before .before .before .before .before .before .before .before .before .before .string .ensures) in let f = c .before .before .before .before .before .before .before .before .before .before .before .before .before .before .before .before .before .before .before .before .pre .1 .0 in let i = text-inside _ _ _ h in let t = step-text _ _ _ _ h f in accept _ _ _ _ _ _ _ _ _ _ _ _ (text-good _ _ _ _ _ (c .before .before .before .before .before .before .before .before .before .before .before .before .before .before .is-enum .ensures) (c .before .before .before .before .before .before .before .before .before .before .before .before .before .if1 .left) (c .before .before .before .before .before .before .before .before .before .before .before .before .if2 .taken) (f .inside) _ h) (held-text _ _ _ i _ _ _ _ _ _ (omega (arith, few-small _ _ _ f .2)) (c .before .before .before .before .push-text .ensures .0) (c .before .before .before .before .push-text .ensures .1 .0) (c .before .before .before .before .push-text .ensures .1 .1)) (few-copied _ _ _ _ _ _ f t (c .before .before .before .before .push-text .ensures .0)) (text-went _ _ _ _ _ t (f .limited))
 
 same-length-4 : tie.Need-same-length-4
 same-length-4 c = search needs
 
-returns-6 : tie.Need-returns-6
-returns-6 c = let h = (sym (c .before .before .before .before .before .w2 .given .1) ∙ c .before .before .before .before .before .before .before .word .ensures) in let f = c .before .before .before .before .before .before .before .before .before .before .before .before .before .before .before .before .pre .1 .0 .0 in accept _ _ _ _ _ _ _ _ _ _ _ _ _ (word-good _ _ _ _ _ (c .before .before .before .before .before .before .before .before .before .before .is-enum .ensures) (c .before .before .before .before .before .before .before .before .before .if1 .left) (c .before .before .before .before .before .before .before .before .if2 .left) _ _ h) (held-narrow _ _ _ _ _ _ _ _ (single-one _ (c .before .before .before .before .before .before .before .before .before .before .before .before .before .before .before .before .pre .1 .0 .1) (c .before .before .before .before .before .before .before .before .if2 .left)) (c .before .before .push2 .ensures .0) (c .before .before .push2 .ensures .1)) (few-pushed _ _ _ _ _ _ _ _ f (step-word _ _ _ _ h) (omega arith) (c .before .before .push2 .ensures .0)) (step-went _ _ _ _ (step-word _ _ _ _ h) _ (f .limited))
+returns-5 : tie.Need-returns-5
+returns-5 c = c .before .before .read-word .ensures _ _
 
 pub read-one-spec : {M : Type 1} → statement M
 read-one-spec =
@@ -96,11 +81,7 @@ read-one-spec =
     enum-known-t
     enum-known-t-2
     push-text-requires
-    word-requires
-    enum-known-w
-    enum-known-w-2
-    cast-push-2
-    push-requires-2
+    read-word-requires
     returns
     same-length
     returns-2
@@ -108,6 +89,5 @@ read-one-spec =
     same-length-2
     same-length-3
     returns-4
-    returns-5
     same-length-4
-    returns-6)
+    returns-5)

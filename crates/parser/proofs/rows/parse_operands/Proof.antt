@@ -1,7 +1,6 @@
 -- `parser::rows::parse_operands` meets its contract. Assumes nothing.
 use native.Mathlib.Omega.{arith}
 use mathlib.Core.Path.{_∙_}
-use borrow.Author.Needs.{needs}
 use Rattle.spec.specs.Grammar.{grammarOf}
 use Rattle.spec.specs.Match.{nothingSeen, readRow}
 use Rattle.decoder.specs.Answer.{readerOf}
@@ -9,22 +8,22 @@ use Rattle.tracker.specs.Entries.{entriesOf}
 use Rattle.parser.specs.Parse.{leftOf, slotsAt}
 use Rattle.parser.proofs.Carried.{indexed-short}
 use Rattle.parser.proofs.Once.{slot-told, end-told, end-past}
-use Rattle.parser.proofs.RowLaws.{Rowing, row-starts, row-log, row-strings, row-ends, next-operand, row-missing, row-spent, row-may, row-stops, row-less, row-turn, slots-next}
+use Rattle.parser.proofs.RowLaws.{Rowing, row-starts, row-log, row-strings, row-ends, next-operand, row-missing, row-spent, row-stops, row-less, row-turn, slots-next}
 use borrow.Author.Needs.{needs}
 use Rattle.parser.proofs.rows.parse_operands.Statement.{statement}
 use Rattle.parser.proofs.rows.parse_operands.Tie as tie
 
 abbrev Inv-loop : tie.InvT-loop
-Inv-loop s g index types tracker place log₀ log-at strings₀ strings-at keep d₀ u₀ p₀ log strings d u p = Rowing s (grammarOf g) (entriesOf (tracker .count) types) (readRow (grammarOf g) (entriesOf (tracker .count) types) (leftOf (d₀ .limit)) (slotsAt g place) nothingSeen (readerOf s d₀)) keep log₀ strings₀ log strings log-at strings-at d₀ d u (slotsAt g p)
+Inv-loop s g index types hints tracker place log₀ log-at strings₀ strings-at d₀ u₀ p₀ log strings d u p = Rowing s (grammarOf g) (entriesOf (tracker .count) types) (readRow (grammarOf g) (entriesOf (tracker .count) types) (leftOf (d₀ .limit)) (slotsAt g place) nothingSeen (readerOf s d₀)) log₀ strings₀ log strings log-at strings-at d₀ d u (slotsAt g p)
 
 abbrev μ-loop : tie.MeasureT-loop
-μ-loop s g index types tracker place log₀ log-at strings₀ strings-at keep d₀ u₀ p₀ log strings d u p = leftOf (d .limit)
+μ-loop s g index types hints tracker place log₀ log-at strings₀ strings-at d₀ u₀ p₀ log strings d u p = leftOf (d .limit)
 
 nothing-used-requires : tie.Need-nothing-used-requires Inv-loop μ-loop
 nothing-used-requires c κs = search needs
 
 loop-holds : tie.Need-loop-holds Inv-loop μ-loop
-loop-holds c = let q = c .before .before .before .before .before .before .before .pre .1 .0 in row-starts _ _ _ _ _ _ _ _ _ _ _ (c .nothing-used .ensures) (q .0) (q .1) (q .2) (c .before .before .before .before .before .before .before .pre .1 .1 .0 .0) (c .before .before .before .before .before .before .before .pre .1 .1 .0 .1) (c .before .before .before .before .before .before .before .pre .1 .1 .1 .0 .1)
+loop-holds c = let p = c .before .before .before .before .before .before .before .before .pre .1 in row-starts _ _ _ _ _ _ _ _ _ _ (c .nothing-used .ensures) (p .0 .0) (p .0 .1) (p .0 .2) (p .1 .0 .0) (p .1 .0 .1) (p .1 .1 .0 .1)
 
 slot-at-requires : tie.Need-slot-at-requires Inv-loop μ-loop
 slot-at-requires c κs = search needs
@@ -57,7 +56,7 @@ same-length-4 : tie.Need-same-length-4 Inv-loop μ-loop
 same-length-4 c = row-strings (c .before .before .before .before .before .before .before .before .before .loop .inv)
 
 returns-2 : tie.Need-returns-2 Inv-loop μ-loop
-returns-2 c = row-missing (c .before .before .before .before .before .before .before .before .before .loop .inv) _ _ _ (slot-told _ _ _ (c .before .before .before .before .before .before .before .slot-at .ensures .0) _ _ (c .before .before .before .before .before .x .given .1)) _ (c .before .before .before .limit-reached .ensures) (c .before .before .if1 .taken) (c .before .if2 .taken) (c .before .before .before .before .before .before .before .before .before .before .before .before .before .before .before .before .before .pre .1 .1 .1 .1) _ (c .bad .ensures)
+returns-2 c = row-missing (c .before .before .before .before .before .before .before .before .before .loop .inv) _ _ _ (slot-told _ _ _ (c .before .before .before .before .before .before .before .slot-at .ensures .0) _ _ (c .before .before .before .before .before .x .given .1)) _ (c .before .before .before .limit-reached .ensures) (c .before .before .if1 .taken) (c .before .if2 .taken) _ (c .bad .ensures)
 
 same-length-5 : tie.Need-same-length-5 Inv-loop μ-loop
 same-length-5 c = row-log (c .before .before .before .before .before .before .before .before .loop .inv)
@@ -69,7 +68,7 @@ returns-3 : tie.Need-returns-3 Inv-loop μ-loop
 returns-3 c = row-spent (c .before .before .before .before .before .before .before .before .loop .inv) _ _ _ (slot-told _ _ _ (c .before .before .before .before .before .before .slot-at .ensures .0) _ _ (c .before .before .before .before .x .given .1)) _ (c .before .before .limit-reached .ensures) (c .before .if1 .taken) (c .if2 .left)
 
 parse-slot-requires : tie.Need-parse-slot-requires Inv-loop μ-loop
-parse-slot-requires c κs = (c .before .before .before .before .before .before .before .before .before .before .before .before .before .before .before .before .before .pre .0, ((c .before .before .before .before .before .before .before .before .before .loop .inv .few, c .before .before .before .before .before .before .before .before .before .before .before .before .before .before .before .before .before .pre .1 .0 .3, next-operand (c .before .before .before .before .before .before .before .before .before .loop .inv) _ _ _ (slot-told _ _ _ (c .before .before .before .before .before .before .before .slot-at .ensures .0) _ _ (c .before .before .before .before .before .x .given .1))), row-may (c .before .before .before .before .before .before .before .before .before .loop .inv) _ _ _ (slot-told _ _ _ (c .before .before .before .before .before .before .before .slot-at .ensures .0) _ _ (c .before .before .before .before .before .x .given .1)) _ (c .before .before .before .limit-reached .ensures) (c .before .before .if1 .left) (c .before .before .before .before .before .before .before .before .before .before .before .before .before .before .before .before .before .pre .1 .1 .1 .1)))
+parse-slot-requires c κs = (c .before .before .before .before .before .before .before .before .before .before .before .before .before .before .before .before .before .before .pre .0, ((c .before .before .before .before .before .before .before .before .before .loop .inv .few, c .before .before .before .before .before .before .before .before .before .before .before .before .before .before .before .before .before .before .pre .1 .0 .3, next-operand (c .before .before .before .before .before .before .before .before .before .loop .inv) _ _ _ (slot-told _ _ _ (c .before .before .before .before .before .before .before .slot-at .ensures .0) _ _ (c .before .before .before .before .before .x .given .1))), c .before .before .before .before .before .before .before .before .before .before .before .before .before .before .before .before .before .before .pre .1 .1 .1 .1))
 
 enum-known-r : tie.Need-enum-known-r Inv-loop μ-loop
 enum-known-r c = search needs
@@ -78,16 +77,16 @@ enum-told-2 : tie.Need-enum-told-2 Inv-loop μ-loop
 enum-told-2 c = search needs
 
 same-length-7 : tie.Need-same-length-7 Inv-loop μ-loop
-same-length-7 c = c .before .before .before .before .before .before .parse-slot .kept .1 .1 .1 .1 .1 .1 .1 .0 ∙ row-log (c .before .before .before .before .before .before .before .before .before .before .before .before .before .before .before .before .loop .inv)
+same-length-7 c = c .before .before .before .before .before .before .parse-slot .kept .1 .1 .1 .1 .1 .1 .1 .1 .0 ∙ row-log (c .before .before .before .before .before .before .before .before .before .before .before .before .before .before .before .before .loop .inv)
 
 same-length-8 : tie.Need-same-length-8 Inv-loop μ-loop
-same-length-8 c = c .before .before .before .before .before .before .parse-slot .kept .1 .1 .1 .1 .1 .1 .1 .1 .0 ∙ row-strings (c .before .before .before .before .before .before .before .before .before .before .before .before .before .before .before .before .loop .inv)
+same-length-8 c = c .before .before .before .before .before .before .parse-slot .kept .1 .1 .1 .1 .1 .1 .1 .1 .1 .0 ∙ row-strings (c .before .before .before .before .before .before .before .before .before .before .before .before .before .before .before .before .loop .inv)
 
 returns-4 : tie.Need-returns-4 Inv-loop μ-loop
-returns-4 c = row-stops (c .before .before .before .before .before .before .before .before .before .before .before .before .before .before .before .before .loop .inv) _ _ _ (slot-told _ _ _ (c .before .before .before .before .before .before .before .before .before .before .before .before .before .before .slot-at .ensures .0) _ _ (c .before .before .before .before .before .before .before .before .before .before .before .before .x .given .1)) _ (c .before .before .before .before .before .before .before .before .before .before .limit-reached .ensures) (c .before .before .before .before .before .before .before .before .before .if1 .left) _ _ _ (c .before .before .before .before .before .before .parse-slot .ensures) _ _ (c .before .before .before .before .before .before .before .before .before .before .before .before .before .before .before .before .before .before .before .before .before .before .before .before .pre .1 .1 .1 .1) (c .enum-told2 .given .1)
+returns-4 c = row-stops (c .before .before .before .before .before .before .before .before .before .before .before .before .before .before .before .before .loop .inv) _ _ _ (slot-told _ _ _ (c .before .before .before .before .before .before .before .before .before .before .before .before .before .before .slot-at .ensures .0) _ _ (c .before .before .before .before .before .before .before .before .before .before .before .before .x .given .1)) _ (c .before .before .before .before .before .before .before .before .before .before .limit-reached .ensures) (c .before .before .before .before .before .before .before .before .before .if1 .left) _ _ _ (c .before .before .before .before .before .before .parse-slot .ensures) _ _ (c .enum-told2 .given .1)
 
 next-place-requires : tie.Need-next-place-requires Inv-loop μ-loop
-next-place-requires c κs = omega (arith, c .before .before .before .before .before .before .before .before .before .before .before .before .before .before .before .before .loop-test .taken, indexed-short _ _ (c .before .before .before .before .before .before .before .before .before .before .before .before .before .before .before .before .before .before .before .before .before .before .before .before .before .pre .0))
+next-place-requires c κs = omega (arith, c .before .before .before .before .before .before .before .before .before .before .before .before .before .before .before .before .loop-test .taken, indexed-short _ _ (c .before .before .before .before .before .before .before .before .before .before .before .before .before .before .before .before .before .before .before .before .before .before .before .before .before .before .pre .0))
 
 loop-less : tie.Need-loop-less Inv-loop μ-loop
 loop-less c = row-less (c .before .before .before .before .before .before .before .before .before .before .before .before .before .before .before .before .before .before .loop .inv) _ _ _ (slot-told _ _ _ (c .before .before .before .before .before .before .before .before .before .before .before .before .before .before .before .before .slot-at .ensures .0) _ _ (c .before .before .before .before .before .before .before .before .before .before .before .before .before .before .x .given .1)) _ (c .before .before .before .before .before .before .before .before .before .before .before .before .limit-reached .ensures) (c .before .before .before .before .before .before .before .before .before .before .before .if1 .left) _ _ _ (c .before .before .before .before .before .before .before .before .parse-slot .ensures) _ _ (c .before .before .r .given .1)

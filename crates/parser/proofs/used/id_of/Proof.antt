@@ -1,22 +1,21 @@
 -- `parser::used::id_of` meets its contract. Assumes nothing.
-use native.Mathlib.Omega.{arith}
-use Rattle.parser.proofs.UsedLaws.{id-there, id-small, id-absent}
+use mathlib.Core.Path.{refl, sym}
+use Rattle.tracker.specs.Track.{idIs}
+use Rattle.parser.proofs.UsedLaws.{word-there, word-absent}
+use borrow.Author.Needs.{needs}
 use Rattle.parser.proofs.used.id_of.Statement.{statement}
 use Rattle.parser.proofs.used.id_of.Tie as tie
 
-cast-t4 : tie.Need-cast-t4
-cast-t4 c = omega (arith, id-small _ _ (c .if1 .taken) (c .before .pre))
-
 returns : tie.Need-returns
-returns c = id-there _ _ (c .if1 .taken)
+unfolding idIs
+returns c = sym (word-absent _ (c .if1 .taken))
+
+cast-t4 : tie.Need-cast-t4
+cast-t4 c = search needs
 
 returns-2 : tie.Need-returns-2
-returns-2 c = id-absent _ _ (c .if1 .left)
+unfolding idIs
+returns-2 c = sym (word-there _ _ (c .if1 .left) refl)
 
 pub id-of-spec : {M : Type 1} → statement M
-id-of-spec =
-    tie.close
-    (tie.spec
-    cast-t4
-    returns
-    returns-2)
+id-of-spec = tie.close (tie.spec returns cast-t4 returns-2)

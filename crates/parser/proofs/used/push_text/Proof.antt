@@ -1,5 +1,5 @@
 -- `parser::used::push_text` meets its contract. Assumes nothing.
-use Rattle.parser.proofs.UsedLaws.{fits-text, text-room, copied, part-room, part-kept}
+use Rattle.parser.proofs.UsedLaws.{fits-text, copied, part-laid}
 use borrow.Author.Needs.{needs}
 use Rattle.parser.proofs.used.push_text.Statement.{statement}
 use Rattle.parser.proofs.used.push_text.Tie as tie
@@ -14,7 +14,7 @@ add-push : tie.Need-add-push
 add-push c = search needs
 
 push-requires : tie.Need-push-requires
-push-requires c κs = ((search needs, search needs, fits-text _), text-room _ _ _ _ (c .before .before .before .before .pre .1 .1 .0))
+push-requires c κs = (search needs, search needs, fits-text _)
 
 sub-keep-bytes : tie.Need-sub-keep-bytes
 sub-keep-bytes c = search needs
@@ -26,7 +26,7 @@ part-keep-bytes-end : tie.Need-part-keep-bytes-end
 part-keep-bytes-end c = search needs
 
 keep-bytes-requires : tie.Need-keep-bytes-requires
-keep-bytes-requires c κs = part-room _ _ _ _ _ _ (c .before .before .before .before .before .before .before .before .before .pre .1 .1 .1) (c .before .before .before .before .before .before .before .before .before .pre .1 .0)
+keep-bytes-requires c κs = search needs
 
 add-n : tie.Need-add-n
 add-n c = search needs
@@ -38,7 +38,7 @@ same-length-2 : tie.Need-same-length-2
 same-length-2 c = search needs
 
 returns : tie.Need-returns
-returns c = (copied _ _ _ _ (c .before .before .before .before .before .before .before .push .ensures .0), (c .before .before .before .before .before .before .before .push .ensures .1, part-kept _ _ _ _ _ _ _ (c .before .before .keep-bytes .ensures) (c .before .before .before .before .before .before .before .before .before .before .before .before .pre .1 .0)))
+returns c = (copied _ _ _ _ (c .before .before .before .before .before .before .before .push .ensures .0), (c .before .before .before .before .before .before .before .push .ensures .1, part-laid _ _ _ _ _ _ (c .before .before .keep-bytes .ensures) (c .before .before .before .before .before .before .before .before .before .before .before .before .pre .1)))
 
 pub push-text-spec : {M : Type 1} → statement M
 push-text-spec =

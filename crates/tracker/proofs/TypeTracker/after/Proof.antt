@@ -34,12 +34,12 @@ add-result c = search needs
 returns-2 : tie.Need-returns-2
 returns-2 c =
     let e = one-defined _ _ _ _ (c .before .before .before .before .before .before .change .ensures) _ _ _ (c .before .before .before .before .change2 .given .1) in
-    length-missed (misses (c .before .before .before .before .before .before .before .before .pre) _ (c .before .before .find .ensures) (c .enum-told3 .given .1)) _ _ ∙ ap length e
+    length-missed (misses (c .before .before .before .before .before .before .before .before .before .pre .0) _ (c .before .before .find .ensures) (c .enum-told3 .given .1)) _ _ ∙ ap length e
 
 returns-3 : tie.Need-returns-3
 returns-3 c =
     let e = one-defined _ _ _ _ (c .before .before .before .before .before .before .change .ensures) _ _ _ (c .before .before .before .before .change2 .given .1) in
-    length-found (sits (c .before .before .before .before .before .before .before .before .pre) _ (c .before .before .find .ensures) _ (c .enum-told2 .given .1)) _ _ ∙ ap length e
+    length-found (sits (c .before .before .before .before .before .before .before .before .before .pre .0) _ (c .before .before .find .ensures) _ (c .enum-told2 .given .1)) _ _ ∙ ap length e
 
 pub after-spec : {M : Type 1} → statement M
 after-spec =

@@ -14,15 +14,21 @@ enum-told : tie.Need-enum-told
 enum-told c = search needs
 
 returns : tie.Need-returns
-returns c = entry-missed (misses (c .before .before .before .before .pre) _ (c .before .before .find .ensures) (c .enum-told .given .1))
+returns c = entry-missed (misses (c .before .before .before .before .before .pre .0) _ (c .before .before .find .ensures) (c .enum-told .given .1))
 
 type-at-requires : tie.Need-type-at-requires
-type-at-requires c κs = sits-within (sits (c .before .before .before .before .before .pre) _ (c .before .before .before .find .ensures) _ (c .before .found .given .1))
+type-at-requires c κs = sits-within (sits (c .before .before .before .before .before .before .pre .0) _ (c .before .before .before .find .ensures) _ (c .before .found .given .1))
 
 returns-2 : tie.Need-returns-2
-returns-2 c = entry-found (sits (c .before .before .before .before .before .before .pre) _ (c .before .before .before .before .find .ensures) _ (c .before .before .found .given .1)) _ (c .type-at .ensures)
+returns-2 c = entry-found (sits (c .before .before .before .before .before .before .before .pre .0) _ (c .before .before .before .before .find .ensures) _ (c .before .before .found .given .1)) _ (c .type-at .ensures)
 
 pub resolve-spec : {M : Type 1} → statement M
 resolve-spec =
     tie.close
-    (tie.spec find-requires enum-known-found enum-told returns type-at-requires returns-2)
+    (tie.spec
+    find-requires
+    enum-known-found
+    enum-told
+    returns
+    type-at-requires
+    returns-2)

@@ -5,11 +5,12 @@ use borrow.Author.Needs.{needs}
 use Rattle.tracker.specs.Entries.{stored}
 use Rattle.tracker.proofs.Changes.{none-defined, none-stored, one-defined, one-room}
 use Rattle.tracker.proofs.Growth.{room-before}
+use Rattle.tracker.proofs.Hinting.{none-new, none-noted, noted-as}
 use Rattle.tracker.proofs.TypeTracker.track.Statement.{statement}
 use Rattle.tracker.proofs.TypeTracker.track.Tie as tie
 
 change-requires : tie.Need-change-requires
-change-requires c κs = room-before _ _ _ _ _ _ _ _ (c .before .before .pre)
+change-requires c κs = (room-before _ _ _ _ _ _ _ _ (c .before .before .before .before .pre .1), c .before .before .before .before .pre .0)
 
 enum-known-change : tie.Need-enum-known-change
 enum-known-change c = search needs
@@ -20,24 +21,38 @@ enum-told c = search needs
 same-length : tie.Need-same-length
 same-length c = search needs
 
-returns : tie.Need-returns
-returns c =
-    let h = room-before _ _ _ _ _ _ _ _ (c .before .before .before .before .before .pre) in
-    (none-defined _ _ _ _ (c .before .before .change .ensures) (c .enum-told .given .1), none-stored _ _ _ _ (c .before .before .change .ensures) h (c .enum-told .given .1))
-
-define-requires : tie.Need-define-requires
-define-requires c κs = (
-  room-before _ _ _ _ _ _ _ _ (c .before .before .before .before .before .before .before .pre),
-  one-room _ _ _ _ (c .before .before .before .before .change .ensures) _ _ _ (c .before .before .change2 .given .1) (c .before .before .before .before .before .before .before .pre),
-)
-
 same-length-2 : tie.Need-same-length-2
 same-length-2 c = search needs
 
+returns : tie.Need-returns
+returns c =
+    let h = room-before _ _ _ _ _ _ _ _ (c .before .before .before .before .before .before .before .pre .1) in
+    let e = c .before .before .change .ensures in
+    let n = none-defined _ _ _ _ e (c .enum-told .given .1) in
+    let k = none-noted _ _ _ _ (none-new _ _ n) in
+    (n, (none-stored _ _ _ _ e h (c .enum-told .given .1), (k .0, (k .1, c .before .before .before .before .before .before .before .pre .0))))
+
+define-requires : tie.Need-define-requires
+define-requires c κs = (
+  room-before _ _ _ _ _ _ _ _ (c .before .before .before .before .before .before .before .before .before .before .pre .1),
+  (
+    c .before .before .before .before .before .before .before .before .before .before .pre .0,
+    one-room _ _ _ _ (c .before .before .before .before .before .change .ensures) _ _ _ (c .before .before .before .change2 .given .1) (c .before .before .before .before .before .before .before .before .before .before .pre .1),
+  ),
+)
+
+same-length-3 : tie.Need-same-length-3
+same-length-3 c = search needs
+
+same-length-4 : tie.Need-same-length-4
+same-length-4 c = search needs
+
 returns-2 : tie.Need-returns-2
 returns-2 c =
-    let e = one-defined _ _ _ _ (c .before .before .before .before .before .before .before .change .ensures) _ _ _ (c .before .before .before .before .before .change2 .given .1) in
-    (c .before .before .define .ensures .0 ∙ ap length e, c .before .before .define .ensures .1 ∙ ap (stored _) e)
+    let e = one-defined _ _ _ _ (c .before .before .before .before .before .before .before .before .before .before .change .ensures) _ _ _ (c .before .before .before .before .before .before .before .before .change2 .given .1) in
+    let d = c .before .before .before .before .define .ensures in
+    let k = noted-as _ _ _ _ _ e _ (d .1 .1 .0) _ (d .1 .1 .1 .0) in
+    (d .0 ∙ ap length e, (d .1 .0 ∙ ap (stored _) e, (k .0, (k .1, d .1 .1 .1 .1))))
 
 pub track-spec : {M : Type 1} → statement M
 track-spec =
@@ -47,7 +62,9 @@ track-spec =
     enum-known-change
     enum-told
     same-length
+    same-length-2
     returns
     define-requires
-    same-length-2
+    same-length-3
+    same-length-4
     returns-2)
