@@ -8,8 +8,8 @@ use native.Mathlib.Omega.{arith}
 use borrow.Author.Tests.{ne-eqb}
 use borrow.Rule.Slice.PartMut.{midOf, putMid}
 use lib.Dec.{leb, eqb}
-use lib.ListN.{length, take, drop, getD, set, replicate, length-append, length-drop, length-replicate, getD-replicate}
-use lib.Seq.{sets, length-sets}
+use lib.ListN.{length, take, drop, getD, replicate, length-append, length-drop, length-replicate}
+use lib.Seq.{sets, length-sets, sets-eq, drop-append-add, length-take-le}
 use Rattle.spec.specs.declared.Fields.{Fields}
 use Rattle.spec.specs.Base.{joined}
 use Rattle.spec.specs.Words.{bytesOf, fourAt, long}
@@ -19,43 +19,69 @@ use Rattle.spec.specs.Records.{Operand, operandBytes, longBytes, idBytes, instr
 use Rattle.spec.specs.Check.{bitsIn, fieldIn, placedOf}
 use Rattle.spec.proofs.Store.{sets-append, rest-is, rest-back}
 use Rattle.operand.specs.Parts.{isTwo}
-use Rattle.operand.proofs.LogLaws.{Copied, copy-turn, copy-end}
 use Rattle.records.specs.Good.{operandBy, operandAt}
 use Rattle.records.specs.Steps.{wordIf, resultWords}
 use Rattle.records.proofs.Good.{operand-is}
+use Rattle.records.proofs.Operands.{one-below}
 use Rattle.records.proofs.Bytes.{operands-bytes, record-bytes}
 use Rattle.assemble.specs.Spelled.{Readable, operandAfter, operandsFrom, AllReadable, headBytes, saidBy, Sound}
 
 -- A STRING
 
--- one zero further
-pub zero-turn : {l₀ l : List ℕ} {at n i : ℕ} → Copied l₀ l (replicate n 0) at i → i < n → Copied l₀ (set l (at + i) 0) (replicate n 0) at (i + 1)
-zero-turn {l₀} {l} {at} {n} {i} r h =
-    subst (λ (v : ℕ). Copied l₀ (set l (at + i) v) (replicate n 0) at (i + 1)) (getD-replicate n i 0 0 h)
-    (copy-turn r (omega (arith, length-replicate {A = ℕ} n 0)))
-
--- all of them
-pub zero-end : {l₀ l : List ℕ} {at n i : ℕ} → Copied l₀ l (replicate n 0) at i → n ≤ i → l ≡ sets l₀ at (replicate n 0)
-zero-end {l₀} {l} {at} {n} {i} r h = copy-end r (omega (arith, length-replicate {A = ℕ} n 0))
-
--- a string and its zeros
-pub length-padded : (s : List ℕ) → length s + (4 - length s % 4) ≡ length (padded s)
+-- a string and its zeros end where its last word does
+pub length-padded : (s : List ℕ) → length s - length s % 4 + 4 ≡ length (padded s)
 unfolding padded
-length-padded s = sym (length-append s (replicate (4 - length s % 4) 0) ∙ ap (λ (n : ℕ). length s + n) (length-replicate {A = ℕ} (4 - length s % 4) 0))
+length-padded s =
+    let e : length (s ++ replicate (4 - length s % 4) 0) ≡ length s + (4 - length s % 4) =
+    length-append s (replicate (4 - length s % 4) 0) ∙ ap (λ (n : ℕ). length s + n) (length-replicate {A = ℕ} (4 - length s % 4) 0) in
+    omega arith
 
-module _ (l l₁ s : List ℕ) (e : l₁ ≡ sets l 0 s) where
-  -- the string's bytes leave the length
-  pub text-length : length l₁ ≡ length l
-  text-length = ap length e ∙ length-sets l 0 s
+-- what is left of a zero word after some of its bytes
+zero-rest : (k : ℕ) (d : List ℕ) → k < 4 → drop k (bytesOf 0 ++ d) ≡ replicate (4 - k) 0 ++ d
+unfolding bytesOf
+zero-rest zero d h = refl
+zero-rest (suc zero) d h = refl
+zero-rest (suc (suc zero)) d h = refl
+zero-rest (suc (suc (suc zero))) d h = refl
+zero-rest (suc (suc (suc (suc k)))) d h = absurd (omega arith)
 
-  -- the zeros follow
-  pub text-put : (l₂ : List ℕ) → l₂ ≡ sets l₁ (length s) (replicate (4 - length s % 4) 0) → l₂ ≡ sets l 0 (padded s)
+-- bytes stored at the start
+front : (l b : List ℕ) → length b ≤ length l → sets l 0 b ≡ b ++ drop (length b) l
+front l b h = simp zero-add at (sets-eq b l 0 (simp zero-add h))
+
+module _ (l l₁ s : List ℕ) (e : l₁ ≡ sets l (length s - length s % 4) (bytesOf 0)) where
+  -- the zero word leaves the length
+  pub zeroed-length : length l₁ ≡ length l
+  zeroed-length = ap length e ∙ length-sets l (length s - length s % 4) (bytesOf 0)
+
+  -- what is behind the string: the rest of the zero word, and what was there
+  behind : length (padded s) ≤ length l → drop (length s) l₁ ≡ replicate (4 - length s % 4) 0 ++ drop (length (padded s)) l
+  unfolding bytesOf
+  behind h =
+      let m = length s - length s % 4 in
+      let p : length s - length s % 4 + 4 ≡ length (padded s) = length-padded s in
+      let q : length (take m l) ≡ m = length-take-le m l (omega arith) in
+      let r : length s ≡ length (take m l) + length s % 4 = omega arith in
+      ap (drop (length s)) (e ∙ sets-eq (bytesOf 0) l m (omega arith) ∙ append-assoc (take m l) (bytesOf 0) (drop (m + 4) l))
+      ∙ ap (λ (n : ℕ). drop n (take m l ++ (bytesOf 0 ++ drop (m + 4) l))) r
+      ∙ drop-append-add (take m l) (bytesOf 0 ++ drop (m + 4) l) (length s % 4)
+      ∙ zero-rest (length s % 4) (drop (m + 4) l) (omega arith)
+      ∙ ap (λ (n : ℕ). replicate (4 - length s % 4) 0 ++ drop n l) p
+
+  -- stored at once
+  at-once : length (padded s) ≤ length l → (s ++ replicate (4 - length s % 4) 0) ++ drop (length (padded s)) l ≡ sets l 0 (padded s)
   unfolding padded
-  text-put l₂ g =
+  at-once h = sym (front l (padded s) h)
+
+  -- the string's bytes go over the zero word
+  pub text-put : length (padded s) ≤ length l → (l₂ : List ℕ) → l₂ ≡ sets l₁ 0 s → l₂ ≡ sets l 0 (padded s)
+  text-put h l₂ g =
+      let p : length s - length s % 4 + 4 ≡ length (padded s) = length-padded s in
       g
-      ∙ ap (λ (z : List ℕ). sets z (length s) (replicate (4 - length s % 4) 0)) e
-      ∙ ap (λ (n : ℕ). sets (sets l 0 s) n (replicate (4 - length s % 4) 0)) (sym (zero-add (length s)))
-      ∙ sets-append s (replicate (4 - length s % 4) 0) l 0
+      ∙ front l₁ s (omega (arith, zeroed-length))
+      ∙ ap (λ (z : List ℕ). s ++ z) (behind h)
+      ∙ sym (append-assoc s (replicate (4 - length s % 4) 0) (drop (length (padded s)) l))
+      ∙ at-once h
 
 -- AN OPERAND
 
@@ -115,6 +141,29 @@ after-two log a e = rw e
 pub after-one : (log : List ℕ) (a : ℕ) → isTwo (getD log a 0) ≡ false → a + 5 ≡ operandAfter log a
 unfolding operandAfter
 after-one log a e = rw e
+
+module _ (log strings l : List ℕ) (a at : ℕ) where
+  -- one word put at a place, of a kind below 36
+  pub next-one : getD log a 0 < 36 → (w : ℕ) → w ≡ fourAt (a + 1) log → (l₁ : List ℕ) → l₁ ≡ sets l at (bytesOf w)
+      → (a + 5 ≡ operandAfter log a) × ((at + 4 ≡ at + length (operandBytes (operandAt log strings a))) × (l₁ ≡ sets l at (operandBytes (operandAt log strings a))))
+  unfolding bytesOf
+  next-one h w e l₁ g =
+      let b = one-bytes log strings a (one-below (getD log a 0) h) w e in
+      (after-one log a (one-below (getD log a 0) h), (ap (λ (z : List ℕ). at + length z) b, g ∙ ap (λ (z : List ℕ). sets l at z) b))
+
+  -- room for it
+  pub one-room : getD log a 0 < 36 → at + length (operandBytes (operandAt log strings a)) ≤ length l → at + 4 ≤ length l
+  unfolding bytesOf
+  one-room h g =
+      let b : length (bytesOf (fourAt (a + 1) log)) ≡ length (operandBytes (operandAt log strings a)) =
+      ap length (one-bytes log strings a (one-below (getD log a 0) h) (fourAt (a + 1) log) refl) in
+      omega arith
+
+  -- an operand put into the rest from a place on
+  pub next-rest : (n a' : ℕ) (ys : List ℕ) → n ≡ length (operandBytes (operandAt log strings a)) → a' ≡ operandAfter log a
+      → ys ≡ sets (midOf at (length l - at) l) 0 (operandBytes (operandAt log strings a))
+      → (a' ≡ operandAfter log a) × ((at + n ≡ at + length (operandBytes (operandAt log strings a))) × (putMid at (length l - at) l ys ≡ sets l at (operandBytes (operandAt log strings a))))
+  next-rest n a' ys e f g = (f, (ap (λ (k : ℕ). at + k) e, rest-back l (operandBytes (operandAt log strings a)) ys at g))
 
 -- SOME OPERANDS
 
@@ -207,18 +256,17 @@ module _ {log strings : List ℕ} {n start : ℕ} {l₀ l : List ℕ} {i a at : 
         )
 
     -- it is put
-    pub putting-goes-on : (k a' : ℕ) (ys : List ℕ) → k ≡ length (operandBytes (operandAt log strings a)) → a' ≡ operandAfter log a
-        → ys ≡ sets (midOf at (length l - at) l) 0 (operandBytes (operandAt log strings a))
-        → Putting log strings n start l₀ (putMid at (length l - at) l ys) (i + 1) a' (at + k)
-    putting-goes-on k a' ys e f g = record {
+    pub putting-goes-on : (a' at' : ℕ) (l' : List ℕ) → a' ≡ operandAfter log a → at' ≡ at + length (operandBytes (operandAt log strings a))
+        → l' ≡ sets l at (operandBytes (operandAt log strings a)) → Putting log strings n start l₀ l' (i + 1) a' at'
+    putting-goes-on a' at' l' f e g = record {
       acc = r .acc ++ (operandAt log strings a ∷ []);
       left = next .less;
       split = next .split ∙ ap (λ (j : ℕ). (r .acc ++ (operandAt log strings a ∷ [])) ++ operandsFrom (next .less) log strings j) (sym f);
       readable = subst (λ (j : ℕ). AllReadable (next .less) log strings j) (sym f) (next .others);
       counted = omega (arith, r .counted, next .count);
-      place = ap (λ (j : ℕ). at + j) e ∙ sym length-more;
+      place = e ∙ sym length-more;
       stored =
-          rest-back l (operandBytes (operandAt log strings a)) ys at g
+          g
           ∙ ap (λ (z : List ℕ). sets z at (operandBytes (operandAt log strings a))) (r .stored)
           ∙ ap (λ (j : ℕ). sets (sets l₀ 0 (joined operandBytes (r .acc))) j (operandBytes (operandAt log strings a))) (r .place ∙ sym (zero-add (length (joined operandBytes (r .acc)))))
           ∙ sets-append (joined operandBytes (r .acc)) (operandBytes (operandAt log strings a)) l₀ 0

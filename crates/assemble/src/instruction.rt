@@ -1,8 +1,7 @@
 // One instruction as bytes: its first word, its result words, its operands.
 ghost use mathlib.Core.Path.{_≡_};
-ghost use mathlib.Core.Bool.{true};
 ghost use Prim.Native.Nat.{_+_, _*_, _≤_};
-ghost use lib.ListN.{length, replicate};
+ghost use lib.ListN.{length};
 ghost use lib.Seq.{sets};
 ghost use Rattle.spec.specs.Base.{joined};
 ghost use Rattle.spec.specs.Text.{padded};
@@ -18,29 +17,17 @@ use spec::Fields;
 
 // OPERANDS
 
-// So many zero bytes, stored at a place.
-fn put_zeros(out: &mut [u8], at: usize, n: usize)
-    requires { ⌜ at + n ≤ length (now out) ⌝ }
-    ensures { λ _. ⌜ now (out .exit) ≡ sets (now (out .entry)) at (replicate n 0) ⌝ }
-{
-    let mut i = 0;
-    while i < n {
-        out[at + i] = 0;
-        i += 1;
-    }
-}
-
-// A string: its bytes, its zero, and zeros to the end of the last word.
+// A string: its bytes, its zero, and zeros to the end of the last word, which is zeroed first.
 fn put_text(out: &mut [u8], s: &[u8]) -> usize
     requires { ⌜ length (padded (now s)) ≤ length (now out) ⌝ }
     ensures { λ r. ⌜ r ≡ length (padded (now (s .entry))) ⌝ }
     ensures { λ _. ⌜ now (out .exit) ≡ sets (now (out .entry)) 0 (padded (now (s .entry))) ⌝ }
 {
     let n = s.len();
-    let zeros = 4 - n % 4;
+    let last = n - n % 4;
+    put_word(out, last, 0);
     put_bytes(out, 0, s);
-    put_zeros(out, n, zeros);
-    n + zeros
+    last + 4
 }
 
 // The operand at a place of the log: one word, two words or a string.
@@ -78,7 +65,35 @@ fn operand_after(log: &[u8], a: usize) -> usize
     a + 5
 }
 
-// So many operands from a place of the log on, each into the rest of the output.
+// The places that are reached in the log and in the output.
+struct Reached {
+    log: usize,
+    out: usize,
+}
+
+// The operand at a place of the log, stored at a place: the places after both. The kinds below 36 have one word.
+fn put_next(log: &[u8], strings: &[u8], a: usize, out: &mut [u8], at: usize) -> Reached
+    requires { ⌜ Readable (now log) (now strings) a ⌝ }
+    requires { ⌜ at + length (operandBytes (operandAt (now log) (now strings) a)) ≤ length (now out) ⌝ }
+    ensures { λ r. ⌜ r .log ≡ operandAfter (now (log .entry)) a ⌝ }
+    ensures { λ r. ⌜ r .out ≡ at + length (operandBytes (operandAt (now (log .entry)) (now (strings .entry)) a)) ⌝ }
+    ensures { λ _. ⌜ now (out .exit) ≡ sets (now (out .entry)) at (operandBytes (operandAt (now (log .entry)) (now (strings .entry)) a)) ⌝ }
+{
+    if log[a] < 36 {
+        put_word(out, at, decoder::word_at(log, a + 1));
+        return Reached {
+            log: a + 5,
+            out: at + 4,
+        };
+    }
+    let n = put_operand(log, strings, a, &mut out[at..]);
+    Reached {
+        log: operand_after(log, a),
+        out: at + n,
+    }
+}
+
+// So many operands from a place of the log on, one after the other.
 fn put_operands(log: &[u8], strings: &[u8], count: usize, start: usize, out: &mut [u8])
     requires { ⌜ AllReadable count (now log) (now strings) start ⌝ }
     requires { ⌜ length (joined operandBytes (operandsFrom count (now log) (now strings) start)) ≤ length (now out) ⌝ }
@@ -88,9 +103,9 @@ fn put_operands(log: &[u8], strings: &[u8], count: usize, start: usize, out: &mu
     let mut a = start;
     let mut at = 0;
     while i < count {
-        let n = put_operand(log, strings, a, &mut out[at..]);
-        at += n;
-        a = operand_after(log, a);
+        let next = put_next(log, strings, a, out, at);
+        a = next.log;
+        at = next.out;
         i += 1;
     }
 }

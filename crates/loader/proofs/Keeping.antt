@@ -1,7 +1,8 @@
 -- Laws of keeping an instruction that goes in.
 use Prim.Native.Nat.{ℕ, _+_, _*_, _≤_}
 use mathlib.Core.Path.{_≡_, refl, ap, sym, subst, _∙_}
-use mathlib.Core.List.{List, [], _∷_}
+use mathlib.Core.List.{List}
+use native.Mathlib.Nat.{add-zero, zero-add}
 use native.Mathlib.Omega.{arith}
 use lib.ListN.{length, take, drop}
 use lib.Seq.{sets, sets-eq, take-append-seam}
@@ -34,24 +35,21 @@ use Rattle.loader.specs.declared.step.Judged.the-variants as judged
 use Rattle.loader.specs.declared.step.Step.the-variants.{On, Stop}
 use Rattle.loader.specs.Steps.{readAt, tracked, needOf, fieldsBy, Shown, Admitted, Stored, Keeps, Verdict, Steps}
 use Rattle.loader.proofs.Fitting.{fits-covers}
-use Rattle.loader.proofs.Judging.{tracked-is, need-is, fields-are, placed-is}
+use Rattle.loader.proofs.Judging.{log-size, strings-size, tracked-is, need-is, fields-are, placed-is}
 
 -- what is read once is the same
 same-read : (x : Read Instr) (i j : Instr) (r q : Reader) → x ≡ got i r → x ≡ got j q → j ≡ i
 same-read x i j r q e f = cc
 
--- FROM THE SCRATCH
+-- FROM SCRATCH AND SPARE
 
 -- bytes that are all there are at the start
-front-is : (l₀ l bs : List ℕ) → Laid l₀ 0 bs l → length bs ≤ length l → take (length bs) l ≡ bs
-front-is l₀ l bs h k =
+front-is : (l₀ l bs : List ℕ) (n : ℕ) → Laid l₀ 0 bs l → n ≡ length bs → n ≤ length l → take n l ≡ bs
+front-is l₀ l bs n h q k =
     let e = h .there (omega (arith, k, h .same)) in
-    ap (take (length bs)) (e ∙ sets-eq bs l₀ 0 (omega (arith, k, h .same))) ∙ take-append-seam bs (drop (0 + length bs) l₀)
-
--- none are left
-none-left : (l : List ℕ) → length l ≡ 0 → l ≡ []
-none-left [] e = refl
-none-left (x ∷ l) e = absurd (omega arith)
+    ap (λ (m : ℕ). take m l) q
+    ∙ ap (take (length bs)) (e ∙ sets-eq bs l₀ 0 (omega (arith, k, h .same)))
+    ∙ take-append-seam bs (drop (0 + length bs) l₀)
 
 -- the records of an instruction have nine bytes at most for each of its words
 log-short : (g index : List ℕ) → Indexed g index → (es : List Entry) (s : List ℕ) (at : ℕ) (i : Instr) (r : Reader) (b : ℕ)
@@ -63,32 +61,36 @@ log-short g index ix es s at i r b e =
     in
     omega (arith, log-some b (i .operands), z .count)
 
-module _ {s g : List ℕ} {x : Read Instr} {es : List Entry} {scratch : List ℕ} {p : Progress} {d : Decoded} (h : Shown s g x es scratch p d) where
-  -- where there are no strings and the records are short, they are in the scratch
-  pub from-scratch : d .strings ≡ p .strings → d .log ≤ length scratch → (l₀ s₀ l₁ : List ℕ) → l₁ ≡ sets l₀ (p .log) (take (d .log) scratch)
-      → Stored x l₀ s₀ l₁ s₀ p
+module _ {s g : List ℕ} {x : Read Instr} {es : List Entry} {scratch spare : List ℕ} {p : Progress} {d : Decoded}
+    (h : Shown s g x es scratch spare p d) where
+  -- where records and strings are short, they are in scratch and spare
+  pub from-scratch : d .log ≤ length scratch → d .strings ≤ length spare → (l₀ s₀ l₁ s₁ : List ℕ)
+      → l₁ ≡ sets l₀ (p .log) (take (d .log) scratch) → s₁ ≡ sets s₀ (p .strings) (take (d .strings) spare) → Stored x l₀ s₀ l₁ s₁ p
   unfolding Stored
-  from-scratch e k l₀ s₀ l₁ q i r f =
+  from-scratch kl ks l₀ s₀ l₁ s₁ ql qs i r f =
       let j = same-read x (h .handed .instr) i _ r (h .handed .read) f in
-      let a = operandsLog (p .strings) (h .handed .instr .operands) in
-      let n : d .log ≡ length a = omega (arith, h .handed .nlog) in
-      let b : take (d .log) scratch ≡ a = ap (λ (m : ℕ). take m scratch) n ∙ front-is (h .scratch₀) scratch a (h .handed .log-laid) (omega arith) in
-      let z : operandsStrings (h .handed .instr .operands) ≡ [] = none-left _ (omega (arith, h .handed .nstrings, e)) in (
-        q ∙ ap (sets l₀ (p .log)) b ∙ ap (λ (o : Instr). sets l₀ (p .log) (operandsLog (p .strings) (o .operands))) (sym j),
-        ap (λ (bs : List ℕ). sets s₀ (p .strings) bs) (sym z) ∙ ap (λ (o : Instr). sets s₀ (p .strings) (operandsStrings (o .operands))) (sym j),
+      let os = h .handed .instr .operands in
+      let laid = subst (λ (n : ℕ). Laid (h .scratch₀) 0 (operandsLog n os) scratch) (add-zero (p .strings)) (h .handed .log-laid) in
+      let a : take (d .log) scratch ≡ operandsLog (p .strings) os = front-is (h .scratch₀) scratch _ (d .log) laid (log-size p d (h .handed)) kl in
+      let b : take (d .strings) spare ≡ operandsStrings os =
+      front-is (h .spare₀) spare _ (d .strings) (h .handed .strings-laid) (strings-size p d (h .handed)) ks
+      in (
+        ql ∙ ap (sets l₀ (p .log)) a ∙ ap (λ (o : Instr). sets l₀ (p .log) (operandsLog (p .strings) (o .operands))) (sym j),
+        qs ∙ ap (sets s₀ (p .strings)) b ∙ ap (λ (o : Instr). sets s₀ (p .strings) (operandsStrings (o .operands))) (sym j),
       )
 
   -- else they are read again
-  pub from-module : (l₀ s₀ l₁ s₁ : List ℕ) → p .log + d .log ≤ length l₀ → d .strings ≤ length s₀ → (v : InstRead)
-      → Decodes s (p .at) (bodyRead (grammarOf g) es (p .at) (d .words) (d .opcode) (slotsAt g (d .place)) (readerAt s (p .at + 4) Unlimited)) l₀ s₀ l₁ s₁ (p .log) (p .strings) v
+  pub from-module : (l₀ s₀ l₁ s₁ : List ℕ) → p .log + d .log ≤ length l₀ → p .strings + d .strings ≤ length s₀ → (v : InstRead)
+      → Decodes s (p .at) (bodyRead (grammarOf g) es (p .at) (d .words) (d .opcode) (slotsAt g (d .place)) (readerAt s (p .at + 4) Unlimited)) l₀ s₀ l₁ s₁ (p .log) (p .strings) 0 v
       → Stored x l₀ s₀ l₁ s₁ p
   unfolding Stored Decodes
   from-module l₀ s₀ l₁ s₁ fl fs (Got c) k i r f =
       let j = same-read x (h .handed .instr) i _ r (h .handed .read) f in
-      let o = same-read x i (k .instr) r _ f (h .row .body ∙ k .read) in (
-        k .log-laid .there (omega (arith, fl, h .handed .nlog, ap (λ (y : Instr). length (operandsLog (p .strings) (y .operands))) (o ∙ j)))
+      let o = same-read x i (k .instr) r _ f (h .row .body ∙ k .read) in
+      let laid = subst (λ (n : ℕ). Laid l₀ (p .log) (operandsLog n (k .instr .operands)) l₁) (zero-add (p .strings)) (k .log-laid) in (
+        laid .there (omega (arith, fl, log-size p d (h .handed), ap (λ (y : Instr). length (operandsLog (p .strings) (y .operands))) (o ∙ j)))
             ∙ ap (λ (y : Instr). sets l₀ (p .log) (operandsLog (p .strings) (y .operands))) o,
-        k .strings-laid .there (omega (arith, fs, h .handed .nstrings, ap (λ (y : Instr). length (operandsStrings (y .operands))) (o ∙ j)))
+        k .strings-laid .there (omega (arith, fs, strings-size p d (h .handed), ap (λ (y : Instr). length (operandsStrings (y .operands))) (o ∙ j)))
             ∙ ap (λ (y : Instr). sets s₀ (p .strings) (operandsStrings (y .operands))) o,
       )
   from-module l₀ s₀ l₁ s₁ fl fs (Refused y) k i r f =
@@ -98,14 +100,14 @@ module _ {s g : List ℕ} {x : Read Instr} {es : List Entry} {scratch : List ℕ
 
 -- KEEPING
 
-module _ (s g : List ℕ) (x : Read Instr) (i₀ l₀ s₀ t₀ scratch : List ℕ) (p : Progress) (d : Decoded) (tag : ℕ) (next : State)
-    (a : Admitted s g x (roomOf (length i₀) (length l₀) (length s₀) (length t₀)) (entriesOf (p .types) t₀) scratch p d tag next) where
+module _ (s g : List ℕ) (x : Read Instr) (i₀ l₀ s₀ t₀ scratch spare : List ℕ) (p : Progress) (d : Decoded) (tag : ℕ) (next : State)
+    (a : Admitted s g x (roomOf (length i₀) (length l₀) (length s₀) (length t₀)) (entriesOf (p .types) t₀) scratch spare p d tag next) where
   -- each store covers what is needed
   covered : Covers (roomOf (length i₀) (length l₀) (length s₀) (length t₀)) (needOf p d (entriesOf (p .types) t₀))
   covered = fits-covers _ _ (a .fits)
 
   -- log and strings have room
-  pub keep-room : (p .log + d .log ≤ length l₀) × (d .strings ≤ length s₀)
+  pub keep-room : (p .log + d .log ≤ length l₀) × (p .strings + d .strings ≤ length s₀)
   unfolding roomOf needOf
   keep-room = (omega (arith, covered .log), omega (arith, covered .strings))
 
@@ -129,7 +131,7 @@ module _ (s g : List ℕ) (x : Read Instr) (i₀ l₀ s₀ t₀ scratch : List �
         at = p .at + 4 * d .words;
         instructions = p .instructions + 1;
         log = p .log + d .log;
-        strings = d .strings;
+        strings = p .strings + d .strings;
         types = n;
         greatest = top;
         state = next;
@@ -140,8 +142,8 @@ module _ (s g : List ℕ) (x : Read Instr) (i₀ l₀ s₀ t₀ scratch : List �
       let es = entriesOf (p .types) t₀ in
       let again = e (h .instr) _ (h .read) in
       let short = log-short g index ix es s (p .at) (h .instr) _ (p .strings) (sym ex ∙ h .read) in
-      let need : counts (p .instructions + 1) (p .log + d .log) (d .strings) n ≡ needOf p d es =
-      ap (λ (m : ℕ). counts (p .instructions + 1) (p .log + d .log) (d .strings) m) en
+      let need : counts (p .instructions + 1) (p .log + d .log) (p .strings + d .strings) n ≡ needOf p d es =
+      ap (λ (m : ℕ). counts (p .instructions + 1) (p .log + d .log) (p .strings + d .strings) m) en
       in
       record {
         instr = h .instr;
@@ -152,7 +154,7 @@ module _ (s g : List ℕ) (x : Read Instr) (i₀ l₀ s₀ t₀ scratch : List �
         placed = placed-is p d h (p .state) _ (a .placed);
         used = sym (need ∙ need-is p d h es);
         fits = ap (roomFault (roomOf (length i₀) (length l₀) (length s₀) (length t₀))) need ∙ a .fits;
-        few-log = omega (arith, few, short, h .nlog, h .words);
+        few-log = omega (arith, few, short, log-size p d h, h .words);
         few-strings = h .few-strings;
         instructions-are = ei ∙ ap (λ (z : Fields). sets i₀ (8 * p .instructions) (fieldWords z)) (ef ∙ fields-are p d h tag);
         log-is = again .0;
@@ -163,14 +165,14 @@ module _ (s g : List ℕ) (x : Read Instr) (i₀ l₀ s₀ t₀ scratch : List �
 
 -- A STEP
 
-module _ (s g : List ℕ) (x : Read Instr) (room : Counts) (i₀ l₀ s₀ t₀ scratch : List ℕ) (p : Progress) (v : Judged)
-    (j : Verdict s g x room (entriesOf (p .types) t₀) scratch p v) where
+module _ (s g : List ℕ) (x : Read Instr) (room : Counts) (i₀ l₀ s₀ t₀ scratch spare : List ℕ) (p : Progress) (v : Judged)
+    (j : Verdict s g x room (entriesOf (p .types) t₀) scratch spare p v) where
   -- the load stops
   pub steps-halt : (h₁ : List ℕ) (y : Refusal) → v ≡ judged.Refused y → Steps s x room i₀ l₀ s₀ t₀ i₀ l₀ s₀ t₀ h₁ p (Stop y)
   unfolding Steps Verdict
   steps-halt h₁ y q =
       record {
-        why = subst (Verdict s g x room (entriesOf (p .types) t₀) scratch p) q j;
+        why = subst (Verdict s g x room (entriesOf (p .types) t₀) scratch spare p) q j;
         instructions-are = refl;
         log-is = refl;
         strings-are = refl;
@@ -180,11 +182,11 @@ module _ (s g : List ℕ) (x : Read Instr) (room : Counts) (i₀ l₀ s₀ t₀ 
   module _ (e : room ≡ roomOf (length i₀) (length l₀) (length s₀) (length t₀)) where
     -- the instruction goes in
     pub steps-admit : (d : Decoded) (tag : ℕ) (next : State) → v ≡ judged.Good d tag next
-        → Admitted s g x (roomOf (length i₀) (length l₀) (length s₀) (length t₀)) (entriesOf (p .types) t₀) scratch p d tag next
+        → Admitted s g x (roomOf (length i₀) (length l₀) (length s₀) (length t₀)) (entriesOf (p .types) t₀) scratch spare p d tag next
     unfolding Verdict
     steps-admit d tag next q =
-        subst (λ (u : Counts). Admitted s g x u (entriesOf (p .types) t₀) scratch p d tag next) e
-        (subst (Verdict s g x room (entriesOf (p .types) t₀) scratch p) q j)
+        subst (λ (u : Counts). Admitted s g x u (entriesOf (p .types) t₀) scratch spare p d tag next) e
+        (subst (Verdict s g x room (entriesOf (p .types) t₀) scratch spare p) q j)
 
     -- the load goes on
     pub steps-on : (i₂ l₂ s₂ t₂ h₂ : List ℕ) (r : Progress)

@@ -65,7 +65,7 @@ tracked d es = trackOf (d .opcode) (idIs (d .rtype)) (idIs (d .rid)) (d .operand
 
 -- what is taken with it
 unfoldable pub needOf : Progress → Decoded → List Entry → Counts
-needOf p d es = counts (p .instructions + 1) (p .log + d .log) (d .strings) (length (tracked d es))
+needOf p d es = counts (p .instructions + 1) (p .log + d .log) (p .strings + d .strings) (length (tracked d es))
 
 -- the fields of its record
 unfoldable pub fieldsBy : Progress → Decoded → ℕ → Fields
@@ -89,17 +89,16 @@ judgedBy room need at d (Refuses n) = Refused (refusal n at 0)
 
 -- BEFORE ANYTHING IS KEPT
 
--- it was read by its row, and its operands' records went to the scratch
-pub record Shown (s g : List ℕ) (x : Read Instr) (es : List Entry) (scratch : List ℕ) (p : Progress) (d : Decoded) : Type 0 where
+-- it was read by its row, and its operands' records and strings went to scratch and spare
+pub record Shown (s g : List ℕ) (x : Read Instr) (es : List Entry) (scratch spare : List ℕ) (p : Progress) (d : Decoded) : Type 0 where
   pub scratch₀ : List ℕ
   pub spare₀ : List ℕ
-  pub spare : List ℕ
-  pub handed : Handed s (p .at) x scratch₀ spare₀ scratch spare 0 (p .strings) d
+  pub handed : Handed s (p .at) x scratch₀ spare₀ scratch spare 0 0 (p .strings) d
   pub row : ByRow g es s (p .at) x d
 
 -- so it was, it has its place, and there is room for it
-pub record Admitted (s g : List ℕ) (x : Read Instr) (room : Counts) (es : List Entry) (scratch : List ℕ) (p : Progress) (d : Decoded) (tag : ℕ) (next : State) : Type 0 where
-  pub shown : Shown s g x es scratch p d
+pub record Admitted (s g : List ℕ) (x : Read Instr) (room : Counts) (es : List Entry) (scratch spare : List ℕ) (p : Progress) (d : Decoded) (tag : ℕ) (next : State) : Type 0 where
+  pub shown : Shown s g x es scratch spare p d
   pub placed : layoutOf (d .opcode) (p .state) ≡ Tagged tag next
   pub fits : roomFault room (needOf p d es) ≡ 0
 
@@ -113,9 +112,9 @@ pub data Halts (x : Read Instr) (room : Counts) (es : List Entry) (p : Progress)
       → y ≡ refusal (roomFault room (usedAfter (usedBy p) i (track i es))) (i .offset) 0 → Halts x room es p y
 
 -- by the answer
-unfoldable pub Verdict : List ℕ → List ℕ → Read Instr → Counts → List Entry → List ℕ → Progress → Judged → Type 0
-Verdict s g x room es scratch p (Good d tag next) = Admitted s g x room es scratch p d tag next
-Verdict s g x room es scratch p (Refused y) = Halts x room es p y
+unfoldable pub Verdict : List ℕ → List ℕ → Read Instr → Counts → List Entry → List ℕ → List ℕ → Progress → Judged → Type 0
+Verdict s g x room es scratch spare p (Good d tag next) = Admitted s g x room es scratch spare p d tag next
+Verdict s g x room es scratch spare p (Refused y) = Halts x room es p y
 
 -- A STEP
 

@@ -22,8 +22,10 @@ const HINTS: usize = 32768;
 
 const FEW_HINTS: usize = 2048;
 
-// So long may the records of an instruction be that is read once.
+// So long may the records of an instruction be that is read once, and so long its strings.
 const SCRATCH: usize = 576;
+
+const SPARE: usize = 256;
 
 // The instructions after the header, to the first refusal or the end.
 fn load_from(
@@ -44,6 +46,7 @@ fn load_from(
     ensures { λ r. ⌜ Leaves (loadFrom (grammarOf (now (g .entry))) (roomOf (length (now (instructions .entry))) (length (now (log .entry))) (length (now (strings .entry))) (length (now (types .entry)))) header (length (now (s .entry)) / 4) emptyBook (readerAt (now (s .entry)) 20 Unlimited)) (now (instructions .entry)) (now (log .entry)) (now (strings .entry)) (now (types .entry)) (now (instructions .exit)) (now (log .exit)) (now (strings .exit)) (now (types .exit)) r ⌝ }
 {
     let room = room_in(instructions.len(), log.len(), strings.len(), types.len());
+    let kinds = reflect::kinds();
     let table = reflect::table();
     let mut p = Progress {
         at: 20,
@@ -56,6 +59,7 @@ fn load_from(
     };
     while 4 <= s.len() - p.at {
         let step = take(
+            &kinds,
             &table,
             s,
             g,
@@ -102,7 +106,7 @@ pub fn load_with(
     }
     let words = header.words;
     let mut scratch = [0u8; SCRATCH];
-    let mut spare = [0u8; 1];
+    let mut spare = [0u8; SPARE];
     if s.len() <= 16384 {
         let mut hints = [0u32; FEW_HINTS];
         return load_from(

@@ -3,8 +3,8 @@ ghost use mathlib.Core.Path.{_≡_};
 ghost use Prim.Native.Nat.{_+_, _*_, _≤_, _<_};
 ghost use lib.ListN.{length};
 ghost use Rattle.spec.specs.Layout.{layoutOf};
-ghost use Rattle.spec.specs.Load.{roomOf};
-ghost use Rattle.reflect.specs.Column.{layoutTable};
+ghost use Rattle.spec.specs.Load.{roomOf, roomFault};
+ghost use Rattle.reflect.specs.Column.{layoutTable, kindTable};
 ghost use Rattle.grammar.specs.Index.{Indexed};
 ghost use Rattle.tracker.specs.Entries.{entriesOf};
 ghost use Rattle.tracker.specs.Hints.{Hinted};
@@ -36,35 +36,38 @@ pub enum Step {
 
 // ROOM
 
-// What is taken with a decoded instruction more.
-fn need_after(p: Progress, d: Decoded, types: &[u32], hints: &[u32]) -> Counts
+// What is taken with a decoded instruction more. It adds an entry at most: where there is room for one, no more is asked.
+fn need_after(p: Progress, d: Decoded, types: &[u32], hints: &[u32], room: Counts) -> Counts
     requires { ⌜ (3 * p .types ≤ length (now types)) × (p .instructions < 67108864) ⌝ }
     requires { ⌜ Hinted (p .types) (now types) (now hints) (p .greatest) ⌝ }
-    requires { ⌜ (p .log ≤ 1000000000) × (d .log ≤ 1000000000) ⌝ }
-    ensures { λ r. ⌜ r ≡ needOf p d (entriesOf (p .types) (now (types .entry))) ⌝ }
+    requires { ⌜ (p .log ≤ 1000000000) × (d .log ≤ 1000000000) × (p .strings ≤ 1000000000) × (d .strings ≤ 1000000000) ⌝ }
+    ensures { λ r. ⌜ roomFault room r ≡ roomFault room (needOf p d (entriesOf (p .types) (now (types .entry)))) ⌝ }
 {
-    let tracker = TypeTracker {
-        count: p.types,
-        greatest: p.greatest,
-    };
-    let rtype = d.rtype;
-    let rid = d.rid;
-    let first = d.first;
-    let second = d.second;
-    let entries = tracker.after(
-        types,
-        hints,
-        d.opcode,
-        rtype,
-        rid,
-        d.operands,
-        first,
-        second,
-    );
+    let mut entries = p.types + 1;
+    if room.types < entries {
+        let tracker = TypeTracker {
+            count: p.types,
+            greatest: p.greatest,
+        };
+        let rtype = d.rtype;
+        let rid = d.rid;
+        let first = d.first;
+        let second = d.second;
+        entries = tracker.after(
+            types,
+            hints,
+            d.opcode,
+            rtype,
+            rid,
+            d.operands,
+            first,
+            second,
+        );
+    }
     Counts {
         instructions: p.instructions + 1,
         log: p.log + d.log,
-        strings: d.strings,
+        strings: p.strings + d.strings,
         types: entries,
     }
 }
@@ -85,6 +88,7 @@ fn refused(number: u32, place: usize) -> Judged
 
 // A decoded instruction by its layout and the room for it.
 fn admit(
+    kinds: &[u8; 256],
     table: &[[u8; 3]; 19],
     p: Progress,
     d: Decoded,
@@ -93,17 +97,17 @@ fn admit(
     room: Counts,
 ) -> Judged
     requires { ⌜ (3 * p .types ≤ length (now types)) × (p .instructions < 67108864) ⌝ }
-    requires { ⌜ now table ≡ layoutTable ⌝ }
+    requires { ⌜ (now table ≡ layoutTable) × (now kinds ≡ kindTable) ⌝ }
     requires { ⌜ Hinted (p .types) (now types) (now hints) (p .greatest) ⌝ }
-    requires { ⌜ (p .log ≤ 1000000000) × (d .log ≤ 1000000000) ⌝ }
+    requires { ⌜ (p .log ≤ 1000000000) × (d .log ≤ 1000000000) × (p .strings ≤ 1000000000) × (d .strings ≤ 1000000000) ⌝ }
     ensures { λ r. ⌜ r ≡ judgedBy room (needOf p d (entriesOf (p .types) (now (types .entry)))) (p .at) d (layoutOf (d .opcode) (p .state)) ⌝ }
 {
     let state = p.state;
-    let cell = reflect::place(table, d.opcode, state);
+    let cell = reflect::place(kinds, table, d.opcode, state);
     match cell {
         Cell::Refuses(n) => refused(n as u32, p.at),
         Cell::Tagged(tag, next) => {
-            let fault = room_fault(room, need_after(p, d, types, hints));
+            let fault = room_fault(room, need_after(p, d, types, hints, room));
             if fault == 0 {
                 return Judged::Good(d, tag, next);
             }
@@ -114,8 +118,9 @@ fn admit(
 
 // DECODING FIRST
 
-// The next instruction, before anything is kept: its operands' records go to the scratch, where they fit.
+// The next instruction, before anything is kept: its operands' records and strings go to scratch and spare, where they fit.
 fn judge(
+    kinds: &[u8; 256],
     table: &[[u8; 3]; 19],
     s: &[u8],
     g: &[u8],
@@ -129,11 +134,11 @@ fn judge(
 ) -> Judged
     requires { ⌜ Indexed (now g) (now index) ⌝ }
     requires { ⌜ Bounded (now s) (now types) (now hints) p ⌝ }
-    requires { ⌜ now table ≡ layoutTable ⌝ }
-    ensures { λ r. ⌜ Verdict (now (s .entry)) (now (g .entry)) (readAt (now (s .entry)) (now (g .entry)) (now (types .entry)) p) room (entriesOf (p .types) (now (types .entry))) (now (scratch .exit)) p r ⌝ }
+    requires { ⌜ (now table ≡ layoutTable) × (now kinds ≡ kindTable) ⌝ }
+    ensures { λ r. ⌜ Verdict (now (s .entry)) (now (g .entry)) (readAt (now (s .entry)) (now (g .entry)) (now (types .entry)) p) room (entriesOf (p .types) (now (types .entry))) (now (scratch .exit)) (now (spare .exit)) p r ⌝ }
 {
     let at = p.at;
-    let strings_at = p.strings;
+    let base = p.strings;
     let tracker = TypeTracker {
         count: p.types,
         greatest: p.greatest,
@@ -149,18 +154,19 @@ fn judge(
         scratch,
         0,
         spare,
-        strings_at,
+        0,
+        base,
     );
     match read {
         InstRead::Refused(x) => Judged::Refused(x),
-        InstRead::Got(d) => admit(table, p, d, types, hints, room),
+        InstRead::Got(d) => admit(kinds, table, p, d, types, hints, room),
     }
 }
 
 // KEEPING
 
-// Keeps the operands of an instruction that goes in: from the scratch, or, where they are too long for it or there are strings, from
-// the module again.
+// Keeps the operands of an instruction that goes in: from scratch and spare, or, where they are too long for these, from the module
+// again.
 fn keep_operands(
     s: &[u8],
     g: &[u8],
@@ -170,22 +176,25 @@ fn keep_operands(
     types: &[u32],
     hints: &[u32],
     scratch: &[u8],
+    spare: &[u8],
     p: Progress,
     d: Decoded,
 )
     requires { ⌜ Indexed (now g) (now index) ⌝ }
     requires { ⌜ Bounded (now s) (now types) (now hints) p ⌝ }
-    requires { ⌜ (p .log + d .log ≤ length (now log)) × (d .strings ≤ length (now strings)) ⌝ }
-    requires { ⌜ Shown (now s) (now g) (readAt (now s) (now g) (now types) p) (entriesOf (p .types) (now types)) (now scratch) p d ⌝ }
+    requires { ⌜ (p .log + d .log ≤ length (now log)) × (p .strings + d .strings ≤ length (now strings)) ⌝ }
+    requires { ⌜ Shown (now s) (now g) (readAt (now s) (now g) (now types) p) (entriesOf (p .types) (now types)) (now scratch) (now spare) p d ⌝ }
     ensures { λ _. ⌜ Stored (readAt (now (s .entry)) (now (g .entry)) (now (types .entry)) p) (now (log .entry)) (now (strings .entry)) (now (log .exit)) (now (strings .exit)) p ⌝ }
 {
     let at = p.at;
     let log_to = p.log;
     let strings_to = p.strings;
     let size = d.log;
-    if d.strings == strings_to {
-        if size <= scratch.len() {
+    let more = d.strings;
+    if size <= scratch.len() {
+        if more <= spare.len() {
             operand::put_bytes(log, log_to, &scratch[..size]);
+            operand::put_bytes(strings, strings_to, &spare[..more]);
             return;
         }
     }
@@ -208,6 +217,7 @@ fn keep_operands(
         log_to,
         strings,
         strings_to,
+        0,
     );
 }
 
@@ -222,6 +232,7 @@ fn keep(
     types: &mut [u32],
     hints: &mut [u32],
     scratch: &[u8],
+    spare: &[u8],
     p: Progress,
     d: Decoded,
     tag: u8,
@@ -229,10 +240,22 @@ fn keep(
 ) -> Progress
     requires { ⌜ Indexed (now g) (now index) ⌝ }
     requires { ⌜ Bounded (now s) (now types) (now hints) p ⌝ }
-    requires { ⌜ Admitted (now s) (now g) (readAt (now s) (now g) (now types) p) (roomOf (length (now instructions)) (length (now log)) (length (now strings)) (length (now types))) (entriesOf (p .types) (now types)) (now scratch) p d tag state ⌝ }
+    requires { ⌜ Admitted (now s) (now g) (readAt (now s) (now g) (now types) p) (roomOf (length (now instructions)) (length (now log)) (length (now strings)) (length (now types))) (entriesOf (p .types) (now types)) (now scratch) (now spare) p d tag state ⌝ }
     ensures { λ r. ⌜ Keeps (now (s .entry)) (readAt (now (s .entry)) (now (g .entry)) (now (types .entry)) p) (roomOf (length (now (instructions .entry))) (length (now (log .entry))) (length (now (strings .entry))) (length (now (types .entry)))) (now (instructions .entry)) (now (log .entry)) (now (strings .entry)) (now (types .entry)) (now (instructions .exit)) (now (log .exit)) (now (strings .exit)) (now (types .exit)) (now (hints .exit)) p r ⌝ }
 {
-    keep_operands(s, g, index, log, strings, types, hints, scratch, p, d);
+    keep_operands(
+        s,
+        g,
+        index,
+        log,
+        strings,
+        types,
+        hints,
+        scratch,
+        spare,
+        p,
+        d,
+    );
     let fields = fields_of(p, d, tag);
     records::put_fields(instructions, records::RECORD * p.instructions, fields);
     let tracker = TypeTracker {
@@ -257,7 +280,7 @@ fn keep(
         at: p.at + 4 * (d.words as usize),
         instructions: p.instructions + 1,
         log: p.log + d.log,
-        strings: d.strings,
+        strings: p.strings + d.strings,
         types: tracked.count,
         greatest: tracked.greatest,
         state,
@@ -266,6 +289,7 @@ fn keep(
 
 // Takes the next instruction: judged, and kept where it goes in.
 pub fn take(
+    kinds: &[u8; 256],
     table: &[[u8; 3]; 19],
     s: &[u8],
     g: &[u8],
@@ -283,10 +307,22 @@ pub fn take(
     requires { ⌜ Indexed (now g) (now index) ⌝ }
     requires { ⌜ Bounded (now s) (now types) (now hints) p ⌝ }
     requires { ⌜ room ≡ roomOf (length (now instructions)) (length (now log)) (length (now strings)) (length (now types)) ⌝ }
-    requires { ⌜ now table ≡ layoutTable ⌝ }
+    requires { ⌜ (now table ≡ layoutTable) × (now kinds ≡ kindTable) ⌝ }
     ensures { λ r. ⌜ Steps (now (s .entry)) (readAt (now (s .entry)) (now (g .entry)) (now (types .entry)) p) room (now (instructions .entry)) (now (log .entry)) (now (strings .entry)) (now (types .entry)) (now (instructions .exit)) (now (log .exit)) (now (strings .exit)) (now (types .exit)) (now (hints .exit)) p r ⌝ }
 {
-    let verdict = judge(table, s, g, index, types, hints, scratch, spare, room, p);
+    let verdict = judge(
+        kinds,
+        table,
+        s,
+        g,
+        index,
+        types,
+        hints,
+        scratch,
+        spare,
+        room,
+        p,
+    );
     match verdict {
         Judged::Refused(x) => Step::Stop(x),
         Judged::Good(d, tag, state) => {
@@ -300,6 +336,7 @@ pub fn take(
                 types,
                 hints,
                 scratch,
+                spare,
                 p,
                 d,
                 tag,

@@ -126,11 +126,11 @@ module _ (g : Grammar) (types : List Entry) (s : List ℕ) (at count op : ℕ) (
   unfolding bodyRead readerOf readerAt leftOf
   body-by y e = ap (λ (m : Read Seen). after m (λ x. allRead (instrOf at count op x))) e
 
-  module _ (log₀ strs₀ log strs : List ℕ) (a b : ℕ) (v : Parsed)
-      (w : Walks s startOf (readRow g types (leftOf (Words (count - 1))) ss nothingSeen (readerOf s startOf)) log₀ strs₀ log strs a b v) where
+  module _ (log₀ strs₀ log strs : List ℕ) (a b c : ℕ) (v : Parsed)
+      (w : Walks s startOf (readRow g types (leftOf (Words (count - 1))) ss nothingSeen (readerOf s startOf)) log₀ strs₀ log strs a b c v) where
     -- an operand was refused
     pub body-bad : (y : Refusal) (e : Decoder) → v ≡ Bad y e
-        → Decodes s at (bodyRead g types at count op ss (readerAt s (at + 4) Unlimited)) log₀ strs₀ log strs a b (Refused y)
+        → Decodes s at (bodyRead g types at count op ss (readerAt s (at + 4) Unlimited)) log₀ strs₀ log strs a b c (Refused y)
     unfolding Walks Decodes
     body-bad y e q =
         let d : readRow g types (leftOf (Words (count - 1))) ss nothingSeen (readerOf s startOf) ≡ refused y (readerOf s e) = (rw q at w) in
@@ -138,20 +138,20 @@ module _ (g : Grammar) (types : List Entry) (s : List ℕ) (at count op : ℕ) (
 
     module _ (e : Decoder) (n : Used) (q : v ≡ Good e n) where
       -- the operands were read
-      row-told : RowRead s startOf (readRow g types (leftOf (Words (count - 1))) ss nothingSeen (readerOf s startOf)) log₀ strs₀ log strs a b e n
+      row-told : RowRead s startOf (readRow g types (leftOf (Words (count - 1))) ss nothingSeen (readerOf s startOf)) log₀ strs₀ log strs a b c e n
       unfolding Walks
       row-told = rw q at w
 
       -- words are left over
       pub body-left : (t : Bool) (r : InstRead) → t ≡ limitReached e → t ≡ false → r ≡ Refused (refusal 7 (e .offset) 0)
-          → Decodes s at (bodyRead g types at count op ss (readerAt s (at + 4) Unlimited)) log₀ strs₀ log strs a b r
+          → Decodes s at (bodyRead g types at count op ss (readerAt s (at + 4) Unlimited)) log₀ strs₀ log strs a b c r
       unfolding Decodes
       body-left t r f z u = rw u (record { rest = readerOf s e; read = body-by _ (row-told .read) ∙ all-left s e _ (sym f ∙ z) })
 
       -- no word is
       pub body-got : (place : ℕ) (i j : Id) (x y : Literal) (t : Bool) → 1 ≤ count → t ≡ limitReached e → t ≡ true
           → idIs i ≡ wordIs (n .rtype) → idIs j ≡ wordIs (n .rid) → literalOf x ≡ wordIs (n .first) → literalOf y ≡ wordIs (n .second)
-          → Decodes s at (bodyRead g types at count op ss (readerAt s (at + 4) Unlimited)) log₀ strs₀ log strs a b (Got (decodedAs op count place i j x y n))
+          → Decodes s at (bodyRead g types at count op ss (readerAt s (at + 4) Unlimited)) log₀ strs₀ log strs a b c (Got (decodedAs op count place i j x y n))
       unfolding Decodes leftOf limitReached
       body-got place i j x y t h f z hi hj hx hy =
           let d = row-told in
@@ -210,10 +210,10 @@ unfolding placeFound
 place-told g index i op r p e h q = ((rw q at h), row-operands g index i op (slotsAt g p) (found-at g r _ p e q))
 
 -- a refusal before the operands
-decline : (s : List ℕ) (at : ℕ) (x : Read Instr) (l₀ t₀ l t : List ℕ) (a b : ℕ) (r : InstRead) (y : Refusal) (q : Reader)
-    → r ≡ Refused y → x ≡ refused y q → Decodes s at x l₀ t₀ l t a b r
+decline : (s : List ℕ) (at : ℕ) (x : Read Instr) (l₀ t₀ l t : List ℕ) (a b c : ℕ) (r : InstRead) (y : Refusal) (q : Reader)
+    → r ≡ Refused y → x ≡ refused y q → Decodes s at x l₀ t₀ l t a b c r
 unfolding Decodes
-decline s at x l₀ t₀ l t a b r y q u e = rw u (record { rest = q; read = e })
+decline s at x l₀ t₀ l t a b c r y q u e = rw u (record { rest = q; read = e })
 
 -- a word that was read is there
 pub word-inside : (s : List ℕ) (at w : ℕ) (e : Decoder) → Word w e ≡ wordFrom s (decoder at Unlimited) → at + 4 ≤ length s
@@ -245,25 +245,25 @@ module _ (g : List ℕ) (types : List Entry) (s : List ℕ) (at : ℕ) where
   row-is count op p x (Got r) h q e = record { inside = rw (h .2) (q .0); operands = rw (h .2) (q .1); body = rw (h .0, h .1, h .2) e }
   row-is count op p x (Refused y) h q e = tt
 
-  module _ (l₀ t₀ l t : List ℕ) (a b : ℕ) where
+  module _ (l₀ t₀ l t : List ℕ) (a b c : ℕ) where
     -- there is no word
     pub inst-no-word : (y : Refusal) (e : Decoder) → NoWord y e ≡ wordFrom s (decoder at Unlimited)
-        → Decodes s at (readInstr (grammarOf g) types (readerAt s at Unlimited)) l₀ t₀ l t a b (Refused y)
-    inst-no-word y e h = decline s at _ l₀ t₀ l t a b _ y _ refl (first-by _ (word-refused s (decoder at Unlimited) e y h))
+        → Decodes s at (readInstr (grammarOf g) types (readerAt s at Unlimited)) l₀ t₀ l t a b c (Refused y)
+    inst-no-word y e h = decline s at _ l₀ t₀ l t a b c _ y _ refl (first-by _ (word-refused s (decoder at Unlimited) e y h))
 
     -- its count is zero
     pub inst-zero : (w : ℕ) (e : Decoder) → Word w e ≡ wordFrom s (decoder at Unlimited) → (r : InstRead) → w / 65536 ≡ 0 → r ≡ Refused (refusal 4 at 0)
-        → Decodes s at (readInstr (grammarOf g) types (readerAt s at Unlimited)) l₀ t₀ l t a b r
+        → Decodes s at (readInstr (grammarOf g) types (readerAt s at Unlimited)) l₀ t₀ l t a b c r
     inst-zero w e h r z u =
-        decline s at _ l₀ t₀ l t a b r _ (readerOf s e) u (first-by _ (word-got s (decoder at Unlimited) e w h .reads) ∙ simp (eq-eqb (w / 65536) 0 z))
+        decline s at _ l₀ t₀ l t a b c r _ (readerOf s e) u (first-by _ (word-got s (decoder at Unlimited) e w h .reads) ∙ simp (eq-eqb (w / 65536) 0 z))
 
   module _ (w : ℕ) (e : Decoder) (h : Word w e ≡ wordFrom s (decoder at Unlimited)) (z : w / 65536 ≡ 0 → ⊥)
       (f : Found) (o : rowFound g f ≡ rowOf (w % 65536) (grammarOf g .rows)) where
     -- its opcode has no row
-    pub inst-unknown : (l₀ t₀ l t : List ℕ) (a b : ℕ) (r : InstRead) → f ≡ Nothing → r ≡ Refused (refusal 5 at (w % 65536))
-        → Decodes s at (readInstr (grammarOf g) types (readerAt s at Unlimited)) l₀ t₀ l t a b r
-    inst-unknown l₀ t₀ l t a b r q u =
-        decline s at _ l₀ t₀ l t a b r _ (readerOf s e) u
+    pub inst-unknown : (l₀ t₀ l t : List ℕ) (a b c : ℕ) (r : InstRead) → f ≡ Nothing → r ≡ Refused (refusal 5 at (w % 65536))
+        → Decodes s at (readInstr (grammarOf g) types (readerAt s at Unlimited)) l₀ t₀ l t a b c r
+    inst-unknown l₀ t₀ l t a b c r q u =
+        decline s at _ l₀ t₀ l t a b c r _ (readerOf s e) u
         (first-by _ (word-got s (decoder at Unlimited) e w h .reads) ∙ simp (ne-eqb (w / 65536) 0 z, found-none g f _ o q))
 
     -- its opcode has a row
@@ -277,9 +277,9 @@ module _ (g : List ℕ) (types : List Entry) (s : List ℕ) (at : ℕ) where
         first-by _ (d .reads) ∙ simp (ne-eqb (w / 65536) 0 z, found-at g f _ p o q, x)
 
     -- the instruction is that of the row
-    pub inst-by : (p : ℕ) → f ≡ At p → (p ≤ length g) × (every isOperand (slotsAt g p) ≡ true) → (l₀ t₀ l t : List ℕ) (a b : ℕ) (r : InstRead)
-        → Decodes s at (bodyRead (grammarOf g) types at (w / 65536) (w % 65536) (slotsAt g p) (readerAt s (at + 4) Unlimited)) l₀ t₀ l t a b r
+    pub inst-by : (p : ℕ) → f ≡ At p → (p ≤ length g) × (every isOperand (slotsAt g p) ≡ true) → (l₀ t₀ l t : List ℕ) (a b c : ℕ) (r : InstRead)
+        → Decodes s at (bodyRead (grammarOf g) types at (w / 65536) (w % 65536) (slotsAt g p) (readerAt s (at + 4) Unlimited)) l₀ t₀ l t a b c r
         → ShapeIs (w / 65536) (w % 65536) p r
-        → Decodes s at (readInstr (grammarOf g) types (readerAt s at Unlimited)) l₀ t₀ l t a b r
+        → Decodes s at (readInstr (grammarOf g) types (readerAt s at Unlimited)) l₀ t₀ l t a b c r
         × RowIs g types s at (readInstr (grammarOf g) types (readerAt s at Unlimited)) r
-    inst-by p q k l₀ t₀ l t a b r d v = (rw (inst-row p q) d, row-is _ _ p _ r v k (inst-row p q))
+    inst-by p q k l₀ t₀ l t a b c r d v = (rw (inst-row p q) d, row-is _ _ p _ r v k (inst-row p q))

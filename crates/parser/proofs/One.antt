@@ -240,6 +240,7 @@ held-narrow l t l₁ u n j w z p h =
     record {
       rtype = p .rtype;
       rid = p .rid;
+      base = p .base;
       nlog = a;
       nstrings = p .strings ∙ sym (add-zero (u .strings));
       noted = p .noted;
@@ -255,10 +256,10 @@ one-more u r a b e = ap (λ n. n .count) e
 -- little is in use after a record
 pub few-pushed : (s : List ℕ) (d e : Decoder) (u r : Used) (n j w : ℕ) → Few s d u → Step s d e n → 1 ≤ n → Pushed j w u r → Few s e r
 few-pushed s d e u r n j w f t h p =
-    step-few s d e u r n f t h (one-more u r _ _ (p .noted)) (omega (arith, p .log, length-range (parts j w) .1)) (omega (arith, p .strings))
+    step-few s d e u r n f t h (one-more u r _ _ (p .noted)) (omega (arith, p .log, length-range (parts j w) .1)) (omega (arith, p .strings)) (p .base)
 
 -- the numbers are small
-pub few-small : (s : List ℕ) (d : Decoder) (u : Used) → Few s d u → (u .log ≤ 1000000000) × (u .operands ≤ 1000000000) × (u .strings ≤ 67108864)
+pub few-small : (s : List ℕ) (d : Decoder) (u : Used) → Few s d u → (u .log ≤ 1000000000) × (u .operands ≤ 1000000000) × (u .base + u .strings ≤ 67108864)
 few-small s d u f = (
   omega (arith, f .short, f .inside, f .log),
   omega (arith, f .short, f .inside, f .operands),
@@ -307,8 +308,8 @@ module _ (s : List ℕ) (from size : ℕ) (h : from + size < length s) where
   size-is = length-slice from (from + size) s (omega arith) ∙ omega arith
 
   -- a string's record and its bytes
-  pub held-text : (l t l₁ t₁ : List ℕ) (u n : Used) → u .strings < 4294967296 → Copied size u n
-      → Laid l (u .log) (recordOf (parts 40 (u .strings + 4294967296 * size))) l₁ → Laid t (u .strings) (slice from (from + size) s) t₁
+  pub held-text : (l t l₁ t₁ : List ℕ) (u n : Used) → u .base + u .strings < 4294967296 → Copied size u n
+      → Laid l (u .log) (recordOf (parts 40 (u .base + u .strings + 4294967296 * size))) l₁ → Laid t (u .strings) (slice from (from + size) s) t₁
       → Held l t l₁ t₁ u n (text (slice from (from + size) s) ∷ [])
   unfolding operandsLog operandLog operandsStrings operandString notes note bytesOf
   held-text l t l₁ t₁ u n z p hl ht =
@@ -316,18 +317,19 @@ module _ (s : List ℕ) (from size : ℕ) (h : from + size < length s) where
       record {
         rtype = p .rtype;
         rid = p .rid;
+        base = p .base;
         nlog = p .log;
         nstrings = p .strings ∙ ap (λ (i : ℕ). u .strings + i) (sym (ap length e ∙ size-is));
         noted = p .noted;
         log-laid =
-            laid-as refl (text-record (u .strings) size z ∙ ap (λ (i : ℕ). 40 ∷ (bytesOf (u .strings) ++ bytesOf i)) (sym size-is)) hl;
+            laid-as refl (text-record (u .base + u .strings) size z ∙ ap (λ (i : ℕ). 40 ∷ (bytesOf (u .base + u .strings) ++ bytesOf i)) (sym size-is)) hl;
         strings-laid = laid-as refl (sym e) ht;
       }
 
 -- little is in use after a string
 pub few-copied : (s : List ℕ) (d e : Decoder) (u r : Used) (size : ℕ) → Few s d u → Step s d e (textWords size) → Copied size u r → Few s e r
 few-copied s d e u r size f t p =
-    step-few s d e u r (textWords size) f t (omega arith) (one-more u r _ _ (p .noted)) (omega (arith, p .log)) (omega (arith, p .strings))
+    step-few s d e u r (textWords size) f t (omega arith) (one-more u r _ _ (p .noted)) (omega (arith, p .log)) (omega (arith, p .strings)) (p .base)
 
 -- a string takes a word or more
 pub text-went : (s : List ℕ) (d e : Decoder) (size m : ℕ) → Step s d e (textWords size) → d .limit ≡ Words m → Went d e 4
@@ -374,6 +376,7 @@ held-wide l t l₁ u n j w z p h =
     record {
       rtype = p .rtype;
       rid = p .rid;
+      base = p .base;
       nlog = a;
       nstrings = p .strings ∙ sym (add-zero (u .strings));
       noted = simp (c, d) at (p .noted);

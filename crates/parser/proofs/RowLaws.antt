@@ -62,22 +62,23 @@ left-some l n e h =
 -- THE WALK
 
 -- what the walk of a row has done: what was seen is stored, and the operands that are left are read from here
-pub record Rowing (s : List ℕ) (g : Grammar) (types : List Entry) (x : Read Seen) (log₀ strs₀ log strs : List ℕ) (a b : ℕ) (d₀ d : Decoder) (u : Used) (ss : List Slot) : Type 0 where
+pub record Rowing (s : List ℕ) (g : Grammar) (types : List Entry) (x : Read Seen) (log₀ strs₀ log strs : List ℕ) (a b c : ℕ) (d₀ d : Decoder) (u : Used) (ss : List Slot) : Type 0 where
   pub seen : Seen
   pub fuel : ℕ
   pub whole : x ≡ readRow g types fuel ss seen (readerOf s d)
   pub enough : leftOf (d .limit) ≤ fuel
-  pub walked : Walked log₀ strs₀ log strs a b u seen
+  pub walked : Walked log₀ strs₀ log strs a b c u seen
   pub few : Few s d u
   pub went : Went d₀ d 0
   pub allowed : every isOperand ss ≡ true
 
 -- nothing is seen where nothing is in use
-walked-nothing : (log strs : List ℕ) (a b : ℕ) → Walked log strs log strs a b (unused a b) nothingSeen
+walked-nothing : (log strs : List ℕ) (a b c : ℕ) → Walked log strs log strs a b c (unused a b c) nothingSeen
 unfolding unused notesOf notes noNotes wordIs operandsLog operandsStrings
-walked-nothing log strs a b = record {
+walked-nothing log strs a b c = record {
   rtype = refl;
   rid = refl;
+  base = refl;
   nlog = omega arith;
   nstrings = omega arith;
   noted = refl;
@@ -86,10 +87,10 @@ walked-nothing log strs a b = record {
 }
 
 -- and little is in use
-few-nothing : (s : List ℕ) (d : Decoder) (a b : ℕ) → length s ≤ 67108864 → d .offset ≤ length s → d .limit ≡ Words (leftOf (d .limit))
-    → 4 * a ≤ 9 * d .offset → b ≤ d .offset → Few s d (unused a b)
+few-nothing : (s : List ℕ) (d : Decoder) (a b c : ℕ) → length s ≤ 67108864 → d .offset ≤ length s → d .limit ≡ Words (leftOf (d .limit))
+    → 4 * a ≤ 9 * d .offset → c + b ≤ d .offset → Few s d (unused a b c)
 unfolding unused
-few-nothing s d a b h i l p q = record {
+few-nothing s d a b c h i l p q = record {
   short = h;
   inside = i;
   left = leftOf (d .limit);
@@ -100,16 +101,16 @@ few-nothing s d a b h i l p q = record {
 }
 
 -- nothing yet
-pub row-starts : (s : List ℕ) (g : Grammar) (types : List Entry) (log strs : List ℕ) (a b : ℕ) (d : Decoder) (u : Used) (ss : List Slot) → u ≡ unused a b
-    → length s ≤ 67108864 → d .offset ≤ length s → d .limit ≡ Words (leftOf (d .limit)) → 4 * a ≤ 9 * d .offset → b ≤ d .offset → every isOperand ss ≡ true
-    → Rowing s g types (readRow g types (leftOf (d .limit)) ss nothingSeen (readerOf s d)) log strs log strs a b d d u ss
-row-starts s g types log strs a b d u ss e h i l p q o = rw e (record {
+pub row-starts : (s : List ℕ) (g : Grammar) (types : List Entry) (log strs : List ℕ) (a b c : ℕ) (d : Decoder) (u : Used) (ss : List Slot) → u ≡ unused a b c
+    → length s ≤ 67108864 → d .offset ≤ length s → d .limit ≡ Words (leftOf (d .limit)) → 4 * a ≤ 9 * d .offset → c + b ≤ d .offset → every isOperand ss ≡ true
+    → Rowing s g types (readRow g types (leftOf (d .limit)) ss nothingSeen (readerOf s d)) log strs log strs a b c d d u ss
+row-starts s g types log strs a b c d u ss e h i l p q o = rw e (record {
   seen = nothingSeen;
   fuel = leftOf (d .limit);
   whole = refl;
   enough = omega arith;
-  walked = walked-nothing log strs a b;
-  few = few-nothing s d a b h i l p q;
+  walked = walked-nothing log strs a b c;
+  few = few-nothing s d a b c h i l p q;
   went = went-nowhere d;
   allowed = o;
 })
@@ -121,19 +122,19 @@ operands-after j q more h i true = h
 operands-after j q more h i false = i
 
 -- an answer of an operand, taken apart
-slot-good : (s : List ℕ) (d : Decoder) (f : Seen → Read Seen) (log₀ strs₀ log strs log₁ strs₁ : List ℕ) (a b : ℕ) (u : Used) (x : Seen) (v : Parsed) (e : Decoder) (n : Used)
-    → Walked log₀ strs₀ log strs a b u x → SlotWalks s d f log strs log₁ strs₁ u v → v ≡ Good e n → SlotRead s d (f x) log₀ strs₀ log₁ strs₁ a b e n
+slot-good : (s : List ℕ) (d : Decoder) (f : Seen → Read Seen) (log₀ strs₀ log strs log₁ strs₁ : List ℕ) (a b c : ℕ) (u : Used) (x : Seen) (v : Parsed) (e : Decoder) (n : Used)
+    → Walked log₀ strs₀ log strs a b c u x → SlotWalks s d f log strs log₁ strs₁ u v → v ≡ Good e n → SlotRead s d (f x) log₀ strs₀ log₁ strs₁ a b c e n
 unfolding SlotWalks SlotIs
-slot-good s d f log₀ strs₀ log strs log₁ strs₁ a b u x v e n w h q = rw q at (h log₀ strs₀ a b x w)
+slot-good s d f log₀ strs₀ log strs log₁ strs₁ a b c u x v e n w h q = rw q at (h log₀ strs₀ a b c x w)
 
 -- a refusal of an operand, taken apart
-slot-bad : (s : List ℕ) (d : Decoder) (f : Seen → Read Seen) (log₀ strs₀ log strs log₁ strs₁ : List ℕ) (a b : ℕ) (u : Used) (x : Seen) (v : Parsed) (y : Refusal) (e : Decoder)
-    → Walked log₀ strs₀ log strs a b u x → SlotWalks s d f log strs log₁ strs₁ u v → v ≡ Bad y e → f x ≡ refused y (readerOf s e)
+slot-bad : (s : List ℕ) (d : Decoder) (f : Seen → Read Seen) (log₀ strs₀ log strs log₁ strs₁ : List ℕ) (a b c : ℕ) (u : Used) (x : Seen) (v : Parsed) (y : Refusal) (e : Decoder)
+    → Walked log₀ strs₀ log strs a b c u x → SlotWalks s d f log strs log₁ strs₁ u v → v ≡ Bad y e → f x ≡ refused y (readerOf s e)
 unfolding SlotWalks SlotIs
-slot-bad s d f log₀ strs₀ log strs log₁ strs₁ a b u x v y e w h q = rw q at (h log₀ strs₀ a b x w)
+slot-bad s d f log₀ strs₀ log strs log₁ strs₁ a b c u x v y e w h q = rw q at (h log₀ strs₀ a b c x w)
 
-module _ {s : List ℕ} {g : Grammar} {types : List Entry} {x : Read Seen} {log₀ strs₀ log strs : List ℕ} {a b : ℕ} {d₀ d : Decoder} {u : Used} {ss : List Slot}
-    (r : Rowing s g types x log₀ strs₀ log strs a b d₀ d u ss) where
+module _ {s : List ℕ} {g : Grammar} {types : List Entry} {x : Read Seen} {log₀ strs₀ log strs : List ℕ} {a b c : ℕ} {d₀ d : Decoder} {u : Used} {ss : List Slot}
+    (r : Rowing s g types x log₀ strs₀ log strs a b c d₀ d u ss) where
   -- the log keeps its length
   pub row-log : length log ≡ length log₀
   row-log = r .walked .log-laid .same
@@ -143,12 +144,12 @@ module _ {s : List ℕ} {g : Grammar} {types : List Entry} {x : Read Seen} {log�
   row-strings = r .walked .strings-laid .same
 
   -- a walk that ends here
-  row-good : x ≡ got (r .seen) (readerOf s d) → Walks s d₀ x log₀ strs₀ log strs a b (Good d u)
+  row-good : x ≡ got (r .seen) (readerOf s d) → Walks s d₀ x log₀ strs₀ log strs a b c (Good d u)
   unfolding Walks
   row-good e = record { seen = r .seen; read = e; walked = r .walked; few = r .few; went = r .went }
 
   -- no operand is left
-  pub row-ends : ss ≡ [] → Walks s d₀ x log₀ strs₀ log strs a b (Good d u)
+  pub row-ends : ss ≡ [] → Walks s d₀ x log₀ strs₀ log strs a b c (Good d u)
   row-ends e = row-good (r .whole ∙ end-read s g types d (r .seen) (r .fuel) ss e)
 
   module _ (j q : ℕ) (more : List Slot) (e : ss ≡ slot j q ∷ more) where
@@ -173,13 +174,13 @@ module _ {s : List ℕ} {g : Grammar} {types : List Entry} {x : Read Seen} {log�
 
       -- with no word left, One is 6
       pub row-missing : t ≡ true → q ≡ 0 → (v : Parsed) → v ≡ Bad (refusal 6 (d .offset) 0) d
-          → Walks s d₀ x log₀ strs₀ log strs a b v
+          → Walks s d₀ x log₀ strs₀ log strs a b c v
       unfolding Walks readerOf readerAt
       row-missing h z v w =
           rw w (row-is _ (spent-read s g types d (r .seen) j q more (r .fuel) (limit-is true h) ∙ simp (eq-eqb q 0 z)))
 
       -- and the others end the walk
-      pub row-spent : t ≡ true → (q ≡ 0 → ⊥) → Walks s d₀ x log₀ strs₀ log strs a b (Good d u)
+      pub row-spent : t ≡ true → (q ≡ 0 → ⊥) → Walks s d₀ x log₀ strs₀ log strs a b c (Good d u)
       row-spent h z = row-good (row-is _ (spent-read s g types d (r .seen) j q more (r .fuel) (limit-is true h) ∙ simp (ne-eqb q 0 z)))
 
       module _ (h : t ≡ false) where
@@ -195,22 +196,22 @@ module _ {s : List ℕ} {g : Grammar} {types : List Entry} {x : Read Seen} {log�
 
         module _ (log₁ strs₁ : List ℕ) (v : Parsed) (i : SlotWalks s d (λ y. readSlot g types y j (readerOf s d)) log strs log₁ strs₁ u v) where
           -- it is refused
-          pub row-stops : (y : Refusal) (f : Decoder) → v ≡ Bad y f → Walks s d₀ x log₀ strs₀ log₁ strs₁ a b v
+          pub row-stops : (y : Refusal) (f : Decoder) → v ≡ Bad y f → Walks s d₀ x log₀ strs₀ log₁ strs₁ a b c v
           unfolding Walks
           row-stops y f z =
-              rw z (then-is _ (slot-bad s d _ log₀ strs₀ log strs log₁ strs₁ a b u (r .seen) v y f (r .walked) i z))
+              rw z (then-is _ (slot-bad s d _ log₀ strs₀ log strs log₁ strs₁ a b c u (r .seen) v y f (r .walked) i z))
 
           module _ (f : Decoder) (n : Used) (z : v ≡ Good f n) where
             -- the next operand's read
-            slot-is : SlotRead s d (readSlot g types (r .seen) j (readerOf s d)) log₀ strs₀ log₁ strs₁ a b f n
-            slot-is = slot-good s d _ log₀ strs₀ log strs log₁ strs₁ a b u (r .seen) v f n (r .walked) i z
+            slot-is : SlotRead s d (readSlot g types (r .seen) j (readerOf s d)) log₀ strs₀ log₁ strs₁ a b c f n
+            slot-is = slot-good s d _ log₀ strs₀ log strs log₁ strs₁ a b c u (r .seen) v f n (r .walked) i z
 
             -- it took a word or more
             pub row-less : leftOf (f .limit) < leftOf (d .limit)
             row-less = omega (arith, slot-is .went .pace, slot-is .went .forth)
 
             -- it is read
-            pub row-turn : (rest : List Slot) → slotsAfter j q more ≡ rest → Rowing s g types x log₀ strs₀ log₁ strs₁ a b d₀ f n rest
+            pub row-turn : (rest : List Slot) → slotsAfter j q more ≡ rest → Rowing s g types x log₀ strs₀ log₁ strs₁ a b c d₀ f n rest
             row-turn rest o = record {
               seen = slot-is .seen;
               fuel = r .fuel - 1;

@@ -157,7 +157,7 @@ unfolding notes note noteAs noNotes
 noted-id [] = refl
 noted-id (o ∷ os) = id-stays os (note o noNotes) (omega arith) ∙ first-selects o os
 
-module _ {log₀ strs₀ log strs : List ℕ} {a b : ℕ} {u : Used} {x : Seen} (w : Walked log₀ strs₀ log strs a b u x) where
+module _ {log₀ strs₀ log strs : List ℕ} {a b c : ℕ} {u : Used} {x : Seen} (w : Walked log₀ strs₀ log strs a b c u x) where
   -- the id in use is that of the first operand seen
   selector-is : wordIs (u .selector) ≡ selector (x .operands)
   unfolding notesOf
@@ -172,11 +172,12 @@ module _ {log₀ strs₀ log strs : List ℕ} {a b : ℕ} {u : Used} {x : Seen} 
   -- WHAT IS SEEN
 
   -- what was seen is held, from the places where the row began
-  walked-held : Held log₀ strs₀ log strs (withResults (u .rtype) (u .rid) (unused a b)) u (x .operands)
+  walked-held : Held log₀ strs₀ log strs (withResults (u .rtype) (u .rid) (unused a b c)) u (x .operands)
   unfolding withResults unused notesOf noNotes wordIs
   walked-held = record {
     rtype = refl;
     rid = refl;
+    base = w .base;
     nlog = w .nlog;
     nstrings = w .nstrings;
     noted = w .noted;
@@ -186,13 +187,14 @@ module _ {log₀ strs₀ log strs : List ℕ} {a b : ℕ} {u : Used} {x : Seen} 
 
   -- operands more
   walked-more : {log₁ strs₁ : List ℕ} {n : Used} {os : List Operand} → Held log strs log₁ strs₁ u n os
-      → Walked log₀ strs₀ log₁ strs₁ a b n (withOperands x os)
+      → Walked log₀ strs₀ log₁ strs₁ a b c n (withOperands x os)
   unfolding withResults unused notesOf noNotes wordIs
   walked-more h =
       let m = held-then walked-held h in
       record {
         rtype = ap wordIs (h .rtype) ∙ w .rtype;
         rid = ap wordIs (h .rid) ∙ w .rid;
+        base = m .base;
         nlog = m .nlog;
         nstrings = m .nstrings;
         noted = m .noted;
@@ -201,11 +203,12 @@ module _ {log₀ strs₀ log strs : List ℕ} {a b : ℕ} {u : Used} {x : Seen} 
       }
 
   -- a result type
-  walked-type : (v n : ℕ) → wordIs n ≡ some v → Walked log₀ strs₀ log strs a b (withResults n (u .rid) u) (withType x v)
+  walked-type : (v n : ℕ) → wordIs n ≡ some v → Walked log₀ strs₀ log strs a b c (withResults n (u .rid) u) (withType x v)
   unfolding withResults notesOf
   walked-type v n h = record {
     rtype = h;
     rid = w .rid;
+    base = w .base;
     nlog = w .nlog;
     nstrings = w .nstrings;
     noted = w .noted;
@@ -214,11 +217,12 @@ module _ {log₀ strs₀ log strs : List ℕ} {a b : ℕ} {u : Used} {x : Seen} 
   }
 
   -- a result id
-  walked-id : (v n : ℕ) → wordIs n ≡ some v → Walked log₀ strs₀ log strs a b (withResults (u .rtype) n u) (withId x v)
+  walked-id : (v n : ℕ) → wordIs n ≡ some v → Walked log₀ strs₀ log strs a b c (withResults (u .rtype) n u) (withId x v)
   unfolding withResults notesOf
   walked-id v n h = record {
     rtype = w .rtype;
     rid = h;
+    base = w .base;
     nlog = w .nlog;
     nstrings = w .nstrings;
     noted = w .noted;
@@ -240,7 +244,7 @@ module _ {log₀ strs₀ log strs : List ℕ} {a b : ℕ} {u : Used} {x : Seen} 
     -- an operand that is no result
     slot-more : (log₁ strs₁ : List ℕ) → isResult j ≡ false → (v : Parsed)
         → Parses s d 4 (kindAlone g types (wordIs (u .rtype)) (wordIs (u .selector)) j (readerOf s d)) log strs log₁ strs₁ u v
-        → SlotIs s d (readSlot g types x j (readerOf s d)) log₀ strs₀ log₁ strs₁ a b v
+        → SlotIs s d (readSlot g types x j (readerOf s d)) log₀ strs₀ log₁ strs₁ a b c v
     unfolding Parses SlotIs
     slot-more log₁ strs₁ h (Good e n) p = record {
       seen = withOperands x (p .operands);
@@ -263,7 +267,7 @@ module _ {log₀ strs₀ log strs : List ℕ} {a b : ℕ} {u : Used} {x : Seen} 
 
       -- a result
       slot-result : (v n : ℕ) → wordIs n ≡ some v → (e : Decoder) → Word v e ≡ wordFrom s d → Few s d u → (t : Bool) → eqb j 46 ≡ t
-          → SlotRead s d (readSlot g types x j (readerOf s d)) log₀ strs₀ log strs a b e (if t then withResults n (u .rid) u else withResults (u .rtype) n u)
+          → SlotRead s d (readSlot g types x j (readerOf s d)) log₀ strs₀ log strs a b c e (if t then withResults n (u .rid) u else withResults (u .rtype) n u)
       slot-result v n i e p f true q = record {
         seen = withType x v;
         read = result-by _ (word-got s d e v p .reads) true q;
@@ -288,20 +292,20 @@ module _ (s : List ℕ) (g : Grammar) (types : List Entry) (j : ℕ) (d : Decode
   pub walks-result : t ≡ true → Few s d u → (v : ℕ) (e : Decoder) → Word v e ≡ wordFrom s d → (i : ℕ) → wordIs i ≡ some v → (n : Used) → n ≡ withResult j i u
       → SlotWalks s d (λ x. readSlot g types x j (readerOf s d)) log strs log strs u (Good e n)
   unfolding SlotWalks SlotIs withResult
-  walks-result q f v e h i o n z log₀ strs₀ a b x w = rw z (slot-result w s g types j d (sym p ∙ q) v i o e h f (eqb j 46) refl)
+  walks-result q f v e h i o n z log₀ strs₀ a b c x w = rw z (slot-result w s g types j d (sym p ∙ q) v i o e h f (eqb j 46) refl)
 
   -- it ends without the word of a result
   pub walks-none : t ≡ true → (y : Refusal) (e : Decoder) → NoWord y e ≡ wordFrom s d
       → SlotWalks s d (λ x. readSlot g types x j (readerOf s d)) log strs log strs u (Bad y e)
   unfolding SlotWalks SlotIs
-  walks-none q y e h log₀ strs₀ a b x w = slot-none w s g types j d (sym p ∙ q) y e h
+  walks-none q y e h log₀ strs₀ a b c x w = slot-none w s g types j d (sym p ∙ q) y e h
 
   -- it goes on with operands, or ends where they are refused
   pub walks-more : t ≡ false → (log₁ strs₁ : List ℕ) (v : Parsed)
       → Parses s d 4 (kindAlone g types (wordIs (u .rtype)) (wordIs (u .selector)) j (readerOf s d)) log strs log₁ strs₁ u v
       → SlotWalks s d (λ x. readSlot g types x j (readerOf s d)) log strs log₁ strs₁ u v
   unfolding SlotWalks
-  walks-more q log₁ strs₁ v h log₀ strs₀ a b x w = slot-more w s g types j d log₁ strs₁ (sym p ∙ q) v h
+  walks-more q log₁ strs₁ v h log₀ strs₀ a b c x w = slot-more w s g types j d log₁ strs₁ (sym p ∙ q) v h
 
   -- it goes on with a word, or ends where that is refused
   pub walks-word : t ≡ false → within 31 j 35 ≡ true → (log₁ : List ℕ) (v : Parsed)
@@ -321,22 +325,22 @@ pub goes-on : (p q : ℕ) → (q ≡ 2 → ⊥) → p + 3 ≡ (if eqb q 2 then p
 goes-on p q e = simp (ne-eqb q 2 e)
 
 -- nothing is in use
-pub no-use : (a b : ℕ)
-    → record { rtype = 0; rid = 0; selector = 0; operands = 0; first = 0; second = 0; log = a; strings = b } ≡ unused a b
+pub no-use : (a b c : ℕ)
+    → record { rtype = 0; rid = 0; selector = 0; operands = 0; first = 0; second = 0; log = a; strings = b; base = c } ≡ unused a b c
 unfolding unused
-no-use a b = refl
+no-use a b c = refl
 
 module _ (u : Used) (k n : ℕ) where
   -- a result type
   pub type-more : k ≡ 46
-      → record { rtype = n; rid = u .rid; selector = u .selector; operands = u .operands; first = u .first; second = u .second; log = u .log; strings = u .strings }
+      → record { rtype = n; rid = u .rid; selector = u .selector; operands = u .operands; first = u .first; second = u .second; log = u .log; strings = u .strings; base = u .base }
       ≡ withResult k n u
   unfolding withResult withResults
   type-more e = simp (eq-eqb k 46 e)
 
   -- a result id
   pub id-more : (k ≡ 46 → ⊥)
-      → record { rtype = u .rtype; rid = n; selector = u .selector; operands = u .operands; first = u .first; second = u .second; log = u .log; strings = u .strings }
+      → record { rtype = u .rtype; rid = n; selector = u .selector; operands = u .operands; first = u .first; second = u .second; log = u .log; strings = u .strings; base = u .base }
       ≡ withResult k n u
   unfolding withResult withResults
   id-more e = simp (ne-eqb k 46 e)

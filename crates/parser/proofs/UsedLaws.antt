@@ -45,22 +45,22 @@ value-small j k v e f t = f .small (ap isTwo e ∙ t)
 
 -- the first operand
 pub note-first : (u : Used) (a i log : ℕ) → u .operands ≡ 0
-    → Noted u a i log (record { rtype = u .rtype; rid = u .rid; selector = i; operands = 1; first = a; second = u .second; log = log; strings = u .strings })
+    → Noted u a i log (record { rtype = u .rtype; rid = u .rid; selector = i; operands = 1; first = a; second = u .second; log = log; strings = u .strings; base = u .base })
 unfolding notesOf noteAs
-note-first u a i log e = record { rtype = refl; rid = refl; strings = refl; log-is = refl; noted = rw e }
+note-first u a i log e = record { rtype = refl; rid = refl; base = refl; strings = refl; log-is = refl; noted = rw e }
 
 -- the second
 pub note-second : (u : Used) (a i log : ℕ) → u .operands ≡ 1
-    → Noted u a i log (record { rtype = u .rtype; rid = u .rid; selector = u .selector; operands = 2; first = u .first; second = a; log = log; strings = u .strings })
+    → Noted u a i log (record { rtype = u .rtype; rid = u .rid; selector = u .selector; operands = 2; first = u .first; second = a; log = log; strings = u .strings; base = u .base })
 unfolding notesOf noteAs
-note-second u a i log e = record { rtype = refl; rid = refl; strings = refl; log-is = refl; noted = rw e }
+note-second u a i log e = record { rtype = refl; rid = refl; base = refl; strings = refl; log-is = refl; noted = rw e }
 
 -- a later one
 pub note-later : (u : Used) (a j log : ℕ) → (u .operands ≡ 0 → ⊥) → (u .operands ≡ 1 → ⊥)
-    → Noted u a j log (record { rtype = u .rtype; rid = u .rid; selector = u .selector; operands = u .operands + 1; first = u .first; second = u .second; log = log; strings = u .strings })
+    → Noted u a j log (record { rtype = u .rtype; rid = u .rid; selector = u .selector; operands = u .operands + 1; first = u .first; second = u .second; log = log; strings = u .strings; base = u .base })
 unfolding notesOf noteAs
 note-later u a j log h i =
-    record { rtype = refl; rid = refl; strings = refl; log-is = refl; noted = simp (ne-eqb (u .operands) 0 h, ne-eqb (u .operands) 1 i) }
+    record { rtype = refl; rid = refl; base = refl; strings = refl; log-is = refl; noted = simp (ne-eqb (u .operands) 0 h, ne-eqb (u .operands) 1 i) }
 
 -- a record of a kind and a value
 pub pushed : (k v : ℕ) (u r : Used) (a i log : ℕ) → Noted u a i log r → log ≡ u .log + recordLength (parts k v)
@@ -69,6 +69,7 @@ pushed k v u r a i log n h e f =
     record {
       rtype = n .rtype;
       rid = n .rid;
+      base = n .base;
       strings = n .strings;
       log = n .log-is ∙ h;
       noted = n .noted ∙ ap (λ (x : Option ℕ). noteAs x (wordIs i) (notesOf u)) e ∙ ap (λ (x : Option ℕ). noteAs (valueIf 34 k v) x (notesOf u)) f;
@@ -82,9 +83,9 @@ fits-text v = record { known = refl; small = λ e. let z : _≡_ {A = ℕ} 0 1 =
 
 -- its bytes follow
 pub copied : (size v : ℕ) (u n : Used) → Pushed 40 v u n
-    → Copied size u (record { rtype = n .rtype; rid = n .rid; selector = n .selector; operands = n .operands; first = n .first; second = n .second; log = n .log; strings = u .strings + size })
+    → Copied size u (record { rtype = n .rtype; rid = n .rid; selector = n .selector; operands = n .operands; first = n .first; second = n .second; log = n .log; strings = u .strings + size; base = n .base })
 unfolding recordLength lengthBy notesOf valueIf
-copied size v u n p = record { rtype = p .rtype; rid = p .rid; strings = refl; log = p .log; noted = p .noted }
+copied size v u n p = record { rtype = p .rtype; rid = p .rid; base = p .base; strings = refl; log = p .log; noted = p .noted }
 
 -- the bytes from a position on, as a part of all of them
 front-slice : (at n : ℕ) (s : List ℕ) → at ≤ length s → take n (drop at s) ≡ slice at (at + n) s

@@ -101,8 +101,8 @@ step-went s d e n t m q =
 
 -- what is in use stays few
 pub step-few : (s : List ℕ) (d e : Decoder) (u v : Used) (n : ℕ) → Few s d u → Step s d e n → 1 ≤ n → v .operands ≡ u .operands + 1
-    → v .log ≤ u .log + 9 → v .strings ≤ u .strings + 4 * n → Few s e v
-step-few s d e u v n f t h p l q =
+    → v .log ≤ u .log + 9 → v .strings ≤ u .strings + 4 * n → v .base ≡ u .base → Few s e v
+step-few s d e u v n f t h p l q b =
     record {
       short = f .short;
       inside = t .inside;
@@ -121,18 +121,21 @@ laid-as e f h = rw (← e, ← f) h
 
 module _ {log₀ strs₀ log strs log₁ strs₁ : List ℕ} {c n m : Used} {a b : List Operand}
     (h : Held log₀ strs₀ log strs c n a) (g : Held log strs log₁ strs₁ n m b) where
-  log-both : operandsLog (c .strings) a ++ operandsLog (n .strings) b ≡ operandsLog (c .strings) (a ++ b)
+  log-both : operandsLog (c .base + c .strings) a ++ operandsLog (n .base + n .strings) b ≡ operandsLog (c .base + c .strings) (a ++ b)
   log-both =
-      ap (λ (x : ℕ). operandsLog (c .strings) a ++ operandsLog x b) (h .nstrings) ∙ sym (log-append (c .strings) a b)
+      let e : n .base + n .strings ≡ c .base + c .strings + length (operandsStrings a) = omega (arith, h .base, h .nstrings) in
+      ap (λ (x : ℕ). operandsLog (c .base + c .strings) a ++ operandsLog x b) e ∙ sym (log-append (c .base + c .strings) a b)
 
   -- one run after another
   pub held-then : Held log₀ strs₀ log₁ strs₁ c m (a ++ b)
   held-then = record {
     rtype = g .rtype ∙ h .rtype;
     rid = g .rid ∙ h .rid;
+    base = g .base ∙ h .base;
     nlog =
-        let e : length (operandsLog (c .strings) (a ++ b)) ≡ length (operandsLog (c .strings) a) + length (operandsLog (n .strings) b) =
-        ap length (sym log-both) ∙ length-append (operandsLog (c .strings) a) (operandsLog (n .strings) b) in
+        let e : length (operandsLog (c .base + c .strings) (a ++ b))
+        ≡ length (operandsLog (c .base + c .strings) a) + length (operandsLog (n .base + n .strings) b) =
+        ap length (sym log-both) ∙ length-append (operandsLog (c .base + c .strings) a) (operandsLog (n .base + n .strings) b) in
         omega (arith, e, h .nlog, g .nlog);
     nstrings =
         let e : length (operandsStrings (a ++ b)) ≡ length (operandsStrings a) + length (operandsStrings b) =
@@ -149,6 +152,7 @@ unfolding operandsLog operandsStrings notes
 held-nothing log strs c = record {
   rtype = refl;
   rid = refl;
+  base = refl;
   nlog = omega arith;
   nstrings = omega arith;
   noted = refl;

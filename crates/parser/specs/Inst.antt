@@ -19,7 +19,7 @@ use Rattle.parser.specs.declared.inst.InstRead.{InstRead}
 use Rattle.parser.specs.declared.inst.InstRead.the-variants.{Got, Refused}
 
 -- an instruction was read: what is handed on says it, and its operands' records are what was added to log and strings where they fit
-pub record Handed (s : List ℕ) (at : ℕ) (x : Read Instr) (log₀ strs₀ log strs : List ℕ) (a b : ℕ) (r : Decoded) : Type 0 where
+pub record Handed (s : List ℕ) (at : ℕ) (x : Read Instr) (log₀ strs₀ log strs : List ℕ) (a b c : ℕ) (r : Decoded) : Type 0 where
   pub instr : Instr
   pub read : x ≡ got instr (readerAt s (at + 4 * r .words) Unlimited)
   pub inside : at + 4 * r .words ≤ length s
@@ -32,11 +32,11 @@ pub record Handed (s : List ℕ) (at : ℕ) (x : Read Instr) (log₀ strs₀ log
   pub operands : length (instr .operands) ≡ r .operands
   pub few : 4 * r .operands ≤ at + 4 * r .words
   pub literals : Literals (instr .operands) (literalOf (r .first)) (literalOf (r .second))
-  pub nlog : r .log ≡ a + length (operandsLog b (instr .operands))
+  pub nlog : r .log ≡ a + length (operandsLog (c + b) (instr .operands))
   pub nstrings : r .strings ≡ b + length (operandsStrings (instr .operands))
   pub few-log : 4 * r .log ≤ 9 * (at + 4 * r .words)
-  pub few-strings : r .strings ≤ at + 4 * r .words
-  pub log-laid : Laid log₀ a (operandsLog b (instr .operands)) log
+  pub few-strings : c + r .strings ≤ at + 4 * r .words
+  pub log-laid : Laid log₀ a (operandsLog (c + b) (instr .operands)) log
   pub strings-laid : Laid strs₀ b (operandsStrings (instr .operands)) strs
 
 -- it was refused
@@ -45,9 +45,9 @@ pub record Declined (x : Read Instr) (y : Refusal) : Type 0 where
   pub read : x ≡ refused y rest
 
 -- the answer to the read x of the instruction at a place, and the stores after it where it is good
-unfoldable pub Decodes : List ℕ → ℕ → Read Instr → List ℕ → List ℕ → List ℕ → List ℕ → ℕ → ℕ → InstRead → Type 0
-Decodes s at x log₀ strs₀ log strs a b (Got r) = Handed s at x log₀ strs₀ log strs a b r
-Decodes s at x log₀ strs₀ log strs a b (Refused y) = Declined x y
+unfoldable pub Decodes : List ℕ → ℕ → Read Instr → List ℕ → List ℕ → List ℕ → List ℕ → ℕ → ℕ → ℕ → InstRead → Type 0
+Decodes s at x log₀ strs₀ log strs a b c (Got r) = Handed s at x log₀ strs₀ log strs a b c r
+Decodes s at x log₀ strs₀ log strs a b c (Refused y) = Declined x y
 
 -- an instruction that was read has these words, this opcode, and its row's operands from this place of the grammar on
 unfoldable pub ShapeIs : ℕ → ℕ → ℕ → InstRead → Type 0

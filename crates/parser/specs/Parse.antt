@@ -69,6 +69,7 @@ notes (o ∷ os) n = notes os (note o n)
 pub record Noted (u : Used) (a i log : ℕ) (r : Used) : Type 0 where
   pub rtype : r .rtype ≡ u .rtype
   pub rid : r .rid ≡ u .rid
+  pub base : r .base ≡ u .base
   pub strings : r .strings ≡ u .strings
   pub log-is : r .log ≡ log
   pub noted : notesOf r ≡ noteAs (wordIs a) (wordIs i) (notesOf u)
@@ -81,6 +82,7 @@ valueIf j k v = if eqb k j then some v else none
 pub record Pushed (k v : ℕ) (u r : Used) : Type 0 where
   pub rtype : r .rtype ≡ u .rtype
   pub rid : r .rid ≡ u .rid
+  pub base : r .base ≡ u .base
   pub strings : r .strings ≡ u .strings
   pub log : r .log ≡ u .log + recordLength (parts k v)
   pub noted : notesOf r ≡ noteAs (valueIf 34 k v) (valueIf 33 k v) (notesOf u)
@@ -89,6 +91,7 @@ pub record Pushed (k v : ℕ) (u r : Used) : Type 0 where
 pub record Copied (size : ℕ) (u r : Used) : Type 0 where
   pub rtype : r .rtype ≡ u .rtype
   pub rid : r .rid ≡ u .rid
+  pub base : r .base ≡ u .base
   pub strings : r .strings ≡ u .strings + size
   pub log : r .log ≡ u .log + 9
   pub noted : notesOf r ≡ noteAs none none (notesOf u)
@@ -118,17 +121,18 @@ pub record Few (s : List ℕ) (d : Decoder) (u : Used) : Type 0 where
   pub left : ℕ
   pub limited : d .limit ≡ Words left
   pub operands : 4 * u .operands ≤ d .offset
-  pub strings : u .strings ≤ d .offset
+  pub strings : u .base + u .strings ≤ d .offset
   pub log : 4 * u .log ≤ 9 * d .offset
 
 -- operands are what was added to what is in use and, where they fit, to the stores
 pub record Held (log₀ strs₀ log strs : List ℕ) (u n : Used) (os : List records.Operand) : Type 0 where
   pub rtype : n .rtype ≡ u .rtype
   pub rid : n .rid ≡ u .rid
-  pub nlog : n .log ≡ u .log + length (operandsLog (u .strings) os)
+  pub base : n .base ≡ u .base
+  pub nlog : n .log ≡ u .log + length (operandsLog (u .base + u .strings) os)
   pub nstrings : n .strings ≡ u .strings + length (operandsStrings os)
   pub noted : notesOf n ≡ notes os (notesOf u)
-  pub log-laid : Laid log₀ (u .log) (operandsLog (u .strings) os) log
+  pub log-laid : Laid log₀ (u .log) (operandsLog (u .base + u .strings) os) log
   pub strings-laid : Laid strs₀ (u .strings) (operandsStrings os) strs
 
 -- operands were read, and they are held
@@ -250,25 +254,27 @@ kindAlone g types t i k =
 unfoldable pub noNotes : Notes
 noNotes = record { count = 0; first = none; second = none; id = none }
 
--- what was seen of a row is what was added, from these places on, to what is in use and, where it fits, to the stores
-pub record Walked (log₀ strs₀ log strs : List ℕ) (a b : ℕ) (n : Used) (x : Seen) : Type 0 where
+-- what was seen of a row is what was added, from these places on, to what is in use and, where it fits, to the stores; so many string
+-- bytes stand before those of the store
+pub record Walked (log₀ strs₀ log strs : List ℕ) (a b c : ℕ) (n : Used) (x : Seen) : Type 0 where
   pub rtype : wordIs (n .rtype) ≡ x .resultType
   pub rid : wordIs (n .rid) ≡ x .resultId
-  pub nlog : n .log ≡ a + length (operandsLog b (x .operands))
+  pub base : n .base ≡ c
+  pub nlog : n .log ≡ a + length (operandsLog (c + b) (x .operands))
   pub nstrings : n .strings ≡ b + length (operandsStrings (x .operands))
   pub noted : notesOf n ≡ notes (x .operands) noNotes
-  pub log-laid : Laid log₀ a (operandsLog b (x .operands)) log
+  pub log-laid : Laid log₀ a (operandsLog (c + b) (x .operands)) log
   pub strings-laid : Laid strs₀ b (operandsStrings (x .operands)) strs
 
 -- a row was read to its end
-pub record RowRead (s : List ℕ) (d : Decoder) (x : Read Seen) (log₀ strs₀ log strs : List ℕ) (a b : ℕ) (e : Decoder) (n : Used) : Type 0 where
+pub record RowRead (s : List ℕ) (d : Decoder) (x : Read Seen) (log₀ strs₀ log strs : List ℕ) (a b c : ℕ) (e : Decoder) (n : Used) : Type 0 where
   pub seen : Seen
   pub read : x ≡ got seen (readerOf s e)
-  pub walked : Walked log₀ strs₀ log strs a b n seen
+  pub walked : Walked log₀ strs₀ log strs a b c n seen
   pub few : Few s e n
   pub went : Went d e 0
 
 -- the answer to the walk of a row that comes to x, and the stores after it where it is good
-unfoldable pub Walks : List ℕ → Decoder → Read Seen → List ℕ → List ℕ → List ℕ → List ℕ → ℕ → ℕ → Parsed → Type 0
-Walks s d x log₀ strs₀ log strs a b (Good e n) = RowRead s d x log₀ strs₀ log strs a b e n
-Walks s d x log₀ strs₀ log strs a b (Bad y e) = x ≡ refused y (readerOf s e)
+unfoldable pub Walks : List ℕ → Decoder → Read Seen → List ℕ → List ℕ → List ℕ → List ℕ → ℕ → ℕ → ℕ → Parsed → Type 0
+Walks s d x log₀ strs₀ log strs a b c (Good e n) = RowRead s d x log₀ strs₀ log strs a b c e n
+Walks s d x log₀ strs₀ log strs a b c (Bad y e) = x ≡ refused y (readerOf s e)

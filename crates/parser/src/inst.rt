@@ -27,8 +27,8 @@ use spec::Refusal;
 use tracker::Id;
 use tracker::TypeTracker;
 
-// An instruction that was read: its opcode, results and word count, where its row's operands start, how many operands, the first two, and where log and strings go on
-// after its records.
+// An instruction that was read: its opcode, results and word count, where its row's operands start, how many operands, the first two,
+// and where log and strings go on after its records.
 pub struct Decoded {
     pub opcode: u16,
     pub words: u16,
@@ -77,13 +77,14 @@ pub fn parse_body(
     log_at: usize,
     strings: &mut [u8],
     strings_at: usize,
+    base: usize,
 ) -> InstRead
     requires { ⌜ Indexed (now g) (now index) ⌝ }
     requires { ⌜ (length (now s) ≤ 67108864) × (at + 4 ≤ length (now s)) × (1 ≤ words) × (3 * tracker .count ≤ length (now types)) ⌝ }
-    requires { ⌜ (4 * «log_at» ≤ 9 * at) × («strings_at» ≤ at) ⌝ }
+    requires { ⌜ (4 * «log_at» ≤ 9 * at) × (base + «strings_at» ≤ at) ⌝ }
     requires { ⌜ (place ≤ length (now g)) × (every isOperand (slotsAt (now g) place) ≡ true) ⌝ }
     requires { ⌜ Hinted (tracker .count) (now types) (now hints) (tracker .greatest) ⌝ }
-    ensures { λ r. ⌜ Decodes (now (s .entry)) at (bodyRead (grammarOf (now (g .entry))) (entriesOf (tracker .count) (now (types .entry))) at words opcode (slotsAt (now (g .entry)) place) (readerAt (now (s .entry)) (at + 4) Unlimited)) (now (log .entry)) (now (strings .entry)) (now (log .exit)) (now (strings .exit)) «log_at» «strings_at» r ⌝ }
+    ensures { λ r. ⌜ Decodes (now (s .entry)) at (bodyRead (grammarOf (now (g .entry))) (entriesOf (tracker .count) (now (types .entry))) at words opcode (slotsAt (now (g .entry)) place) (readerAt (now (s .entry)) (at + 4) Unlimited)) (now (log .entry)) (now (strings .entry)) (now (log .exit)) (now (strings .exit)) «log_at» «strings_at» base r ⌝ }
     ensures { λ r. ⌜ ShapeIs words opcode place r ⌝ }
 {
     let start = Decoder {
@@ -103,6 +104,7 @@ pub fn parse_body(
         log_at,
         strings,
         strings_at,
+        base,
     );
     match parsed {
         Parsed::Bad(x, _) => InstRead::Refused(x),
@@ -134,7 +136,7 @@ pub fn parse_body(
 }
 
 // The instruction at a place, by the types known so far. Its operands' records go to the stores from the places given on, each where
-// it fits.
+// it fits; so many string bytes as the base says stand before those of the store.
 pub fn parse_inst(
     s: &[u8],
     at: usize,
@@ -147,12 +149,13 @@ pub fn parse_inst(
     log_at: usize,
     strings: &mut [u8],
     strings_at: usize,
+    base: usize,
 ) -> InstRead
     requires { ⌜ Indexed (now g) (now index) ⌝ }
     requires { ⌜ (length (now s) ≤ 67108864) × (at ≤ length (now s)) × (3 * tracker .count ≤ length (now types)) ⌝ }
-    requires { ⌜ (4 * «log_at» ≤ 9 * at) × («strings_at» ≤ at) ⌝ }
+    requires { ⌜ (4 * «log_at» ≤ 9 * at) × (base + «strings_at» ≤ at) ⌝ }
     requires { ⌜ Hinted (tracker .count) (now types) (now hints) (tracker .greatest) ⌝ }
-    ensures { λ r. ⌜ Decodes (now (s .entry)) at (readInstr (grammarOf (now (g .entry))) (entriesOf (tracker .count) (now (types .entry))) (readerAt (now (s .entry)) at Unlimited)) (now (log .entry)) (now (strings .entry)) (now (log .exit)) (now (strings .exit)) «log_at» «strings_at» r ⌝ }
+    ensures { λ r. ⌜ Decodes (now (s .entry)) at (readInstr (grammarOf (now (g .entry))) (entriesOf (tracker .count) (now (types .entry))) (readerAt (now (s .entry)) at Unlimited)) (now (log .entry)) (now (strings .entry)) (now (log .exit)) (now (strings .exit)) «log_at» «strings_at» base r ⌝ }
     ensures { λ r. ⌜ RowIs (now (g .entry)) (entriesOf (tracker .count) (now (types .entry))) (now (s .entry)) at (readInstr (grammarOf (now (g .entry))) (entriesOf (tracker .count) (now (types .entry))) (readerAt (now (s .entry)) at Unlimited)) r ⌝ }
 {
     let start = Decoder {
@@ -187,6 +190,7 @@ pub fn parse_inst(
                 log_at,
                 strings,
                 strings_at,
+                base,
             )
         }
     }

@@ -31,8 +31,8 @@ use grammar::SlotAt;
 use tracker::TypeTracker;
 
 // What is in use before the first operand.
-fn nothing_used(log: usize, strings: usize) -> Used
-    ensures { λ r. ⌜ r ≡ unused «log» «strings» ⌝ }
+fn nothing_used(log: usize, strings: usize, base: usize) -> Used
+    ensures { λ r. ⌜ r ≡ unused «log» «strings» base ⌝ }
 {
     Used {
         rtype: 0,
@@ -43,6 +43,7 @@ fn nothing_used(log: usize, strings: usize) -> Used
         second: 0,
         log,
         strings,
+        base,
     }
 }
 
@@ -58,6 +59,7 @@ fn with_result(u: Used, kind: u8, id: u64) -> Used
     let second = u.second;
     let log = u.log;
     let strings = u.strings;
+    let base = u.base;
     if kind == 46 {
         return Used {
             rtype: id,
@@ -68,6 +70,7 @@ fn with_result(u: Used, kind: u8, id: u64) -> Used
             second,
             log,
             strings,
+            base,
         };
     }
     Used {
@@ -79,6 +82,7 @@ fn with_result(u: Used, kind: u8, id: u64) -> Used
         second,
         log,
         strings,
+        base,
     }
 }
 
@@ -173,16 +177,17 @@ pub fn parse_operands(
     log_at: usize,
     strings: &mut [u8],
     strings_at: usize,
+    base: usize,
 ) -> Parsed
     requires { ⌜ Indexed (now g) (now index) ⌝ }
     requires { ⌜ (length (now s) ≤ 67108864) × (start .offset ≤ length (now s)) × (start .limit ≡ Words (leftOf (start .limit))) × (3 * tracker .count ≤ length (now types)) ⌝ }
-    requires { ⌜ (4 * «log_at» ≤ 9 * start .offset) × («strings_at» ≤ start .offset) ⌝ }
+    requires { ⌜ (4 * «log_at» ≤ 9 * start .offset) × (base + «strings_at» ≤ start .offset) ⌝ }
     requires { ⌜ (place ≤ length (now g)) × (every isOperand (slotsAt (now g) place) ≡ true) ⌝ }
     requires { ⌜ Hinted (tracker .count) (now types) (now hints) (tracker .greatest) ⌝ }
-    ensures { λ r. ⌜ Walks (now (s .entry)) start (readRow (grammarOf (now (g .entry))) (entriesOf (tracker .count) (now (types .entry))) (leftOf (start .limit)) (slotsAt (now (g .entry)) place) nothingSeen (readerOf (now (s .entry)) start)) (now (log .entry)) (now (strings .entry)) (now (log .exit)) (now (strings .exit)) «log_at» «strings_at» r ⌝ }
+    ensures { λ r. ⌜ Walks (now (s .entry)) start (readRow (grammarOf (now (g .entry))) (entriesOf (tracker .count) (now (types .entry))) (leftOf (start .limit)) (slotsAt (now (g .entry)) place) nothingSeen (readerOf (now (s .entry)) start)) (now (log .entry)) (now (strings .entry)) (now (log .exit)) (now (strings .exit)) «log_at» «strings_at» base r ⌝ }
 {
     let mut d = start;
-    let mut u = nothing_used(log_at, strings_at);
+    let mut u = nothing_used(log_at, strings_at, base);
     let mut p = place;
     while p < g.len() {
         let x = grammar::slot_at(g, p);

@@ -17,8 +17,8 @@ use spec::Refusal;
 use tracker::Id;
 
 // The results and the operands of an instruction so far: the id that the first operand is, how many operands, the literal numbers of
-// the first two, and how much of the operand log and of the string bytes is in use. What may be missing is 2^32 and a word where it is
-// there, else 0.
+// the first two, how much of the operand log and of the string bytes is in use, and how many string bytes there are before those of the
+// store. What may be missing is 2^32 and a word where it is there, else 0.
 pub struct Used {
     pub rtype: u64,
     pub rid: u64,
@@ -28,6 +28,7 @@ pub struct Used {
     pub second: u64,
     pub log: usize,
     pub strings: usize,
+    pub base: usize,
 }
 
 // Operands that were read, or a refusal; each with the decoder after it.
@@ -98,6 +99,7 @@ fn noted(u: Used, literal: u64, id: u64, log: usize) -> Used
     let first = u.first;
     let second = u.second;
     let strings = u.strings;
+    let base = u.base;
     if operands == 0 {
         return Used {
             rtype,
@@ -108,6 +110,7 @@ fn noted(u: Used, literal: u64, id: u64, log: usize) -> Used
             second,
             log,
             strings,
+            base,
         };
     }
     if operands == 1 {
@@ -120,6 +123,7 @@ fn noted(u: Used, literal: u64, id: u64, log: usize) -> Used
             second: literal,
             log,
             strings,
+            base,
         };
     }
     Used {
@@ -131,6 +135,7 @@ fn noted(u: Used, literal: u64, id: u64, log: usize) -> Used
         second,
         log,
         strings,
+        base,
     }
 }
 
@@ -156,15 +161,16 @@ pub fn push_text(
     size: usize,
     u: Used,
 ) -> Used
-    requires { ⌜ (u .log ≤ 1000000000) × (u .operands ≤ 1000000000) × (u .strings ≤ 1000000000) × (size ≤ 1000000000) ⌝ }
+    requires { ⌜ (u .log ≤ 1000000000) × (u .operands ≤ 1000000000) × (u .strings ≤ 1000000000) × (size ≤ 1000000000) × (u .base ≤ 1000000000) ⌝ }
     requires { ⌜ from + size ≤ length (now s) ⌝ }
     ensures { λ r. ⌜ Copied size u r ⌝ }
-    ensures { λ r. ⌜ Laid (now (log .entry)) (u .log) (recordOf (parts 40 (u .strings + 4294967296 * size))) (now (log .exit)) ⌝ }
+    ensures { λ r. ⌜ Laid (now (log .entry)) (u .log) (recordOf (parts 40 (u .base + u .strings + 4294967296 * size))) (now (log .exit)) ⌝ }
     ensures { λ r. ⌜ Laid (now (strings .entry)) (u .strings) (slice from (from + size) (now (s .entry))) (now (strings .exit)) ⌝ }
 {
     let start = u.strings;
     let to = from + size;
-    let mut n = push(log, 40, (start as u64) + 4294967296 * (size as u64), u);
+    let at = (u.base + start) as u64;
+    let mut n = push(log, 40, at + 4294967296 * (size as u64), u);
     operand::keep_bytes(strings, start, &s[from..to]);
     n.strings = start + size;
     n

@@ -32,6 +32,7 @@ use Rattle.decoder.proofs.word_and_string as word-and-string-call
 use Rattle.reflect.proofs.opcode_kind as opcode-kind-call
 use Rattle.reflect.proofs.is_type as is-type-call
 use Rattle.reflect.proofs.table as layout-table-call
+use Rattle.reflect.proofs.kinds as kind-table-call
 use Rattle.operand.proofs.parts_of as parts-of-call
 use Rattle.grammar.proofs.well_formed as well-formed-call
 use Rattle.grammar.proofs.enumerant as enumerant-call
@@ -151,6 +152,10 @@ is-type = record { free = λ κs a. tt; one = λ κs a x y after other p q. (bot
 pub layout-table :
     Offered layout-table-call.Kinds.ps layout-table-call.Kinds.r layout-table-call.Reads.Asked layout-table-call.Reads.Learnt
 layout-table = record { free = λ κs a. tt; one = λ κs a x y after other p q. (both p q, refl) }
+
+-- the kinds of the opcodes below 256
+pub kind-table : Offered kind-table-call.Kinds.ps kind-table-call.Kinds.r kind-table-call.Reads.Asked kind-table-call.Reads.Learnt
+kind-table = record { free = λ κs a. tt; one = λ κs a x y after other p q. (both p q, refl) }
 
 -- an operand's kind and value
 pub parts-of : Offered parts-of-call.Kinds.ps parts-of-call.Kinds.r parts-of-call.Reads.Asked parts-of-call.Reads.Learnt

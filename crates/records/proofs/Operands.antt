@@ -237,6 +237,10 @@ unknown-low k h = ap (λ (t : Bool). t && leb k 45) (lt-leb 1 k h)
 pub unknown-high : (k : ℕ) → 45 < k → isLogged k ≡ false
 unknown-high k h = and-false (leb 1 k) (leb k 45) (lt-leb k 45 h)
 
+-- the kinds below 36 have one word
+pub one-below : (k : ℕ) → k < 36 → isTwo k ≡ false
+one-below k h = simp (ne-eqb k 36 (λ e. omega arith), ne-eqb k 38 (λ e. omega arith), ne-eqb k 40 (λ e. omega arith))
+
 -- a kind of the log
 pub known : (k : ℕ) → 1 ≤ k → k ≤ 45 → isLogged k ≡ true
 known k h g = ap (λ (t : Bool). t && leb k 45) (le-leb 1 k h) ∙ le-leb k 45 g

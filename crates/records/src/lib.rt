@@ -5,7 +5,7 @@ ghost use Prim.Native.Nat.{_+_, _*_, _≤_};
 ghost use lib.ListN.{length, drop};
 ghost use lib.Seq.{sets};
 ghost use Rattle.spec.specs.Records.{recordSize, fieldWords, fieldsAt};
-ghost use Rattle.reflect.specs.Column.{layoutTable};
+ghost use Rattle.reflect.specs.Column.{layoutTable, kindTable};
 ghost use Rattle.spec.specs.Check.{takeOperand, takeOperands, faultOf, recordsOf};
 ghost use Rattle.records.specs.Steps.{given, checkedIs, endAnswer, leftAt, fieldsHold, offsetAfter, wordIf, resultWords, isString, textPassed, passedOne, passedAll, operandsAfter, tagAfter, isOutside, atMost, faultsFrom};
 ghost use Rattle.records.specs.Good.{Whole, Logged};
@@ -151,6 +151,9 @@ fn pass_operand(log: &[u8], strings: &[u8], log_at: usize, strings_at: usize) ->
     if kind < 1 {
         return Passed::Broken;
     }
+    if kind < 36 {
+        return Passed::Past(log_at + 5, strings_at, 1);
+    }
     if 45 < kind {
         return Passed::Broken;
     }
@@ -242,11 +245,11 @@ enum Tagging {
 }
 
 // The tag that the table gives for the record's opcode.
-fn tag_after(table: &[[u8; 3]; 19], s: State, f: Fields) -> Tagging
-    requires { ⌜ now table ≡ layoutTable ⌝ }
+fn tag_after(kinds: &[u8; 256], table: &[[u8; 3]; 19], s: State, f: Fields) -> Tagging
+    requires { ⌜ (now table ≡ layoutTable) × (now kinds ≡ kindTable) ⌝ }
     ensures { λ r. ⌜ r ≡ tagAfter s f ⌝ }
 {
-    let cell = reflect::place(table, (f.head % 65536) as u16, s);
+    let cell = reflect::place(kinds, table, (f.head % 65536) as u16, s);
     let Cell::Tagged(tag, next) = cell else {
         return Tagging::Broken;
     };
@@ -281,6 +284,7 @@ fn at_end(good: bool, index: usize) -> Checked
 
 // One pass over the records: each is held to its fields and offset, its operands and its tag.
 fn check_within(
+    kinds: &[u8; 256],
     table: &[[u8; 3]; 19],
     whole: bool,
     instructions: &[u32],
@@ -290,7 +294,7 @@ fn check_within(
     log_count: usize,
     string_count: usize,
 ) -> Checked
-    requires { ⌜ now table ≡ layoutTable ⌝ }
+    requires { ⌜ (now table ≡ layoutTable) × (now kinds ≡ kindTable) ⌝ }
     ensures { λ r. ⌜ checkedIs r ≡ faultsFrom whole «log_count» «string_count» 1 count 20 (leftAt (now (log .entry)) (now (strings .entry)) 0 0) State.Outside (recordsOf count (now (instructions .entry))) ⌝ }
 {
     let mut i = 0;
@@ -309,7 +313,7 @@ fn check_within(
         let Passed::Past(next_a, next_b, _) = operands_after(log, strings, a, b, f) else {
             return Checked::Bad(i + 1);
         };
-        let Tagging::Next(next_s) = tag_after(table, s, f) else {
+        let Tagging::Next(next_s) = tag_after(kinds, table, s, f) else {
             return Checked::Bad(i + 1);
         };
         at = next_at;
@@ -346,8 +350,10 @@ pub fn check(
 {
     let log_end = at_most(log_count, log.len());
     let strings_end = at_most(string_count, strings.len());
+    let kinds = reflect::kinds();
     let table = reflect::table();
     check_within(
+        &kinds,
         &table,
         whole,
         instructions,

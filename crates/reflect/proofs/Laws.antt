@@ -1,10 +1,10 @@
 -- The laws of opcode kinds and of the layout table.
-use Prim.Native.Nat.{ℕ, zero, suc, _+_, _*_, _-_, _<_, _≤_}
+use Prim.Native.Nat.{ℕ, zero, suc, _+_, _-_, _<_, _≤_}
 use mathlib.Core.Path.{_≡_, refl, ap, sym, _∙_}
 use mathlib.Core.Bool.{Bool, true, false}
 use mathlib.Core.List.{List, [], _∷_}
 use native.Mathlib.Omega.{arith}
-use native.Mathlib.Nat.{add-zero, add-suc, suc-add}
+use native.Mathlib.Nat.{zero-add, add-zero, add-suc, suc-add}
 use lib.Dec.{T, eqb, eqb→eq}
 use lib.ListN.{length, getD}
 use mir.Facts.{and-yes}
@@ -14,8 +14,14 @@ use Rattle.spec.specs.declared.State.the-variants.{Outside, Function, Block}
 use Rattle.spec.specs.declared.Cell.{Cell}
 use Rattle.spec.specs.declared.Cell.the-variants.{Tagged, Refuses}
 use Rattle.spec.specs.Layout.{opcodesByKind, opcodeKind, kindFrom, layoutAt, layoutOf}
-use Rattle.reflect.specs.Column.{columnOf, codeOf, lineOf, linesFrom, layoutTable}
+use Rattle.reflect.specs.Column.{columnOf, codeOf, lineOf, listed, layoutTable, kindTable}
 use Rattle.reflect.proofs.Arms.{NoneOf, pass, passed, clear, absent}
+
+-- a list by a rule has at each place what the rule gives there
+listed-at : {A : Type 0} (f : ℕ → A) (d : A) (n a i : ℕ) → i < n → getD (listed f a n) i d ≡ f (a + i)
+listed-at f d zero a i h = absurd (omega arith)
+listed-at f d (suc n) a zero h = ap f (sym (add-zero a))
+listed-at f d (suc n) a (suc i) h = listed-at f d n (suc a) i (omega arith) ∙ ap f (suc-add a i ∙ sym (add-suc a i))
 
 -- OPCODE KINDS
 
@@ -62,15 +68,14 @@ kind-within opcode = kind-counted opcode 1 opcodesByKind
 pub kind-given : (opcode kind : ℕ) → kind ≡ opcodeKind opcode → (1 ≤ kind) × (kind ≤ 19)
 kind-given opcode kind e = rw e (kind-within opcode)
 
+-- the lent kinds have the kind of each of their opcodes
+pub kind-listed : (t : List ℕ) (opcode : ℕ) → t ≡ kindTable → opcode < 256 → getD t opcode 0 ≡ opcodeKind opcode
+unfolding kindTable
+kind-listed t opcode e h = rw e (listed-at opcodeKind 0 256 0 opcode h ∙ ap opcodeKind (zero-add opcode))
+
 -- THE TABLE
 
--- each of them is the line of its kind
-line-at : (n a i : ℕ) → i < n → getD (linesFrom a n) i [] ≡ lineOf (a + i)
-line-at zero a i h = absurd (omega arith)
-line-at (suc n) a zero h = ap lineOf (sym (add-zero a))
-line-at (suc n) a (suc i) h = line-at n (suc a) i (omega arith) ∙ ap lineOf (suc-add a i ∙ sym (add-suc a i))
-
--- and has in each column the cell of its state
+-- a line has in each column the cell of its state
 cell-at : (kind : ℕ) (s : State) → getD (lineOf kind) (columnOf s) 0 ≡ codeOf (layoutAt kind s)
 cell-at kind Outside = refl
 cell-at kind Function = refl
@@ -81,7 +86,7 @@ cell-is : (kind c : ℕ) (s : State) → (1 ≤ kind) × (kind ≤ 19) → c ≡
 unfolding layoutTable
 cell-is kind c s h e =
     let k : 1 + (kind - 1) ≡ kind = omega arith in
-    rw e (ap (λ (l : List ℕ). getD l (columnOf s) 0) (line-at 19 1 (kind - 1) (omega arith) ∙ ap lineOf k) ∙ cell-at kind s)
+    rw e (ap (λ (l : List ℕ). getD l (columnOf s) 0) (listed-at lineOf [] 19 1 (kind - 1) (omega arith) ∙ ap lineOf k) ∙ cell-at kind s)
 
 -- the columns are three
 column-low : (s : State) → columnOf s < 3
@@ -112,9 +117,12 @@ code-tells (Tagged t s) (Refuses n) e = absurd (omega (arith, column-low s))
 code-tells (Refuses n) (Tagged u r) e = absurd (omega (arith, column-low r))
 code-tells (Refuses n) (Refuses m) e = let x : n ≡ m = omega arith in cc
 
--- so what a lent table has at an opcode's line and a state's column is what the layout says
-pub place-is : (t : List (List ℕ)) (opcode kind c code : ℕ) (s : State) (r : Cell) → t ≡ layoutTable → kind ≡ opcodeKind opcode → c ≡ columnOf s
-    → code ≡ getD (getD t (kind - 1) []) c 0 → codeOf r ≡ code → r ≡ layoutOf opcode s
+-- so what a lent table has at a kind's line and a state's column is what the layout says
+pub place-is : (t : List (List ℕ)) (kind c code : ℕ) (s : State) (r : Cell) → t ≡ layoutTable → (1 ≤ kind) × (kind ≤ 19) → c ≡ columnOf s
+    → code ≡ getD (getD t (kind - 1) []) c 0 → codeOf r ≡ code → r ≡ layoutAt kind s
+place-is t kind c code s r e f g h i = code-tells r (layoutAt kind s) (i ∙ h ∙ (rw e (cell-is kind c s f g)))
+
+-- and what it says of an opcode's kind it says of the opcode
+pub place-by : (opcode kind : ℕ) (s : State) (r : Cell) → kind ≡ opcodeKind opcode → r ≡ layoutAt kind s → r ≡ layoutOf opcode s
 unfolding layoutOf
-place-is t opcode kind c code s r e f g h i =
-    code-tells r (layoutAt (opcodeKind opcode) s) (i ∙ h ∙ (rw e (cell-is kind c s (kind-given opcode kind f) g ∙ ap (λ (k : ℕ). codeOf (layoutAt k s)) f)))
+place-by opcode kind s r e f = f ∙ ap (λ (k : ℕ). layoutAt k s) e

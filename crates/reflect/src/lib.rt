@@ -1,8 +1,8 @@
 // Opcode kinds, as reflect.rs and loader.rs tell them, and the layout: where an instruction goes, or why it is refused.
 ghost use mathlib.Core.Path.{_≡_};
 ghost use Prim.Native.Nat.{_≤_, _<_};
-ghost use Rattle.reflect.specs.Column.{codeOf, columnOf, layoutTable};
-ghost use Rattle.spec.specs.Layout.{opcodeKind, isType, layoutOf};
+ghost use Rattle.reflect.specs.Column.{codeOf, columnOf, layoutTable, kindTable};
+ghost use Rattle.spec.specs.Layout.{opcodeKind, isType, layoutAt, layoutOf};
 use spec::Cell;
 use spec::State;
 use spec::State::Block;
@@ -69,6 +69,40 @@ pub fn opcode_kind(opcode: u16) -> u8
     }
 }
 
+// The kinds of the opcodes below 256, sixteen to a line, to be lent to `place`.
+pub fn kinds() -> [u8; 256]
+    ensures { λ r. ⌜ r ≡ kindTable ⌝ }
+{
+    *b"\
+\x13\x0d\x07\x07\x07\x08\x08\x07\x0c\x13\x02\x03\x13\x13\x04\x05\
+\x06\x01\x13\x0b\x0b\x0b\x0b\x0b\x0b\x0b\x0b\x0b\x0b\x0b\x0b\x0b\
+\x0b\x0b\x0b\x0b\x0b\x0b\x0b\x0b\x13\x0b\x0b\x0b\x0b\x0b\x0b\x13\
+\x0b\x0b\x0b\x0b\x0b\x13\x0e\x0f\x12\x13\x13\x0d\x13\x13\x13\x13\
+\x13\x13\x13\x13\x13\x13\x13\x0a\x0a\x0a\x0a\x0a\x13\x13\x13\x13\
+\x13\x13\x13\x13\x13\x13\x13\x13\x13\x13\x13\x13\x13\x13\x13\x13\
+\x13\x13\x13\x13\x13\x13\x13\x13\x13\x13\x13\x13\x13\x13\x13\x13\
+\x13\x13\x13\x13\x13\x13\x13\x13\x13\x13\x13\x13\x13\x13\x13\x13\
+\x13\x13\x13\x13\x13\x13\x13\x13\x13\x13\x13\x13\x13\x13\x13\x13\
+\x13\x13\x13\x13\x13\x13\x13\x13\x13\x13\x13\x13\x13\x13\x13\x13\
+\x13\x13\x13\x13\x13\x13\x13\x13\x13\x13\x13\x13\x13\x13\x13\x13\
+\x13\x13\x13\x13\x13\x13\x13\x13\x13\x13\x13\x13\x13\x13\x13\x13\
+\x13\x13\x13\x13\x13\x13\x13\x13\x13\x13\x13\x13\x13\x13\x13\x13\
+\x13\x13\x13\x13\x13\x13\x13\x13\x13\x13\x13\x13\x13\x13\x13\x13\
+\x13\x13\x13\x13\x13\x13\x13\x13\x13\x13\x13\x13\x13\x13\x13\x13\
+\x13\x13\x13\x13\x13\x13\x13\x13\x10\x11\x11\x11\x11\x11\x11\x11"
+}
+
+// The kind of an opcode, from the lent kinds where it is one of theirs.
+fn kind_by(kinds: &[u8; 256], opcode: u16) -> u8
+    requires { ⌜ now kinds ≡ kindTable ⌝ }
+    ensures { λ r. ⌜ r ≡ opcodeKind opcode ⌝ }
+{
+    if opcode < 256 {
+        return kinds[opcode as usize];
+    }
+    opcode_kind(opcode)
+}
+
 // Does the opcode declare a type.
 pub fn is_type(opcode: u16) -> bool
     ensures { λ r. ⌜ r ≡ isType opcode ⌝ }
@@ -110,12 +144,21 @@ fn cell(code: u8) -> Cell
     }
 }
 
-// What the table says of an opcode in a state: the tag and the state after it, or the number of a refusal.
-pub fn place(table: &[[u8; 3]; 19], opcode: u16, s: State) -> Cell
+// What the table says of a kind in a state.
+fn place_of(table: &[[u8; 3]; 19], kind: u8, s: State) -> Cell
     requires { ⌜ now table ≡ layoutTable ⌝ }
-    ensures { λ r. ⌜ r ≡ layoutOf opcode s ⌝ }
+    requires { ⌜ (1 ≤ kind) × (kind ≤ 19) ⌝ }
+    ensures { λ r. ⌜ r ≡ layoutAt kind s ⌝ }
 {
-    let line = (opcode_kind(opcode) - 1) as usize;
+    let line = (kind - 1) as usize;
     let c = column(s);
     cell(table[line][c])
+}
+
+// What the table says of an opcode in a state, by the lent kinds and table: the tag and the state after it, or the number of a refusal.
+pub fn place(kinds: &[u8; 256], table: &[[u8; 3]; 19], opcode: u16, s: State) -> Cell
+    requires { ⌜ (now table ≡ layoutTable) × (now kinds ≡ kindTable) ⌝ }
+    ensures { λ r. ⌜ r ≡ layoutOf opcode s ⌝ }
+{
+    place_of(table, kind_by(kinds, opcode), s)
 }

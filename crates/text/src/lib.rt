@@ -1,5 +1,7 @@
 // Strings in bytes: where one ends, and whether its bytes are UTF-8.
 ghost use mathlib.Core.Path.{_≡_};
+ghost use Prim.Native.Nat.{ℕ, _<_, _≤_};
+ghost use lib.ListN.{length, getD};
 ghost use Rattle.spec.specs.Text.{isUtf8};
 ghost use Rattle.text.specs.Zero.{zeroIn};
 ghost use Rattle.text.specs.Steps.{firstOf, stepOf};
@@ -92,10 +94,36 @@ fn advance(p: Pending, b: u8) -> Step
     more(p.left - 1, 128, 191)
 }
 
-// Whether the bytes are well-formed UTF-8.
+// The higher of two bytes.
+fn higher(a: u8, b: u8) -> u8
+    ensures { λ r. ⌜ (a ≤ r) × (b ≤ r) ⌝ }
+{
+    if a < b {
+        return b;
+    }
+    a
+}
+
+// A number that no byte is above: the highest of them.
+fn highest(s: &[u8]) -> u8
+    ensures { λ r. ⌜ ((j : ℕ) → j < length (now (s .entry)) → getD (now (s .entry)) j 0 ≤ r) ⌝ }
+{
+    let mut high = 0;
+    let mut i = 0;
+    while i < s.len() {
+        high = higher(high, s[i]);
+        i += 1;
+    }
+    high
+}
+
+// Whether the bytes are well-formed UTF-8. All below 128 are, and are told at once.
 pub fn utf8(s: &[u8]) -> bool
     ensures { λ r. ⌜ r ≡ isUtf8 (now (s .entry)) ⌝ }
 {
+    if highest(s) < 128 {
+        return true;
+    }
     let mut p = Pending {
         left: 0,
         low: 128,

@@ -8,16 +8,16 @@ use Rattle.records.proofs.check_within.Statement.{statement}
 use Rattle.records.proofs.check_within.Tie as tie
 
 abbrev Inv-loop : tie.InvT-loop
-Inv-loop table whole instructions log strings count log-count string-count i₀ at₀ a₀ b₀ s₀ i at a b s = Checking whole instructions log strings count log-count string-count i at a b s
+Inv-loop kinds table whole instructions log strings count log-count string-count i₀ at₀ a₀ b₀ s₀ i at a b s = Checking whole instructions log strings count log-count string-count i at a b s
 
 abbrev μ-loop : tie.MeasureT-loop
-μ-loop table whole instructions log strings count log-count string-count i₀ at₀ a₀ b₀ s₀ i at a b s = count - i
+μ-loop kinds table whole instructions log strings count log-count string-count i₀ at₀ a₀ b₀ s₀ i at a b s = count - i
 
 loop-holds : tie.Need-loop-holds Inv-loop μ-loop
 loop-holds c = check-starts _ _ _ _ _ _ _
 
-add-t23 : tie.Need-add-t23 Inv-loop μ-loop
-add-t23 c = omega (arith, c .before .before .loop .inv .within)
+add-t24 : tie.Need-add-t24 Inv-loop μ-loop
+add-t24 c = omega (arith, c .before .before .loop .inv .within)
 
 returns : tie.Need-returns Inv-loop μ-loop
 returns c = check-missing (c .before .before .loop .inv) (c .before .loop-test .taken) (c .if1 .taken)
@@ -34,8 +34,8 @@ enum-known-next-at c = search needs
 enum-told : tie.Need-enum-told Inv-loop μ-loop
 enum-told c = search needs
 
-add-t25 : tie.Need-add-t25 Inv-loop μ-loop
-add-t25 c = omega (arith, c .before .before .before .before .before .before .loop .inv .within)
+add-t26 : tie.Need-add-t26 Inv-loop μ-loop
+add-t26 c = omega (arith, c .before .before .before .before .before .before .loop .inv .within)
 
 returns-2 : tie.Need-returns-2 Inv-loop μ-loop
 returns-2 c = check-fields (c .before .before .before .before .before .before .loop .inv) (c .before .before .before .before .before .loop-test .taken) (c .before .before .before .before .if1 .left) _ (c .before .before .before .record-at .ensures) _ (c .before .before .offset-after .ensures) (c .enum-told .given .1)
@@ -49,8 +49,8 @@ enum-known-next-a c = search needs
 enum-told-2 : tie.Need-enum-told-2 Inv-loop μ-loop
 enum-told-2 c = search needs
 
-add-t27 : tie.Need-add-t27 Inv-loop μ-loop
-add-t27 c = omega (arith, c .before .before .before .before .before .before .before .before .before .before .loop .inv .within)
+add-t28 : tie.Need-add-t28 Inv-loop μ-loop
+add-t28 c = omega (arith, c .before .before .before .before .before .before .before .before .before .before .loop .inv .within)
 
 returns-3 : tie.Need-returns-3 Inv-loop μ-loop
 returns-3 c = check-operands (c .before .before .before .before .before .before .before .before .before .before .loop .inv) (c .before .before .before .before .before .before .before .before .before .loop-test .taken) (c .before .before .before .before .before .before .before .before .if1 .left) _ (c .before .before .before .before .before .before .before .record-at .ensures) _ (c .before .before .operands-after .ensures) (c .enum-told2 .given .1)
@@ -64,8 +64,8 @@ enum-known-next-s c = search needs
 enum-told-3 : tie.Need-enum-told-3 Inv-loop μ-loop
 enum-told-3 c = search needs
 
-add-t29 : tie.Need-add-t29 Inv-loop μ-loop
-add-t29 c = omega (arith, c .before .before .before .before .before .before .before .before .before .before .before .before .before .before .loop .inv .within)
+add-t30 : tie.Need-add-t30 Inv-loop μ-loop
+add-t30 c = omega (arith, c .before .before .before .before .before .before .before .before .before .before .before .before .before .before .loop .inv .within)
 
 returns-4 : tie.Need-returns-4 Inv-loop μ-loop
 returns-4 c = check-tag (c .before .before .before .before .before .before .before .before .before .before .before .before .before .before .loop .inv) (c .before .before .before .before .before .before .before .before .before .before .before .before .before .loop-test .taken) (c .before .before .before .before .before .before .before .before .before .before .before .before .if1 .left) _ (c .before .before .before .before .before .before .before .before .before .before .before .record-at .ensures) _ (c .before .before .tag-after .ensures) (c .enum-told3 .given .1)
@@ -98,23 +98,23 @@ check-within-spec =
     Inv-loop
     μ-loop
     loop-holds
-    add-t23
+    add-t24
     returns
     record-at-requires
     offset-after-requires
     enum-known-next-at
     enum-told
-    add-t25
+    add-t26
     returns-2
     operands-after-requires
     enum-known-next-a
     enum-told-2
-    add-t27
+    add-t28
     returns-3
     tag-after-requires
     enum-known-next-s
     enum-told-3
-    add-t29
+    add-t30
     returns-4
     add-i
     loop-less

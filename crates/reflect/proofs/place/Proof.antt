@@ -1,49 +1,18 @@
--- `reflect::place` meets its contract: every opcode has a line of the table, and every state a column.
+-- `reflect::place` meets its contract: the lent kinds give the opcode's.
 -- Assumes nothing.
-use mathlib.Core.Path.{refl}
-use native.Mathlib.Omega.{arith}
 use borrow.Author.Needs.{needs}
-use Rattle.reflect.proofs.Laws.{kind-given, place-is}
+use Rattle.reflect.proofs.Laws.{kind-given, place-by}
 use Rattle.reflect.proofs.place.Statement.{statement}
 use Rattle.reflect.proofs.place.Tie as tie
 
-opcode-kind-requires : tie.Need-opcode-kind-requires
-opcode-kind-requires c κs = search needs
+kind-by-requires : tie.Need-kind-by-requires
+kind-by-requires c κs = search needs
 
-sub-line : tie.Need-sub-line
-sub-line c = kind-given _ _ (c .opcode-kind .ensures) .0
-
-cast-line : tie.Need-cast-line
-cast-line c = search needs
-
-column-requires : tie.Need-column-requires
-column-requires c κs = search needs
-
-mul-cell : tie.Need-mul-cell
-mul-cell c = search needs
-
-index-1-cell : tie.Need-index-1-cell
-index-1-cell c = omega (arith, kind-given _ _ (c .before .opcode-kind .ensures) .0, kind-given _ _ (c .before .opcode-kind .ensures) .1)
-
-index-2-cell : tie.Need-index-2-cell
-index-2-cell c = search needs
-
-cell-requires : tie.Need-cell-requires
-cell-requires c κs = search needs
+place-of-requires : tie.Need-place-of-requires
+place-of-requires c κs = (c .before .pre .0, kind-given _ _ (c .kind-by .ensures))
 
 returns : tie.Need-returns
-returns c = place-is _ _ _ _ _ _ _ (c .before .before .before .before .pre) (c .before .before .before .opcode-kind .ensures) (c .before .before .column .ensures .0) refl (c .cell .ensures)
+returns c = place-by _ _ _ _ (c .before .kind-by .ensures) (c .place-of .ensures)
 
 pub place-spec : {M : Type 1} → statement M
-place-spec =
-    tie.close
-    (tie.spec
-    opcode-kind-requires
-    sub-line
-    cast-line
-    column-requires
-    mul-cell
-    index-1-cell
-    index-2-cell
-    cell-requires
-    returns)
+place-spec = tie.close (tie.spec kind-by-requires place-of-requires returns)

@@ -3,7 +3,7 @@ use Prim.Native.Nat.{_-_}
 use native.Mathlib.Omega.{arith}
 use lib.ListN.{length}
 use borrow.Author.Needs.{needs}
-use Rattle.text.proofs.Steps.{Tested, test-starts, test-goes-on, test-fails, test-ends}
+use Rattle.text.proofs.Steps.{Tested, test-starts, test-goes-on, test-fails, test-ends, under-utf8}
 use Rattle.text.proofs.utf8.Statement.{statement}
 use Rattle.text.proofs.utf8.Tie as tie
 
@@ -12,6 +12,12 @@ Inv-loop s p₀ i₀ p i = Tested s p i
 
 abbrev μ-loop : tie.MeasureT-loop
 μ-loop s p₀ i₀ p i = length s - i
+
+highest-requires : tie.Need-highest-requires Inv-loop μ-loop
+highest-requires c κs = search needs
+
+returns : tie.Need-returns Inv-loop μ-loop
+returns c = under-utf8 (c .before .before .before .args .s .now) _ (c .before .highest .ensures) (c .if1 .taken)
 
 loop-holds : tie.Need-loop-holds Inv-loop μ-loop
 loop-holds c = test-starts _
@@ -28,8 +34,8 @@ enum-known-step c = search needs
 enum-told : tie.Need-enum-told Inv-loop μ-loop
 enum-told c = search needs
 
-returns : tie.Need-returns Inv-loop μ-loop
-returns c = test-fails (c .before .before .before .before .before .loop .inv) (c .before .before .before .before .loop-test .taken) _ (c .before .before .advance .ensures) (c .enum-told .given .1)
+returns-2 : tie.Need-returns-2 Inv-loop μ-loop
+returns-2 c = test-fails (c .before .before .before .before .before .loop .inv) (c .before .before .before .before .loop-test .taken) _ (c .before .before .advance .ensures) (c .enum-told .given .1)
 
 add-i : tie.Need-add-i Inv-loop μ-loop
 add-i c = omega arith
@@ -40,8 +46,8 @@ loop-less c = omega arith
 loop-again : tie.Need-loop-again Inv-loop μ-loop
 loop-again c = test-goes-on (c .before .before .before .before .before .before .loop .inv) (c .before .before .before .before .before .loop-test .taken) _ _ (c .before .before .before .advance .ensures) (c .before .step .given .1)
 
-returns-2 : tie.Need-returns-2 Inv-loop μ-loop
-returns-2 c = test-ends (c .before .before .loop .inv) (c .before .loop-test .left)
+returns-3 : tie.Need-returns-3 Inv-loop μ-loop
+returns-3 c = test-ends (c .before .before .loop .inv) (c .before .loop-test .left)
 
 pub utf8-spec : {M : Type 1} → statement M
 utf8-spec =
@@ -49,13 +55,15 @@ utf8-spec =
     (tie.spec
     Inv-loop
     μ-loop
+    highest-requires
+    returns
     loop-holds
     shared-slice-read-advance
     advance-requires
     enum-known-step
     enum-told
-    returns
+    returns-2
     add-i
     loop-less
     loop-again
-    returns-2)
+    returns-3)

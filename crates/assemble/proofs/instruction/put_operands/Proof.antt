@@ -2,7 +2,7 @@
 -- Assumes nothing.
 use native.Mathlib.Omega.{arith}
 use Prim.Native.Nat.{_-_}
-use Rattle.assemble.proofs.Spell.{Putting, putting-starts, putting-length, putting-ends, putting-here, putting-room, putting-goes-on, lent-room}
+use Rattle.assemble.proofs.Spell.{Putting, putting-starts, putting-length, putting-ends, putting-here, putting-room, putting-goes-on}
 use Rattle.assemble.proofs.instruction.put_operands.Statement.{statement}
 use Rattle.assemble.proofs.instruction.put_operands.Tie as tie
 
@@ -15,23 +15,8 @@ abbrev μ-loop : tie.MeasureT-loop
 loop-holds : tie.Need-loop-holds Inv-loop μ-loop
 loop-holds c = putting-starts _ _ _ _ _ (c .before .before .before .pre .0)
 
-sub-put-operand : tie.Need-sub-put-operand Inv-loop μ-loop
-sub-put-operand c = omega (arith, putting-room (c .before .loop .inv) (c .loop-test .taken) (c .before .before .before .before .before .pre .1))
-
-part-put-operand-start : tie.Need-part-put-operand-start Inv-loop μ-loop
-part-put-operand-start c = omega (arith, putting-room (c .before .loop .inv) (c .loop-test .taken) (c .before .before .before .before .before .pre .1))
-
-part-put-operand-end : tie.Need-part-put-operand-end Inv-loop μ-loop
-part-put-operand-end c = omega (arith, putting-room (c .before .loop .inv) (c .loop-test .taken) (c .before .before .before .before .before .pre .1))
-
-put-operand-requires : tie.Need-put-operand-requires Inv-loop μ-loop
-put-operand-requires c κs = (putting-here (c .before .before .loop .inv) (c .before .loop-test .taken), lent-room (c .before .before .loop .out) (c .before .before .loop .at) _ (putting-room (c .before .before .loop .inv) (c .before .loop-test .taken) (c .before .before .before .before .before .before .pre .1)))
-
-add-at : tie.Need-add-at Inv-loop μ-loop
-add-at c = omega (arith, putting-room (c .before .before .before .before .before .loop .inv) (c .before .before .before .before .loop-test .taken) (c .before .before .before .before .before .before .before .before .before .pre .1), putting-length (c .before .before .before .before .before .loop .inv), c .before .before .put-operand .ensures .0)
-
-operand-after-requires : tie.Need-operand-after-requires Inv-loop μ-loop
-operand-after-requires c κs = putting-here (c .before .before .before .before .before .loop .inv) (c .before .before .before .before .loop-test .taken) .whole .five
+put-next-requires : tie.Need-put-next-requires Inv-loop μ-loop
+put-next-requires c κs = (putting-here (c .before .before .loop .inv) (c .before .loop-test .taken), putting-room (c .before .before .loop .inv) (c .before .loop-test .taken) (c .before .before .before .before .before .before .pre .1))
 
 add-i : tie.Need-add-i Inv-loop μ-loop
 add-i c = omega arith
@@ -40,7 +25,7 @@ loop-less : tie.Need-loop-less Inv-loop μ-loop
 loop-less c = omega arith
 
 loop-again : tie.Need-loop-again Inv-loop μ-loop
-loop-again c = putting-goes-on (c .before .before .before .before .before .before .loop .inv) (c .before .before .before .before .before .loop-test .taken) _ _ _ (c .before .before .before .put-operand .ensures .0) (c .operand-after .ensures) (c .before .before .before .put-operand .ensures .1)
+loop-again c = putting-goes-on (c .before .before .before .before .before .loop .inv) (c .before .before .before .before .loop-test .taken) _ _ _ (c .before .before .put-next .ensures .0) (c .before .before .put-next .ensures .1 .0) (c .before .before .put-next .ensures .1 .1)
 
 same-length : tie.Need-same-length Inv-loop μ-loop
 same-length c = putting-length (c .before .loop .inv)
@@ -55,12 +40,7 @@ put-operands-spec =
     Inv-loop
     μ-loop
     loop-holds
-    sub-put-operand
-    part-put-operand-start
-    part-put-operand-end
-    put-operand-requires
-    add-at
-    operand-after-requires
+    put-next-requires
     add-i
     loop-less
     loop-again

@@ -1,19 +1,19 @@
--- `assemble::instruction::put_text` meets its contract: the zeros follow the bytes.
+-- `assemble::instruction::put_text` meets its contract: the bytes go over the zero word.
 -- Assumes nothing.
 use native.Mathlib.Omega.{arith}
-use Rattle.assemble.proofs.Spell.{length-padded, text-length, text-put}
+use Rattle.assemble.proofs.Spell.{length-padded, zeroed-length, text-put}
 use borrow.Author.Needs.{needs}
 use Rattle.assemble.proofs.instruction.put_text.Statement.{statement}
 use Rattle.assemble.proofs.instruction.put_text.Tie as tie
 
-sub-zeros : tie.Need-sub-zeros
-sub-zeros c = search needs
+sub-last : tie.Need-sub-last
+sub-last c = search needs
+
+put-word-requires : tie.Need-put-word-requires
+put-word-requires c κs = omega (arith, length-padded (c .before .before .before .args .s .now))
 
 put-bytes-requires : tie.Need-put-bytes-requires
-put-bytes-requires c κs = omega (arith, length-padded (c .before .before .before .args .s .now))
-
-put-zeros-requires : tie.Need-put-zeros-requires
-put-zeros-requires c κs = omega (arith, length-padded (c .before .before .before .before .before .before .before .args .s .now), text-length (c .before .before .before .before .before .before .before .args .out .now) _ (c .before .before .before .before .before .before .before .args .s .now) (c .before .before .before .put-bytes .ensures))
+put-bytes-requires c κs = omega (arith, length-padded (c .before .before .before .before .before .before .before .args .s .now), zeroed-length (c .before .before .before .before .before .before .before .args .out .now) _ (c .before .before .before .before .before .before .before .args .s .now) (c .before .before .before .put-word .ensures))
 
 add-result : tie.Need-add-result
 add-result c = search needs
@@ -22,9 +22,9 @@ same-length : tie.Need-same-length
 same-length c = search needs
 
 returns : tie.Need-returns
-returns c = (length-padded _, text-put (c .before .before .before .before .before .before .before .before .before .before .args .out .now) _ (c .before .before .before .before .before .before .before .before .before .before .args .s .now) (c .before .before .before .before .before .before .put-bytes .ensures) _ (c .before .before .put-zeros .ensures))
+returns c = (length-padded _, text-put (c .before .before .before .before .before .before .before .before .before .before .args .out .now) _ (c .before .before .before .before .before .before .before .before .before .before .args .s .now) (c .before .before .before .before .before .before .put-word .ensures) (c .before .before .before .before .before .before .before .before .before .before .pre) _ (c .before .before .put-bytes .ensures))
 
 pub put-text-spec : {M : Type 1} → statement M
 put-text-spec =
     tie.close
-    (tie.spec sub-zeros put-bytes-requires put-zeros-requires add-result same-length returns)
+    (tie.spec sub-last put-word-requires put-bytes-requires add-result same-length returns)

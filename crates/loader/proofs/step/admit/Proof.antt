@@ -1,7 +1,6 @@
 -- `loader::step::admit` meets its contract: no place, no room, or both.
 use Rattle.loader.proofs.Judging.{judged-misplaced, judged-good, judged-crowded}
-use Rattle.spec.specs.Load.{roomFault}
-use mathlib.Core.Path.{ap, sym, _∙_}
+use mathlib.Core.Path.{sym, _∙_}
 use borrow.Author.Needs.{needs}
 use Rattle.loader.proofs.step.admit.Statement.{statement}
 use Rattle.loader.proofs.step.admit.Tie as tie
@@ -28,7 +27,7 @@ room-fault-requires : tie.Need-room-fault-requires
 room-fault-requires c κs = search needs
 
 returns : tie.Need-returns
-returns c = judged-good _ _ _ _ _ _ _ (sym (c .before .before .before .before .before .before .place .ensures) ∙ c .before .before .before .before .cell2 .given .1) _ (c .before .room-fault .ensures ∙ ap (roomFault _) (c .before .before .need-after .ensures)) (c .if1 .taken)
+returns c = judged-good _ _ _ _ _ _ _ (sym (c .before .before .before .before .before .before .place .ensures) ∙ c .before .before .before .before .cell2 .given .1) _ (c .before .room-fault .ensures ∙ c .before .before .need-after .ensures) (c .if1 .taken)
 
 refused-requires-2 : tie.Need-refused-requires-2
 refused-requires-2 c κs = search needs
@@ -37,7 +36,7 @@ returns-2 : tie.Need-returns-2
 returns-2 c = judged-misplaced _ _ _ _ _ _ (sym (c .before .before .before .before .place .ensures) ∙ c .before .before .cell .given .1) _ (c .refused .ensures)
 
 returns-3 : tie.Need-returns-3
-returns-3 c = judged-crowded _ _ _ _ _ _ _ (sym (c .before .before .before .before .before .before .before .place .ensures) ∙ c .before .before .before .before .before .cell2 .given .1) _ (c .before .before .room-fault .ensures ∙ ap (roomFault _) (c .before .before .before .need-after .ensures)) (c .before .if1 .left) _ (c .refused2 .ensures)
+returns-3 c = judged-crowded _ _ _ _ _ _ _ (sym (c .before .before .before .before .before .before .before .place .ensures) ∙ c .before .before .before .before .before .cell2 .given .1) _ (c .before .before .room-fault .ensures ∙ c .before .before .before .need-after .ensures) (c .before .if1 .left) _ (c .refused2 .ensures)
 
 pub admit-spec : {M : Type 1} → statement M
 admit-spec =

@@ -35,7 +35,7 @@ enum-known-t-2 : tie.Need-enum-known-t-2
 enum-known-t-2 c = search needs
 
 push-text-requires : tie.Need-push-text-requires
-push-text-requires c κs = let s = few-small _ _ _ (c .before .before .before .before .before .before .before .before .before .before .before .before .before .before .before .pre .1 .0) in let i = text-inside _ _ _ (sym (c .before .before .before .before .t2 .given .1) ∙ c .before .before .before .before .before .before .string .ensures) in ((s .0, s .1, omega (arith, s .2), omega (arith, i, c .before .before .before .before .before .before .before .before .before .before .before .before .before .before .before .pre .1 .0 .short)), omega (arith, i))
+push-text-requires c κs = let s = few-small _ _ _ (c .before .before .before .before .before .before .before .before .before .before .before .before .before .before .before .pre .1 .0) in let i = text-inside _ _ _ (sym (c .before .before .before .before .t2 .given .1) ∙ c .before .before .before .before .before .before .string .ensures) in ((s .0, s .1, omega (arith, s .2), omega (arith, i, c .before .before .before .before .before .before .before .before .before .before .before .before .before .before .before .pre .1 .0 .short), omega (arith, s .2)), omega (arith, i))
 
 read-word-requires : tie.Need-read-word-requires
 read-word-requires c κs = (c .before .before .before .before .before .before .before .before .before .pre .1 .0, c .before .before .before .before .before .before .before .before .before .pre .1 .1, sym (c .before .before .before .is-enum .ensures) ∙ c .before .before .if1 .left, c .before .if2 .left)

@@ -14,16 +14,16 @@ use Rattle.parser.proofs.rows.parse_operands.Statement.{statement}
 use Rattle.parser.proofs.rows.parse_operands.Tie as tie
 
 abbrev Inv-loop : tie.InvT-loop
-Inv-loop s g index types hints tracker place log₀ log-at strings₀ strings-at d₀ u₀ p₀ log strings d u p = Rowing s (grammarOf g) (entriesOf (tracker .count) types) (readRow (grammarOf g) (entriesOf (tracker .count) types) (leftOf (d₀ .limit)) (slotsAt g place) nothingSeen (readerOf s d₀)) log₀ strings₀ log strings log-at strings-at d₀ d u (slotsAt g p)
+Inv-loop s g index types hints tracker place log₀ log-at strings₀ strings-at base d₀ u₀ p₀ log strings d u p = Rowing s (grammarOf g) (entriesOf (tracker .count) types) (readRow (grammarOf g) (entriesOf (tracker .count) types) (leftOf (d₀ .limit)) (slotsAt g place) nothingSeen (readerOf s d₀)) log₀ strings₀ log strings log-at strings-at base d₀ d u (slotsAt g p)
 
 abbrev μ-loop : tie.MeasureT-loop
-μ-loop s g index types hints tracker place log₀ log-at strings₀ strings-at d₀ u₀ p₀ log strings d u p = leftOf (d .limit)
+μ-loop s g index types hints tracker place log₀ log-at strings₀ strings-at base d₀ u₀ p₀ log strings d u p = leftOf (d .limit)
 
 nothing-used-requires : tie.Need-nothing-used-requires Inv-loop μ-loop
 nothing-used-requires c κs = search needs
 
 loop-holds : tie.Need-loop-holds Inv-loop μ-loop
-loop-holds c = let p = c .before .before .before .before .before .before .before .before .pre .1 in row-starts _ _ _ _ _ _ _ _ _ _ (c .nothing-used .ensures) (p .0 .0) (p .0 .1) (p .0 .2) (p .1 .0 .0) (p .1 .0 .1) (p .1 .1 .0 .1)
+loop-holds c = let p = c .before .before .before .before .before .before .before .before .pre .1 in row-starts _ _ _ _ _ _ _ _ _ _ _ (c .nothing-used .ensures) (p .0 .0) (p .0 .1) (p .0 .2) (p .1 .0 .0) (p .1 .0 .1) (p .1 .1 .0 .1)
 
 slot-at-requires : tie.Need-slot-at-requires Inv-loop μ-loop
 slot-at-requires c κs = search needs

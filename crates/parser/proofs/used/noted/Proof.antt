@@ -10,8 +10,8 @@ returns c = note-first _ _ _ _ (c .if1 .taken)
 returns-2 : tie.Need-returns-2
 returns-2 c = note-second _ _ _ _ (c .if2 .taken)
 
-add-t13 : tie.Need-add-t13
-add-t13 c = search needs
+add-t14 : tie.Need-add-t14
+add-t14 c = search needs
 
 returns-3 : tie.Need-returns-3
 returns-3 c = note-later _ _ _ _ (c .before .if1 .left) (c .if2 .left)
@@ -22,5 +22,5 @@ noted-spec =
     (tie.spec
     returns
     returns-2
-    add-t13
+    add-t14
     returns-3)

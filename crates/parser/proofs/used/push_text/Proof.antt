@@ -7,6 +7,9 @@ use Rattle.parser.proofs.used.push_text.Tie as tie
 add-to : tie.Need-add-to
 add-to c = search needs
 
+add-at : tie.Need-add-at
+add-at c = search needs
+
 mul-push : tie.Need-mul-push
 mul-push c = search needs
 
@@ -38,13 +41,14 @@ same-length-2 : tie.Need-same-length-2
 same-length-2 c = search needs
 
 returns : tie.Need-returns
-returns c = (copied _ _ _ _ (c .before .before .before .before .before .before .before .push .ensures .0), (c .before .before .before .before .before .before .before .push .ensures .1, part-laid _ _ _ _ _ _ (c .before .before .keep-bytes .ensures) (c .before .before .before .before .before .before .before .before .before .before .before .before .pre .1)))
+returns c = (copied _ _ _ _ (c .before .before .before .before .before .before .before .push .ensures .0), (c .before .before .before .before .before .before .before .push .ensures .1, part-laid _ _ _ _ _ _ (c .before .before .keep-bytes .ensures) (c .before .before .before .before .before .before .before .before .before .before .before .before .before .pre .1)))
 
 pub push-text-spec : {M : Type 1} → statement M
 push-text-spec =
     tie.close
     (tie.spec
     add-to
+    add-at
     mul-push
     add-push
     push-requires
