@@ -31,10 +31,7 @@ use Rattle.assemble.specs.Spelled.{Readable, operandAfter, operandsFrom,
 -- a string and its zeros end where its last word does
 pub length-padded : (s : List ℕ) → length s - length s % 4 + 4 ≡ length (padded s)
 unfolding padded
-length-padded s =
-    let e : length (s ++ replicate (4 - length s % 4) 0) ≡ length s + (4 - length s % 4) =
-    length-append s (replicate (4 - length s % 4) 0) ∙ ap (λ (n : ℕ). length s + n) (length-replicate {A = ℕ} (4 - length s % 4) 0) in
-    omega arith
+length-padded s = omega (arith, length-append s (replicate (4 - length s % 4) 0), length-replicate {A = ℕ} (4 - length s % 4) 0)
 
 -- what is left of a zero word after some of its bytes
 zero-rest : (k : ℕ) (d : List ℕ) → k < 4 → drop k (bytesOf 0 ++ d) ≡ replicate (4 - k) 0 ++ d
@@ -68,20 +65,16 @@ module _ (l l₁ s : List ℕ) (e : l₁ ≡ sets l (length s - length s % 4) (b
       ∙ zero-rest (length s % 4) (drop (m + 4) l) (omega arith)
       ∙ ap (λ (n : ℕ). replicate (4 - length s % 4) 0 ++ drop n l) p
 
-  -- stored at once
-  at-once : length (padded s) ≤ length l → (s ++ replicate (4 - length s % 4) 0) ++ drop (length (padded s)) l ≡ sets l 0 (padded s)
-  unfolding padded
-  at-once h = sym (front l (padded s) h)
-
   -- the string's bytes go over the zero word
   pub text-put : length (padded s) ≤ length l → (l₂ : List ℕ) → l₂ ≡ sets l₁ 0 s → l₂ ≡ sets l 0 (padded s)
+  unfolding padded
   text-put h l₂ g =
       let p : length s - length s % 4 + 4 ≡ length (padded s) = length-padded s in
       g
       ∙ front l₁ s (omega (arith, zeroed-length))
       ∙ ap (λ (z : List ℕ). s ++ z) (behind h)
       ∙ sym (append-assoc s (replicate (4 - length s % 4) 0) (drop (length (padded s)) l))
-      ∙ at-once h
+      ∙ sym (front l (padded s) h)
 
 -- AN OPERAND
 
@@ -154,10 +147,7 @@ module _ (log strings l : List ℕ) (a at : ℕ) where
   -- room for it
   pub one-room : getD log a 0 < 36 → at + length (operandBytes (operandAt log strings a)) ≤ length l → at + 4 ≤ length l
   unfolding bytesOf
-  one-room h g =
-      let b : length (bytesOf (fourAt (a + 1) log)) ≡ length (operandBytes (operandAt log strings a)) =
-      ap length (one-bytes log strings a (one-below (getD log a 0) h) (fourAt (a + 1) log) refl) in
-      omega arith
+  one-room h g = omega (arith, ap length (one-bytes log strings a (one-below (getD log a 0) h) (fourAt (a + 1) log) refl))
 
   -- an operand put into the rest from a place on
   pub next-rest : (n a' : ℕ) (ys : List ℕ) → n ≡ length (operandBytes (operandAt log strings a)) → a' ≡ operandAfter log a

@@ -1,9 +1,16 @@
--- `records::is_string` meets its contract: by where a zero byte is found, and else by UTF-8.
+-- `records::is_string` meets its contract: plain bytes may be one; else by where a zero byte is found, and by UTF-8.
 -- Assumes nothing.
 use Rattle.records.proofs.Fields.{string-zero, string-utf8}
+use Rattle.records.proofs.Plain.{plain-string}
 use borrow.Author.Needs.{needs}
 use Rattle.records.proofs.is_string.Statement.{statement}
 use Rattle.records.proofs.is_string.Tie as tie
+
+is-plain-requires : tie.Need-is-plain-requires
+is-plain-requires c κs = search needs
+
+returns : tie.Need-returns
+returns c = plain-string _ _ (c .before .is-plain .ensures) (c .if1 .taken)
 
 zero-requires : tie.Need-zero-requires
 zero-requires c κs = search needs
@@ -14,15 +21,24 @@ enum-told c = search needs
 enum-told-2 : tie.Need-enum-told-2
 enum-told-2 c = search needs
 
-returns : tie.Need-returns
-returns c = string-zero _ _ (c .before .before .zero .ensures) _ (c .enum-told2 .given .1)
+returns-2 : tie.Need-returns-2
+returns-2 c = string-zero _ _ (c .before .before .zero .ensures) _ (c .enum-told2 .given .1)
 
 utf8-requires : tie.Need-utf8-requires
 utf8-requires c κs = search needs
 
-returns-2 : tie.Need-returns-2
-returns-2 c = string-utf8 _ _ (c .before .before .before .zero .ensures) (c .before .enum-told .given .1) _ (c .utf8 .ensures)
+returns-3 : tie.Need-returns-3
+returns-3 c = string-utf8 _ _ (c .before .before .before .zero .ensures) (c .before .enum-told .given .1) _ (c .utf8 .ensures)
 
 pub is-string-spec : {M : Type 1} → statement M
 is-string-spec =
-    tie.close (tie.spec zero-requires enum-told enum-told-2 returns utf8-requires returns-2)
+    tie.close
+    (tie.spec
+    is-plain-requires
+    returns
+    zero-requires
+    enum-told
+    enum-told-2
+    returns-2
+    utf8-requires
+    returns-3)
