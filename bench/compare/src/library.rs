@@ -2,81 +2,8 @@
 
 use compare::reading::Stores;
 
-mod c {
-    extern "C" {
-        pub fn kollafrin_builtin(out: *mut u8, out_length: usize) -> usize;
-        pub fn kollafrin_load(
-            module: *const u8,
-            module_length: usize,
-            grammar: *const u8,
-            grammar_length: usize,
-            instructions: *mut u32,
-            instructions_length: usize,
-            log: *mut u8,
-            log_length: usize,
-            strings: *mut u8,
-            strings_length: usize,
-            types: *mut u32,
-            types_length: usize,
-            answer: *mut [u32; 16],
-        ) -> u32;
-        pub fn kollafrin_load_builtin(
-            module: *const u8,
-            module_length: usize,
-            instructions: *mut u32,
-            instructions_length: usize,
-            log: *mut u8,
-            log_length: usize,
-            strings: *mut u8,
-            strings_length: usize,
-            types: *mut u32,
-            types_length: usize,
-            answer: *mut [u32; 16],
-        ) -> u32;
-        pub fn kollafrin_write_parse_order(
-            header: *const [u32; 5],
-            instructions: *const u32,
-            instructions_length: usize,
-            log: *const u8,
-            log_length: usize,
-            strings: *const u8,
-            strings_length: usize,
-            instruction_count: usize,
-            log_count: usize,
-            string_count: usize,
-            out: *mut u8,
-            out_length: usize,
-            answer: *mut [u32; 4],
-        ) -> u32;
-        pub fn kollafrin_write_module_order(
-            header: *const [u32; 5],
-            instructions: *const u32,
-            instructions_length: usize,
-            log: *const u8,
-            log_length: usize,
-            strings: *const u8,
-            strings_length: usize,
-            instruction_count: usize,
-            log_count: usize,
-            string_count: usize,
-            out: *mut u8,
-            out_length: usize,
-            answer: *mut [u32; 4],
-        ) -> u32;
-        pub fn kollafrin_standing(
-            instructions: *const u32,
-            instructions_length: usize,
-            log: *const u8,
-            log_length: usize,
-            strings: *const u8,
-            strings_length: usize,
-            instruction_count: usize,
-            log_count: usize,
-            string_count: usize,
-            answer: *mut [u32; 4],
-        ) -> u32;
-    }
-}
+#[path = "../../../bindings/rust/src/c.rs"]
+mod c;
 
 /// What a word or byte of a lent store holds before the call.
 pub fn word_before(n: usize) -> u32 {

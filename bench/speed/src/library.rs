@@ -1,86 +1,8 @@
 //! Five of the library's functions, on stores that are lent again and again and never cleared in between.
 
-mod c {
-    extern "C" {
-        pub fn kollafrin_builtin(out: *mut u8, out_length: usize) -> usize;
-        pub fn kollafrin_load(
-            module: *const u8,
-            module_length: usize,
-            grammar: *const u8,
-            grammar_length: usize,
-            instructions: *mut u32,
-            instructions_length: usize,
-            log: *mut u8,
-            log_length: usize,
-            strings: *mut u8,
-            strings_length: usize,
-            types: *mut u32,
-            types_length: usize,
-            answer: *mut [u32; 16],
-        ) -> u32;
-        pub fn kollafrin_load_builtin(
-            module: *const u8,
-            module_length: usize,
-            instructions: *mut u32,
-            instructions_length: usize,
-            log: *mut u8,
-            log_length: usize,
-            strings: *mut u8,
-            strings_length: usize,
-            types: *mut u32,
-            types_length: usize,
-            answer: *mut [u32; 16],
-        ) -> u32;
-    }
-    /// Both writers have this shape.
-    pub type Writer = unsafe extern "C" fn(
-        header: *const [u32; 5],
-        instructions: *const u32,
-        instructions_length: usize,
-        log: *const u8,
-        log_length: usize,
-        strings: *const u8,
-        strings_length: usize,
-        instruction_count: usize,
-        log_count: usize,
-        string_count: usize,
-        out: *mut u8,
-        out_length: usize,
-        answer: *mut [u32; 4],
-    ) -> u32;
-    extern "C" {
-        pub fn kollafrin_write_parse_order(
-            header: *const [u32; 5],
-            instructions: *const u32,
-            instructions_length: usize,
-            log: *const u8,
-            log_length: usize,
-            strings: *const u8,
-            strings_length: usize,
-            instruction_count: usize,
-            log_count: usize,
-            string_count: usize,
-            out: *mut u8,
-            out_length: usize,
-            answer: *mut [u32; 4],
-        ) -> u32;
-        pub fn kollafrin_write_module_order(
-            header: *const [u32; 5],
-            instructions: *const u32,
-            instructions_length: usize,
-            log: *const u8,
-            log_length: usize,
-            strings: *const u8,
-            strings_length: usize,
-            instruction_count: usize,
-            log_count: usize,
-            string_count: usize,
-            out: *mut u8,
-            out_length: usize,
-            answer: *mut [u32; 4],
-        ) -> u32;
-    }
-}
+#[path = "../../../bindings/rust/src/c.rs"]
+#[allow(dead_code)]
+mod c;
 
 /// The four stores of a load, and its answer.
 pub struct Stores {
@@ -145,7 +67,7 @@ impl Stores {
 
     /// Writes what was loaded: the number, and how many bytes.
     pub fn write(&self, order: Order, out: &mut [u8]) -> (u32, usize) {
-        let call: c::Writer = match order {
+        let call = match order {
             Order::Parse => c::kollafrin_write_parse_order,
             Order::Module => c::kollafrin_write_module_order,
         };

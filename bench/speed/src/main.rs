@@ -181,6 +181,53 @@ fn best(function: &str, bytes: Vec<u8>, least: i64) -> (i64, usize) {
     ((best.nanoseconds() - empty).max(1), turns)
 }
 
+// ---------------------------------------------------------------------------- Many in turn
+
+/// Nanoseconds for all modules, one after the other: the best of five passes. The library's stores are lent again and again.
+fn pass(function: &str, modules: &[Vec<u8>]) -> i64 {
+    let longest = modules.iter().map(Vec::len).max().unwrap_or(0);
+    let (mut stores, mut out) = (Stores::new(longest), vec![0; longest]);
+    let krate = |bytes: &[u8]| rspirv::dr::load_bytes(bytes).expect("it was taken before");
+    let empty = (0..1000).map(|_| timed(|| ()).by_day).min().unwrap_or(0);
+    let mut one = |bytes: &[u8]| match function {
+        "crate-load" => {
+            let mut held = None;
+            let time = timed(|| held = rspirv::dr::load_bytes(black_box(bytes)).ok());
+            assert!(held.is_some());
+            time
+        }
+        "load-builtin" => timed(|| assert_eq!(stores.load_builtin(black_box(bytes)), 0)),
+        "crate-assemble" => {
+            let (module, mut held) = (krate(bytes), vec![]);
+            let time = timed(|| held = black_box(&module).assemble());
+            assert!(!held.is_empty());
+            time
+        }
+        _ => {
+            stores.load_builtin(bytes);
+            timed(|| assert_eq!(black_box(&stores).write(Order::Parse, &mut out).0, 0))
+        }
+    };
+    let mut whole = || modules.iter().map(|bytes| one(bytes).by_day - empty).sum();
+    (0..5).map(|_| whole()).min().unwrap_or(0)
+}
+
+/// Those of the files that the crate and the library both take, in turn: so no call meets what the one before it met.
+fn corpus(files: &[String]) {
+    let read = files.iter().map(|file| fs::read(file).unwrap_or_else(|e| panic!("{file}: {e}")));
+    let both = |bytes: &Vec<u8>| {
+        let taken = std::panic::catch_unwind(|| rspirv::dr::load_bytes(bytes).is_ok());
+        taken.unwrap_or(false) && Stores::new(bytes.len()).load_builtin(bytes) == 0
+    };
+    let modules: Vec<Vec<u8>> = read.filter(both).collect();
+    let bytes: usize = modules.iter().map(Vec::len).sum();
+    println!("{} of {} modules, {bytes} bytes", modules.len(), files.len());
+    for (krate, library) in [("crate-load", "load-builtin"), ("crate-assemble", "parse-order")] {
+        let [first, second] = [krate, library].map(|function| bytes as f64 * 1e3 / pass(function, &modules) as f64);
+        println!("{krate} {first:.0} MB/s, {library} {second:.0} MB/s, ratio {:.2}", second / first);
+    }
+}
+
 // ---------------------------------------------------------------------------------- The tables
 
 fn own() -> Command {
@@ -336,6 +383,7 @@ fn main() {
         ["once", function, file] => {
             ready(function, read(file))();
         }
+        ["corpus", ..] => corpus(&args[1..]),
         ["measure", ..] => measure(&args[1..]),
         ["show", before] => show(said(before), vec![]),
         ["show", before, after] => show(said(before), said(after)),

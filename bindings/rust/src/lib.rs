@@ -19,6 +19,7 @@
 
 #![warn(missing_docs)]
 
+mod c;
 mod door;
 mod records;
 mod refusal;
