@@ -24,6 +24,7 @@ pub mod Runs
 pub mod Starts
 pub mod Numbers
 pub mod Room
+pub mod Rooms
 pub mod Bounds
 pub mod KeptSays
 pub mod Kept

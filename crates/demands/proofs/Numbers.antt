@@ -68,7 +68,7 @@ abbrev pub OfRoom : ℕ → Type 0
 OfRoom n = (25 ≤ n) × (n ≤ 28)
 
 -- room is refused with 25 to 28
-room-number : (c need : Counts) → eqb (roomFault c need) 0 ≡ false → OfRoom (roomFault c need)
+pub room-number : (c need : Counts) → eqb (roomFault c need) 0 ≡ false → OfRoom (roomFault c need)
 unfolding roomFault
 room-number c need =
     by (ltb (c .instructions) (need .instructions)) (ltb (c .log) (need .log)) (ltb (c .strings) (need .strings))

@@ -50,7 +50,7 @@ chosen-zero true n m e = absurd (omega arith)
 chosen-zero false n m e = (refl, e)
 
 -- and only then
-fits-covers : (room need : Counts) → roomFault room need ≡ 0 → Covers room need
+pub fits-covers : (room need : Counts) → roomFault room need ≡ 0 → Covers room need
 unfolding roomFault
 fits-covers room need e =
     let a = chosen-zero (ltb (room .instructions) (need .instructions)) 24 _ e in

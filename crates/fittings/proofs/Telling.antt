@@ -15,9 +15,9 @@ use Rattle.spec.specs.Load.{Outcome, enough, roomOf, load, storesOf, laidOver}
 use Rattle.spec.specs.Fittings.{Shown, Fitting, fitting, shown, roomFor, found, claimed, fittings, fittings-hold}
 use Rattle.loader.specs.Loading.{loading}
 use Rattle.demands.proofs.Choice.{left, right}
-use Rattle.demands.proofs.Room.{Covers}
+use Rattle.demands.proofs.Room.{Covers, load-roomy}
+use Rattle.demands.proofs.Rooms.{any-room}
 use Rattle.fittings.specs.Told.{Told, Shows}
-use Rattle.fittings.proofs.Roomy.{load-same}
 
 -- where the loads of a table's modules show what the table says, a module's load shows what the table says of it
 tells : (fs : List Fitting) (f : List ℕ → Outcome) → found f fs ≡ claimed fs → (m : List ℕ) (P : Shown → Type 0) → P (shown m (f m))
@@ -33,10 +33,11 @@ module _ (m g i l s t : List ℕ) (b : g ≡ builtin)
     (c : Covers (roomOf (length i) (length l) (length s) (length t)) (roomFor m)) where
   -- a load into stores with room is the one with the room that suffices
   roomy : loading m g i l s t ≡ load builtin (roomFor m) m
-  unfolding loading enough
+  unfolding loading
   roomy =
-      ap (λ (x : List ℕ). load x (roomOf (length i) (length l) (length s) (length t)) m) b
-      ∙ load-same builtin m (roomOf (length i) (length l) (length s) (length t)) (roomFor m) c (omega arith)
+      let room = roomOf (length i) (length l) (length s) (length t) in
+      ap (λ (x : List ℕ). load x room m) b
+      ∙ any-room builtin room (roomFor m) m (load-roomy builtin room m c) (load-roomy builtin (roomFor m) m (omega arith))
 
   -- what a load with the built-in grammar answers and leaves, by its contract, is what the table says of the module
   pub told : (r : Loaded) (i₁ l₁ s₁ t₁ : List ℕ)

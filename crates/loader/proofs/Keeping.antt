@@ -16,7 +16,7 @@ use Rattle.spec.specs.Reader.{Reader, Read, got, refused, readerAt}
 use Rattle.spec.specs.Grammar.{grammarOf}
 use Rattle.spec.specs.Load.{counts, roomOf, roomFault}
 use Rattle.spec.specs.Match.{readInstr}
-use Rattle.demands.proofs.Room.{Covers, log-some}
+use Rattle.demands.proofs.Room.{Covers, log-some, fits-covers}
 use Rattle.demands.proofs.Formed.{well-formed-good}
 use Rattle.demands.proofs.Instructions.{Frames, instr-read}
 use Rattle.grammar.specs.Index.{Indexed}
@@ -34,7 +34,6 @@ use Rattle.loader.specs.declared.step.Judged.{Judged}
 use Rattle.loader.specs.declared.step.Judged.the-variants as judged
 use Rattle.loader.specs.declared.step.Step.the-variants.{On, Stop}
 use Rattle.loader.specs.Steps.{readAt, tracked, needOf, fieldsBy, Shown, Admitted, Stored, Keeps, Verdict, Steps}
-use Rattle.loader.proofs.Fitting.{fits-covers}
 use Rattle.loader.proofs.Judging.{log-size, strings-size, tracked-is, need-is, fields-are, placed-is}
 
 -- what is read once is the same

@@ -23,6 +23,7 @@ use Rattle.spec.specs.Types.{track}
 use Rattle.spec.specs.Match.{readInstr}
 use Rattle.spec.specs.Load.{roomOf, roomFault, Book, emptyBook, Outcome, stop, loadFrom, storesOf, laidOver}
 use Rattle.demands.proofs.Lists.{has-leb}
+use Rattle.demands.proofs.Room.{fits-covers}
 use Rattle.demands.proofs.Stores.{operands-log-length, records-length, strings-more, log-more}
 use Rattle.tracker.specs.Entries.{entriesOf, stored}
 use Rattle.tracker.specs.Hints.{Hinted}
@@ -31,7 +32,6 @@ use Rattle.loader.specs.declared.parts.Progress.{Progress}
 use Rattle.loader.specs.declared.step.Step.{Step}
 use Rattle.loader.specs.declared.step.Step.the-variants.{On, Stop}
 use Rattle.loader.specs.Steps.{usedBy, saidAt, readAt, placedAs, Bounded, Halts, unread, misplaced, crowded, Keeps, Halted, Steps, Leaves}
-use Rattle.loader.proofs.Fitting.{fits-covers}
 use Rattle.loader.proofs.Growing.{records-more, grow, entries-next, types-next}
 
 -- THE DEFINITION, A STEP AT A TIME

@@ -66,10 +66,6 @@ offsetAfter at f = if fieldsGood at f then NextOffset (at + 4 * f .words) else N
 unfoldable pub leftAt : List ℕ → List ℕ → ℕ → ℕ → Left
 leftAt log strings a b = record { logAt = a; log = drop a log; stringsAt = b; strings = drop b strings }
 
--- plain bytes: each of ASCII, and none zero
-unfoldable pub isPlain : List ℕ → Bool
-isPlain s = every (λ b. leb 1 b && ltb b 128) s
-
 -- a string's bytes: no zero byte, and UTF-8
 unfoldable pub isString : List ℕ → Bool
 isString s = every (λ b. not (eqb b 0)) s && isUtf8 s

@@ -7,7 +7,7 @@ ghost use lib.Seq.{sets};
 ghost use Rattle.spec.specs.Records.{recordSize, fieldWords, fieldsAt};
 ghost use Rattle.reflect.specs.Column.{layoutTable, kindTable};
 ghost use Rattle.spec.specs.Check.{takeOperand, takeOperands, faultOf, recordsOf};
-ghost use Rattle.records.specs.Steps.{given, checkedIs, endAnswer, leftAt, fieldsHold, offsetAfter, wordIf, resultWords, isPlain, isString, textPassed, passedOne, passedAll, operandsAfter, tagAfter, isOutside, atMost, faultsFrom};
+ghost use Rattle.records.specs.Steps.{given, checkedIs, endAnswer, leftAt, fieldsHold, offsetAfter, wordIf, resultWords, isString, textPassed, passedOne, passedAll, operandsAfter, tagAfter, isOutside, atMost, faultsFrom};
 ghost use Rattle.records.specs.Good.{Whole, Logged};
 use operand::Parts;
 use operand::is_two;
@@ -107,25 +107,11 @@ enum Passed {
     Past(usize, usize, usize),
 }
 
-// Whether each byte is plain, one of ASCII but zero: looked at to the end, so that many go at once.
-fn is_plain(s: &[u8]) -> bool
-    ensures { λ r. ⌜ r ≡ isPlain (now (s .entry)) ⌝ }
-{
-    let mut plain = true;
-    let mut i = 0;
-    while i < s.len() {
-        let b = s[i];
-        plain = plain & (1 <= b) & (b < 128);
-        i += 1;
-    }
-    plain
-}
-
 // Whether the bytes may be a string: no zero byte, and UTF-8, as plain bytes are.
 fn is_string(s: &[u8]) -> bool
     ensures { λ r. ⌜ r ≡ isString (now (s .entry)) ⌝ }
 {
-    if is_plain(s) {
+    if text::is_plain(s) {
         return true;
     }
     let found = text::zero(s);

@@ -25,10 +25,10 @@ use Rattle.demands.proofs.Stores.{BeginWith}
 use Rattle.demands.proofs.Leaves.{roomIn, laidOn, load-leaves, leaves-begin}
 use Rattle.demands.proofs.ReadBack.{givenBy, reads-back}
 use Rattle.demands.proofs.Room.{load-roomy}
+use Rattle.demands.proofs.Rooms.{Roomy, any-room}
 use Rattle.demands.proofs.WriteBack.{written, wrote}
 use Rattle.demands.proofs.Demand3.{ComesBack, comes-back, writes, plain-is-written}
 use Rattle.round_trip.specs.Trip.{lent, first, back, second, CameBack, Suited, RoundTrip}
-use Rattle.round_trip.proofs.Rooms.{Roomy, accepted-opens, any-room}
 
 -- BYTES
 
@@ -99,8 +99,7 @@ module _ (g s : List ℕ) (by : AllBytes s) (t : Stores) (out : List ℕ) (u : S
       let c : ComesBack g (roomIn t) s (written X) = comes-back g (roomIn t) s by z in
       let again : load g (roomIn t) (written X) .said .number ≡ 0 = ap (λ (o : Outcome). o .said .number) (c .same) ∙ z in
       let room : load g (roomIn u) (written X) ≡ load g (roomIn t) (written X) =
-      any-room g (written X) (accepted-opens g (written X) (roomIn t) again) (roomIn u) (roomIn t) f
-      (accepted-roomy (load g (roomIn t) (written X)) again) in
+      any-room g (roomIn u) (roomIn t) (written X) f (accepted-roomy (load g (roomIn t) (written X)) again) in
       let same : second g s t out u ≡ X = second-fits h ∙ room ∙ c .same in
       record {
         accepted = z;

@@ -1,3 +1,4 @@
 pub mod Range
 pub mod Laws
+pub mod Plain
 pub mod Steps

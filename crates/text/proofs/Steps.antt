@@ -5,8 +5,7 @@ use mathlib.Core.Bool.{Bool, true, false, _&&_}
 use mathlib.Core.List.{List, []}
 use mathlib.Core.Option.{Option, none, some}
 use native.Mathlib.Omega.{arith}
-use native.Mathlib.Numerals.{add-one}
-use borrow.Author.Tests.{le-leb, lt-leb, ne-eqb, eqb-true, eqb-false}
+use borrow.Author.Tests.{le-leb, lt-leb, ne-eqb}
 use lib.Dec.{T, eqb, eqb→eq}
 use lib.Ieee.Fits.{and-l, and-r}
 use lib.ListN.{length, drop, getD, drop-of-length-le}
@@ -150,36 +149,3 @@ module _ {s : List ℕ} {p : Pending} {i : ℕ} (r : Tested s p i) where
   -- at the end
   pub test-ends : length s ≤ i → eqb (p .left) 0 ≡ isUtf8 s
   test-ends h = sym (r .answer ∙ ap (utf8From (dueOf p)) (drop-of-length-le s h) ∙ utf8-nil (p .left) (p .low) (p .high))
-
--- BYTES BELOW 128
-
--- none of the first i bytes is above h
-abbrev pub Under : List ℕ → ℕ → ℕ → Type 0
-Under s i h = (j : ℕ) → j < i → getD s j 0 ≤ h
-
--- nor is one byte more
-pub under-more : (s : List ℕ) (i h k : ℕ) → Under s i h → h ≤ k → getD s i 0 ≤ k → Under s (i + 1) k
-under-more s i h k u g e j l = by (eqb j i) refl
-  where
-    by : (t : Bool) → eqb j i ≡ t → getD s j 0 ≤ k
-    by true q = rw (eqb-true j i q) e
-    by false q = let d = u j (omega (arith, l, eqb-false j i q)) in omega (arith, d, g)
-
--- all of them
-pub under-all : (s : List ℕ) (i h : ℕ) → Under s i h → length s ≤ i → Under s (length s) h
-under-all s i h u g j l = u j (omega (arith, l, g))
-
-module _ (s : List ℕ) (h : ℕ) (u : Under s (length s) h) (g : h < 128) where
-  -- after each nothing is due
-  under-tested : (n : ℕ) → n ≤ length s → Tested s (record { left = 0; low = 128; high = 191 }) n
-  unfolding same stepTo leadOf
-  under-tested zero l = test-starts s
-  under-tested (suc n) l =
-      let p : Pending = record { left = 0; low = 128; high = 191 } in
-      let b = getD s n 0 in
-      let e : More p ≡ stepOf p b = step-first p b (More p) refl (row (More p) 0 128 tt b (omega arith) (omega (arith, u n (omega arith)))) in
-      rw (← add-one n) (test-goes-on (under-tested n (omega arith)) (omega arith) (More p) p e refl)
-
-  -- so all are well-formed
-  pub under-utf8 : true ≡ isUtf8 s
-  under-utf8 = test-ends (under-tested (length s) (omega arith)) (omega arith)

@@ -1,2 +1,3 @@
 pub mod Zero
+pub mod Plain
 pub mod Steps

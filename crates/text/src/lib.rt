@@ -1,9 +1,8 @@
-// Strings in bytes: where one ends, and whether its bytes are UTF-8.
+// Strings in bytes: where one ends, whether its bytes are plain, and whether they are UTF-8.
 ghost use mathlib.Core.Path.{_≡_};
-ghost use Prim.Native.Nat.{ℕ, _<_, _≤_};
-ghost use lib.ListN.{length, getD};
 ghost use Rattle.spec.specs.Text.{isUtf8};
 ghost use Rattle.text.specs.Zero.{zeroIn};
+ghost use Rattle.text.specs.Plain.{isPlain};
 ghost use Rattle.text.specs.Steps.{firstOf, stepOf};
 use spec::Found;
 
@@ -19,6 +18,20 @@ pub fn zero(s: &[u8]) -> Found
         at += 1;
     }
     Found::Nothing
+}
+
+// Whether each byte is plain, one of ASCII but zero: looked at to the end, so that many go at once.
+pub fn is_plain(s: &[u8]) -> bool
+    ensures { λ r. ⌜ r ≡ isPlain (now (s .entry)) ⌝ }
+{
+    let mut plain = true;
+    let mut i = 0;
+    while i < s.len() {
+        let b = s[i];
+        plain = plain & (1 <= b) & (b < 128);
+        i += 1;
+    }
+    plain
 }
 
 // What is due: so many bytes of a character, the first of them from low to high.
@@ -94,34 +107,11 @@ fn advance(p: Pending, b: u8) -> Step
     more(p.left - 1, 128, 191)
 }
 
-// The higher of two bytes.
-fn higher(a: u8, b: u8) -> u8
-    ensures { λ r. ⌜ (a ≤ r) × (b ≤ r) ⌝ }
-{
-    if a < b {
-        return b;
-    }
-    a
-}
-
-// A number that no byte is above: the highest of them.
-fn highest(s: &[u8]) -> u8
-    ensures { λ r. ⌜ ((j : ℕ) → j < length (now (s .entry)) → getD (now (s .entry)) j 0 ≤ r) ⌝ }
-{
-    let mut high = 0;
-    let mut i = 0;
-    while i < s.len() {
-        high = higher(high, s[i]);
-        i += 1;
-    }
-    high
-}
-
-// Whether the bytes are well-formed UTF-8. All below 128 are, and are told at once.
+// Whether the bytes are well-formed UTF-8. Plain bytes are, and are told at once.
 pub fn utf8(s: &[u8]) -> bool
     ensures { λ r. ⌜ r ≡ isUtf8 (now (s .entry)) ⌝ }
 {
-    if highest(s) < 128 {
+    if is_plain(s) {
         return true;
     }
     let mut p = Pending {

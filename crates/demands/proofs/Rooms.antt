@@ -1,0 +1,89 @@
+-- Room changes nothing but refusals for room: a module loads to the same in any two rooms, where neither load is refused for room.
+use Prim.Native.Nat.{ℕ, zero, suc, _/_}
+use mathlib.Core.Path.{_≡_, refl, sym, _∙_}
+use mathlib.Core.Bool.{Bool, true, false, true≢false}
+use mathlib.Core.List.{List}
+use borrow.Author.Tests.{le-leb}
+use lib.Dec.{ltb, eqb}
+use lib.ListN.{length, drop}
+use Rattle.spec.specs.declared.Limit.the-variants.{Unlimited}
+use Rattle.spec.specs.declared.State.{State}
+use Rattle.spec.specs.declared.Cell.{Cell}
+use Rattle.spec.specs.declared.Cell.the-variants.{Tagged, Refuses}
+use Rattle.spec.specs.declared.Counts.{Counts}
+use Rattle.spec.specs.Base.{if_then_else_, has, within}
+use Rattle.spec.specs.Records.{Instr}
+use Rattle.spec.specs.Reader.{Reader, reader, Read, got, refused}
+use Rattle.spec.specs.Header.{headerFrom}
+use Rattle.spec.specs.Grammar.{Grammar, grammarOf, wellFormed}
+use Rattle.spec.specs.Layout.{layoutOf}
+use Rattle.spec.specs.Match.{readInstr}
+use Rattle.spec.specs.Load.{roomFault, Book, emptyBook, entered, Outcome, onInstr, onCell, onRoom, loadFrom, loadWith, load}
+use Rattle.demands.proofs.Choice.{both, cases}
+use Rattle.demands.proofs.Numbers.{room-number}
+
+-- a load is not refused for room
+abbrev pub Roomy : Outcome → Type 0
+Roomy o = within 25 (o .said .number) 28 ≡ false
+
+-- two loads are the same, where neither is refused for room
+abbrev pub Alike : Outcome → Outcome → Type 0
+Alike x y = Roomy x → Roomy y → x ≡ y
+
+-- a load and itself
+itself : {x : Outcome} → Alike x x
+itself f k = refl
+
+-- what a test chooses of loads that are alike
+alike-if : (c : Bool) {x y u v : Outcome} → Alike x y → Alike u v → Alike (if c then x else u) (if c then y else v)
+alike-if true p q = p
+alike-if false p q = q
+
+-- room that lacks has a number of room
+room-refused : (room need : Counts) → eqb (roomFault room need) 0 ≡ false → within 25 (roomFault room need) 28 ≡ false → ⊥
+room-refused room need e f =
+    let n = room-number room need e in
+    true≢false (sym (both (le-leb 25 (roomFault room need) (n .0)) (le-leb (roomFault room need) 28 (n .1))) ∙ f)
+
+module _ (g : Grammar) (room other : Counts) (h : List ℕ) where
+  -- by room
+  alike-room : (b : Book) (i : Instr) (need : Counts) {x y : Outcome} → Alike x y
+      → Alike (onRoom h b i (roomFault room need) x) (onRoom h b i (roomFault other need) y)
+  alike-room b i need p =
+      cases (eqb (roomFault room need) 0)
+      (λ d. cases (eqb (roomFault other need) 0) (λ e. rw (d, e) p) (λ e. rw e (λ f k. absurd (room-refused other need e k))))
+      (λ d. rw d (λ f k. absurd (room-refused room need d f)))
+
+  -- by layout
+  alike-cell : (b : Book) (i : Instr) (c : Cell) {x y : ℕ → State → Outcome} → ((tag : ℕ) (s : State) → Alike (x tag s) (y tag s))
+      → Alike (onCell h b i c x) (onCell h b i c y)
+  alike-cell b i (Tagged tag s) p = p tag s
+  alike-cell b i (Refuses n) p = itself
+
+  -- by reading
+  alike-instr : (b : Book) (y : Read Instr) {u v : Instr → Reader → Outcome} → ((i : Instr) (t : Reader) → Alike (u i t) (v i t))
+      → Alike (onInstr h b y u) (onInstr h b y v)
+  alike-instr b (got i t) p = p i t
+  alike-instr b (refused x t) p = itself
+
+  -- the instructions
+  alike-from : (n : ℕ) (b : Book) (r : Reader) → Alike (loadFrom g room h n b r) (loadFrom g other h n b r)
+  unfolding loadFrom
+  alike-from zero b r = itself
+  alike-from (suc n) b r =
+      alike-if (has 4 (r .rest))
+      (alike-instr b (readInstr g (b .types) r)
+      (λ i t. alike-cell b i (layoutOf (i .opcode) (b .state))
+      (λ tag s. alike-room b i (entered b i tag s .used) (alike-from n (entered b i tag s) t))))
+      itself
+
+-- a module loads to the same in any two rooms, where neither load is refused for room
+pub any-room : (grammar : List ℕ) (room other : Counts) (s : List ℕ) → Alike (load grammar room s) (load grammar other s)
+unfolding load loadWith
+any-room grammar room other s =
+    alike-if (wellFormed grammar)
+    (alike-if (ltb 67108864 (length s)) itself
+    (alike-if (eqb (headerFrom s .refusal .number) 0)
+    (alike-from (grammarOf grammar) room other (headerFrom s .words) (length s / 4) emptyBook (reader 20 Unlimited (drop 20 s)))
+    itself))
+    itself
