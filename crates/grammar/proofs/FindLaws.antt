@@ -18,7 +18,7 @@ use Rattle.grammar.specs.declared.find.SlotAt.the-variants.{Slot as ASlo
 use Rattle.grammar.specs.declared.find.ParameterAt.the-variants.{Parameter as AParameter, End as NoParameter}
 use Rattle.grammar.specs.Items.{itemIs, itemAt, lengthAt}
 use Rattle.grammar.specs.Index.{sizeOf, marksOf, markAt, found, Indexed}
-use Rattle.grammar.specs.Find.{past, placeFound, rowFound, parametersFound, slotsThen, slotBytes, parametersThen, parameterBytes}
+use Rattle.grammar.specs.Find.{past, Sure, placeFound, rowFound, parametersFound, slotsThen, slotBytes, parametersThen, parameterBytes}
 use Rattle.grammar.proofs.items.Item as items-of
 use Rattle.grammar.proofs.ItemLaws.{items-read, items-end}
 use Rattle.grammar.proofs.SearchLaws.{found-there, Halving, halving-up, halving-down, halving-hit}
@@ -77,6 +77,23 @@ enumerant-near g index k v p ix h e = enumerant-at g index k v (At p) ix h e .1
 pub no-enumerant : (g index : List ℕ) (k v : ℕ) → Indexed g index → k ≡ 0 → (parametersFound g Nothing ≡ listed k v (grammarOf g .enumerants)) × (placeFound Nothing ≤ length g)
 unfolding grammarOf grammarBy parametersFound placeFound
 no-enumerant g index k v ix e = (rw e (sym (none-listed v (items g) (well-stands g (ix .well) .fine))), omega arith)
+
+-- A GUESS
+
+-- a guess that finds something finds what is there
+pub guess-right : (f x : Found) (p : ℕ) → f ≡ At p → (Sure f → f ≡ x) → At p ≡ x
+unfolding Sure
+guess-right f x p e s = (rw e at s) tt
+
+-- a guess that finds nothing says nothing
+pub guess-silent : {A : Type 0} → Sure Nothing → A
+unfolding Sure
+guess-silent s = absurd s
+
+-- nor is its place past any end
+pub guess-nothing : {A : Type 0} (n : ℕ) → (Sure Nothing → A) × (placeFound Nothing ≤ n)
+unfolding placeFound
+guess-nothing n = (guess-silent, omega arith)
 
 -- READING ON
 

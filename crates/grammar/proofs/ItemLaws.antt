@@ -26,23 +26,15 @@ has-leb zero l = sym (leb·zero (length l))
 has-leb (suc n) [] = sym (leb·suc-zero n)
 has-leb (suc n) (x ∷ l) = has-leb n l ∙ sym (leb·suc-suc n (length l))
 
--- a whole body has as many bytes as its byte of kind asks
-pub body-room : (k : ℕ) {b n left : ℕ} → b ≡ k → n ≡ bodyLength b → n ≤ left → bodyLength k ≤ left
-body-room k e asked whole = rw (← e, ← asked) whole
-
--- the number of bytes that follow, by what it is picked with
-body-picked : (p q : Bool) → (1 ≤ (if p then 2 else if q then 5 else 1)) × ((if p then 2 else if q then 5 else 1) ≤ 5)
-body-picked true q = (lit≤ tt, lit≤ tt)
-body-picked false true = (lit≤ tt, lit≤ tt)
-body-picked false false = (lit≤ tt, lit≤ tt)
-
--- at least one byte follows a byte of kind
-pub body-least : (b : ℕ) → 1 ≤ bodyLength b
-body-least b = body-picked (leb b 2) (eqb b 3) .0
+-- at most five bytes follow a byte of kind, by what their number is picked with
+body-picked : (p q : Bool) → (if p then 2 else if q then 5 else 1) ≤ 5
+body-picked true q = lit≤ tt
+body-picked false true = lit≤ tt
+body-picked false false = lit≤ tt
 
 -- at most five bytes follow a byte of kind
 pub body-most : (b : ℕ) → bodyLength b ≤ 5
-body-most b = body-picked (leb b 2) (eqb b 3) .1
+body-most b = body-picked (leb b 2) (eqb b 3)
 
 -- the code's item for an item says that item
 pub item-back : (x : Grammar.Item) → itemIs (itemFor x) ≡ x
@@ -70,33 +62,30 @@ module _ (g : List ℕ) (at : ℕ) where
       simp (ne-eqb (getD g at 0) 1 a, ne-eqb (getD g at 0) 2 b, ne-eqb (getD g at 0) 3 c, ne-eqb (getD g at 0) 4 d)
       (broken-picked (not (has (if leb (getD g at 0) 2 then 2 else 1) (drop (at + 1) g))))
 
-  module _ (n : ℕ) (asked : n ≡ bodyLength (getD g at 0)) where
-    -- the body is cut short
-    pub item-short : length g - (at + 1) < n → Broken ≡ itemAt g at
-    unfolding itemAt
-    item-short h = simp (← asked, has-leb, length-drop, lt-leb n (length g - (at + 1)) h)
+  -- the body is cut short
+  pub item-short : (k : ℕ) → getD g at 0 ≡ k → length g - (at + 1) < bodyLength k → Broken ≡ itemAt g at
+  unfolding itemAt
+  item-short k b h = simp (b, has-leb, length-drop, lt-leb (bodyLength k) (length g - (at + 1)) h)
 
-    module _ (whole : n ≤ length g - (at + 1)) where
-      -- a byte of kind 1 and a whole body
-      pub item-row : getD g at 0 ≡ 1 → (r : ℕ) → r ≡ getD g (at + 1) 0 + 256 * getD g (at + 1 + 1) 0 → Row r ≡ itemAt g at
-      unfolding itemAt
-      item-row b r e = simp (e, b, has-leb, length-drop, le-leb 2 (length g - (at + 1)) (body-room 1 b asked whole), getD-drop, add-zero)
+  -- a byte of kind 1 and a whole body
+  pub item-row : getD g at 0 ≡ 1 → 2 ≤ length g - (at + 1) → (r : ℕ) → r ≡ getD g (at + 1) 0 + 256 * getD g (at + 1 + 1) 0 → Row r ≡ itemAt g at
+  unfolding itemAt
+  item-row b h r e = simp (e, b, has-leb, length-drop, le-leb 2 (length g - (at + 1)) h, getD-drop, add-zero)
 
-      -- a byte of kind 2 and a whole body
-      pub item-operand : getD g at 0 ≡ 2 → Operand (getD g (at + 1) 0) (getD g (at + 1 + 1) 0) ≡ itemAt g at
-      unfolding itemAt
-      item-operand b = simp (b, has-leb, length-drop, le-leb 2 (length g - (at + 1)) (body-room 2 b asked whole), getD-drop, add-zero)
+  -- a byte of kind 2 and a whole body
+  pub item-operand : getD g at 0 ≡ 2 → 2 ≤ length g - (at + 1) → Operand (getD g (at + 1) 0) (getD g (at + 1 + 1) 0) ≡ itemAt g at
+  unfolding itemAt
+  item-operand b h = simp (b, has-leb, length-drop, le-leb 2 (length g - (at + 1)) h, getD-drop, add-zero)
 
-      -- a byte of kind 3 and a whole body
-      pub item-enumerant : getD g at 0 ≡ 3 → (v : ℕ) → v ≡ fourAt (at + 1 + 1) g → Enumerant (getD g (at + 1) 0) v ≡ itemAt g at
-      unfolding itemAt
-      item-enumerant b v e =
-          simp (e, b, has-leb, length-drop, le-leb 5 (length g - (at + 1)) (body-room 3 b asked whole), getD-drop, add-zero, add-assoc)
+  -- a byte of kind 3 and a whole body
+  pub item-enumerant : getD g at 0 ≡ 3 → 5 ≤ length g - (at + 1) → (v : ℕ) → v ≡ fourAt (at + 1 + 1) g → Enumerant (getD g (at + 1) 0) v ≡ itemAt g at
+  unfolding itemAt
+  item-enumerant b h v e = simp (e, b, has-leb, length-drop, le-leb 5 (length g - (at + 1)) h, getD-drop, add-zero, add-assoc)
 
-      -- a byte of kind 4 and a whole body
-      pub item-parameter : getD g at 0 ≡ 4 → Parameter (getD g (at + 1) 0) ≡ itemAt g at
-      unfolding itemAt
-      item-parameter b = simp (b, has-leb, length-drop, le-leb 1 (length g - (at + 1)) (body-room 4 b asked whole), getD-drop, add-zero)
+  -- a byte of kind 4 and a whole body
+  pub item-parameter : getD g at 0 ≡ 4 → 1 ≤ length g - (at + 1) → Parameter (getD g (at + 1) 0) ≡ itemAt g at
+  unfolding itemAt
+  item-parameter b h = simp (b, has-leb, length-drop, le-leb 1 (length g - (at + 1)) h, getD-drop, add-zero)
 
 -- ITEM AFTER ITEM
 

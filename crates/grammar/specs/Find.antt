@@ -19,6 +19,11 @@ abbrev pub past : ℕ → Found → Found
 past n (At p) = At (p + n)
 past n Nothing = Nothing
 
+-- something was found
+unfoldable pub Sure : Found → Type 0
+Sure (At p) = Unit
+Sure Nothing = ⊥
+
 -- the place that was found, or 0
 unfoldable pub placeFound : Found → ℕ
 placeFound (At p) = p

@@ -5,7 +5,7 @@ ghost use lib.ListN.{length, drop};
 ghost use Rattle.spec.specs.Grammar.{items, slotsOf, parametersOf, rowOf, listed, bitsListed, parametersFor, grammarOf};
 ghost use Rattle.spec.specs.Words.{bitsOf};
 ghost use Rattle.grammar.specs.Index.{marksOf, found, Indexed};
-ghost use Rattle.grammar.specs.Find.{placeFound, rowFound, parametersFound, slotsThen, slotBytes, parametersThen, parameterBytes, isListed, bitListed};
+ghost use Rattle.grammar.specs.Find.{Sure, placeFound, rowFound, parametersFound, slotsThen, slotBytes, parametersThen, parameterBytes, isListed, bitListed};
 use crate::index::Mark;
 use crate::index::guess_at;
 use crate::index::mark_at;
@@ -51,10 +51,10 @@ fn search(g: &[u8], index: &[u16], kind: u8, value: u32) -> Found
     Found::Nothing
 }
 
-// Looks where the guess says, and else searches.
-fn look(g: &[u8], index: &[u16], kind: u8, value: u32) -> Found
+// Looks where the guess says.
+fn guessed(g: &[u8], index: &[u16], kind: u8, value: u32) -> Found
     requires { ⌜ Indexed (now g) (now index) ⌝ }
-    ensures { λ r. ⌜ r ≡ found kind value (marksOf (now (g .entry))) ⌝ }
+    ensures { λ r. ⌜ (Sure r → r ≡ found kind value (marksOf (now (g .entry)))) ⌝ }
 {
     let guess = guess_at(index, kind, value);
     if guess < mark_count(index) {
@@ -65,7 +65,19 @@ fn look(g: &[u8], index: &[u16], kind: u8, value: u32) -> Found
             }
         }
     }
-    search(g, index, kind, value)
+    Found::Nothing
+}
+
+// Looks where the guess says, and else searches.
+fn look(g: &[u8], index: &[u16], kind: u8, value: u32) -> Found
+    requires { ⌜ Indexed (now g) (now index) ⌝ }
+    ensures { λ r. ⌜ r ≡ found kind value (marksOf (now (g .entry))) ⌝ }
+{
+    let guess = guessed(g, index, kind, value);
+    match guess {
+        Found::At(place) => Found::At(place),
+        Found::Nothing => search(g, index, kind, value),
+    }
 }
 
 // Where the operands of an opcode's row start.
@@ -75,6 +87,22 @@ pub fn find_row(g: &[u8], index: &[u16], opcode: u16) -> Found
     ensures { λ r. ⌜ placeFound r ≤ length (now (g .entry)) ⌝ }
 {
     let row = look(g, index, 0, opcode as u32);
+    match row {
+        Found::At(place) => {
+            let operands = place + 3;
+            Found::At(operands)
+        }
+        Found::Nothing => Found::Nothing,
+    }
+}
+
+// The same where the guess says it, or nothing: short enough to stand where it is called.
+pub fn guess_row(g: &[u8], index: &[u16], opcode: u16) -> Found
+    requires { ⌜ Indexed (now g) (now index) ⌝ }
+    ensures { λ r. ⌜ (Sure r → rowFound (now (g .entry)) r ≡ rowOf opcode (grammarOf (now (g .entry)) .rows)) ⌝ }
+    ensures { λ r. ⌜ placeFound r ≤ length (now (g .entry)) ⌝ }
+{
+    let row = guessed(g, index, 0, opcode as u32);
     match row {
         Found::At(place) => {
             let operands = place + 3;
@@ -94,6 +122,25 @@ pub fn find_enumerant(g: &[u8], index: &[u16], kind: u8, value: u32) -> Found
         return Found::Nothing;
     }
     let enumerant = look(g, index, kind, value);
+    match enumerant {
+        Found::At(place) => {
+            let parameters = place + 6;
+            Found::At(parameters)
+        }
+        Found::Nothing => Found::Nothing,
+    }
+}
+
+// The same where the guess says it, or nothing.
+pub fn guess_enumerant(g: &[u8], index: &[u16], kind: u8, value: u32) -> Found
+    requires { ⌜ Indexed (now g) (now index) ⌝ }
+    ensures { λ r. ⌜ (Sure r → parametersFound (now (g .entry)) r ≡ listed kind value (grammarOf (now (g .entry)) .enumerants)) ⌝ }
+    ensures { λ r. ⌜ placeFound r ≤ length (now (g .entry)) ⌝ }
+{
+    if kind == 0 {
+        return Found::Nothing;
+    }
+    let enumerant = guessed(g, index, kind, value);
     match enumerant {
         Found::At(place) => {
             let parameters = place + 6;

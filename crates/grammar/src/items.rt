@@ -39,21 +39,30 @@ pub fn item_at(g: &[u8], at: usize) -> Item
 {
     let b = g[at];
     let from = at + 1;
-    if g.len() - from < body_length(b) {
-        return Item::Broken;
-    }
-    let first = g[from];
+    let room = g.len() - from;
     if b == 1 {
-        return Item::Row(half(first, g[from + 1]));
+        if room < 2 {
+            return Item::Broken;
+        }
+        return Item::Row(half(g[from], g[from + 1]));
     }
     if b == 2 {
-        return Item::Operand(first, g[from + 1]);
+        if room < 2 {
+            return Item::Broken;
+        }
+        return Item::Operand(g[from], g[from + 1]);
     }
     if b == 3 {
-        return Item::Enumerant(first, decoder::word_at(g, from + 1));
+        if room < 5 {
+            return Item::Broken;
+        }
+        return Item::Enumerant(g[from], decoder::word_at(g, from + 1));
     }
     if b == 4 {
-        return Item::Parameter(first);
+        if room < 1 {
+            return Item::Broken;
+        }
+        return Item::Parameter(g[from]);
     }
     Item::Broken
 }

@@ -10,6 +10,8 @@ pub use find::ParameterAt;
 pub use find::SlotAt;
 pub use find::find_enumerant;
 pub use find::find_row;
+pub use find::guess_enumerant;
+pub use find::guess_row;
 pub use find::is_known;
 pub use find::parameter_at;
 pub use find::slot_at;

@@ -18,23 +18,23 @@ use Rattle.spec.specs.Grammar.{Grammar, Slot, rowOf, grammarOf}
 use Rattle.spec.specs.Records.{Operand, Instr, Entry}
 use Rattle.spec.specs.Reader.{Reader, Read, got, refused, after, refuse, refusal, reached, readWord, readerAt}
 use Rattle.spec.specs.Match.{Seen, nothingSeen, readRow, instrOf, allRead, readBody, readInstr}
-use Rattle.operand.specs.declared.Operand.{Operand as Literal}
 use Rattle.decoder.specs.declared.Decoder.{Decoder}
 use Rattle.decoder.specs.declared.WordRead.the-variants.{Got as Word, Refused as NoWord}
 use Rattle.decoder.specs.Answer.{decoder, readerOf, limitReached, wordFrom}
 use Rattle.decoder.proofs.Laws.{word-got, word-refused}
 use Rattle.grammar.specs.Index.{Indexed}
-use Rattle.grammar.specs.Find.{placeFound, rowFound}
-use Rattle.tracker.specs.declared.Id.{Id}
-use Rattle.tracker.specs.Track.{idIs, literalOf, Literals}
+use Rattle.grammar.specs.Find.{Sure, placeFound, rowFound}
+use Rattle.tracker.specs.Track.{Literals}
 use Rattle.parser.specs.declared.used.Used.{Used}
 use Rattle.parser.specs.declared.used.Parsed.{Parsed}
 use Rattle.parser.specs.declared.used.Parsed.the-variants.{Good, Bad}
-use Rattle.parser.specs.declared.inst.Decoded.{Decoded}
+use Rattle.parser.specs.declared.simple.Simple.{Simple}
+use Rattle.parser.specs.declared.simple.Simple.the-variants.{On}
 use Rattle.parser.specs.declared.inst.InstRead.{InstRead}
 use Rattle.parser.specs.declared.inst.InstRead.the-variants.{Got, Refused}
 use Rattle.parser.specs.Parse.{Notes, wordIs, notesOf, noteAs, note, notes, noNotes, leftOf, isOperand, slotsAt, RowRead, Walks}
-use Rattle.parser.specs.Inst.{Decodes, ShapeIs, RowIs}
+use Rattle.parser.specs.Inst.{Ended, Decodes, DecodesOver, ShapeIs, RowIs}
+use Rattle.parser.specs.Simple.{RowReads}
 use Rattle.parser.specs.Body.{bodyRead}
 use Rattle.parser.proofs.Carried.{row-operands}
 
@@ -94,26 +94,27 @@ unfolding leftOf
 spent-left Unlimited h = refl
 spent-left (Words n) h = eqb-true n 0 h
 
--- what is handed on of an instruction
-abbrev pub decodedAs : ℕ → ℕ → ℕ → Id → Id → Literal → Literal → Used → Decoded
-decodedAs op count place t i x y n =
-    record {
-      opcode = op;
-      words = count;
-      place = place;
-      rtype = t;
-      rid = i;
-      operands = n .operands;
-      first = x;
-      second = y;
-      log = n .log;
-      strings = n .strings;
-    }
-
 -- a limit has the words that it has
 pub row-limited : (n : ℕ) → Words n ≡ Words (leftOf (Words n))
 unfolding leftOf
 row-limited n = refl
+
+-- a limit of few words has few left
+pub row-short : (n : ℕ) → n ≤ 65535 → leftOf (Words n) ≤ 65535
+unfolding leftOf
+row-short n h = h
+
+-- words are left over at the end
+pub ended-left : (count op place : ℕ) (e : Decoder) (n : Used) (t : Bool) (r : InstRead) → t ≡ limitReached e → t ≡ false → r ≡ Refused (refusal 7 (e .offset) 0)
+    → Ended count op place e n r
+unfolding Ended
+ended-left count op place e n t r f z u = rw u (sym f ∙ z, refl)
+
+-- a row of simple operands that was read is a row that was read
+pub simple-walks : (s : List ℕ) (d : Decoder) (x : Read Seen) (log₀ strs₀ log strs : List ℕ) (a b c : ℕ) (v : Simple) (e : Decoder) (n : Used)
+    → RowReads s d x log₀ strs₀ log strs a b c v → v ≡ On e n → Walks s d x log₀ strs₀ log strs a b c (Good e n)
+unfolding RowReads
+simple-walks s d x log₀ strs₀ log strs a b c v e n w q = rw q at w
 
 module _ (g : Grammar) (types : List Entry) (s : List ℕ) (at count op : ℕ) (ss : List Slot) where
   -- the decoder before the operands
@@ -129,12 +130,13 @@ module _ (g : Grammar) (types : List Entry) (s : List ℕ) (at count op : ℕ) (
   module _ (log₀ strs₀ log strs : List ℕ) (a b c : ℕ) (v : Parsed)
       (w : Walks s startOf (readRow g types (leftOf (Words (count - 1))) ss nothingSeen (readerOf s startOf)) log₀ strs₀ log strs a b c v) where
     -- an operand was refused
-    pub body-bad : (y : Refusal) (e : Decoder) → v ≡ Bad y e
+    pub body-bad : (place : ℕ) (y : Refusal) (e : Decoder) → v ≡ Bad y e
         → Decodes s at (bodyRead g types at count op ss (readerAt s (at + 4) Unlimited)) log₀ strs₀ log strs a b c (Refused y)
-    unfolding Walks Decodes
-    body-bad y e q =
+        × ShapeIs count op place (Refused y)
+    unfolding Walks Decodes ShapeIs
+    body-bad place y e q =
         let d : readRow g types (leftOf (Words (count - 1))) ss nothingSeen (readerOf s startOf) ≡ refused y (readerOf s e) = (rw q at w) in
-        record { rest = readerOf s e; read = body-by _ d }
+        (record { rest = readerOf s e; read = body-by _ d }, tt)
 
     module _ (e : Decoder) (n : Used) (q : v ≡ Good e n) where
       -- the operands were read
@@ -142,54 +144,45 @@ module _ (g : Grammar) (types : List Entry) (s : List ℕ) (at count op : ℕ) (
       unfolding Walks
       row-told = rw q at w
 
-      -- words are left over
-      pub body-left : (t : Bool) (r : InstRead) → t ≡ limitReached e → t ≡ false → r ≡ Refused (refusal 7 (e .offset) 0)
-          → Decodes s at (bodyRead g types at count op ss (readerAt s (at + 4) Unlimited)) log₀ strs₀ log strs a b c r
-      unfolding Decodes
-      body-left t r f z u = rw u (record { rest = readerOf s e; read = body-by _ (row-told .read) ∙ all-left s e _ (sym f ∙ z) })
-
-      -- no word is
-      pub body-got : (place : ℕ) (i j : Id) (x y : Literal) (t : Bool) → 1 ≤ count → t ≡ limitReached e → t ≡ true
-          → idIs i ≡ wordIs (n .rtype) → idIs j ≡ wordIs (n .rid) → literalOf x ≡ wordIs (n .first) → literalOf y ≡ wordIs (n .second)
-          → Decodes s at (bodyRead g types at count op ss (readerAt s (at + 4) Unlimited)) log₀ strs₀ log strs a b c (Got (decodedAs op count place i j x y n))
-      unfolding Decodes leftOf limitReached
-      body-got place i j x y t h f z hi hj hx hy =
+      -- and no word is left over, or some are
+      pub body-good : (place : ℕ) (r : InstRead) → 1 ≤ count → Ended count op place e n r
+          → Decodes s at (bodyRead g types at count op ss (readerAt s (at + 4) Unlimited)) log₀ strs₀ log strs a b c r × ShapeIs count op place r
+      unfolding Decodes ShapeIs Ended leftOf limitReached
+      body-good place (Refused y) h u = (
+        record {
+          rest = readerOf s e;
+          read = body-by _ (row-told .read) ∙ all-left s e _ (u .0) ∙ ap (λ (z : Refusal). refused z (readerOf s e)) (sym (u .1));
+        },
+        tt,
+      )
+      body-good place (Got r) h u =
           let d = row-told in
+          let k = u .1 in
           let m : Instr = instrOf at count op (d .seen) in
-          let l : leftOf (e .limit) ≡ 0 = spent-left (e .limit) (sym f ∙ z) in
-          let to : e .offset ≡ at + 4 * count = omega (arith, d .went .pace, l, h) in
-          record {
-            instr = m;
-            read = body-by _ (d .read) ∙ all-spent s e m (sym f ∙ z) ∙ ap (λ (p : ℕ). got m (readerAt s p Unlimited)) to;
-            inside = omega (arith, to, d .few .inside);
-            offset = refl;
-            words = refl;
-            moves = h;
-            opcode = refl;
-            rtype = sym (hi ∙ d .walked .rtype);
-            rid = sym (hj ∙ d .walked .rid);
-            operands = used-count n _ (d .walked .noted);
-            few = omega (arith, to, d .few .operands);
-            literals = rw (hx, hy) (used-literals n _ (d .walked .noted));
-            nlog = d .walked .nlog;
-            nstrings = d .walked .nstrings;
-            few-log = omega (arith, to, d .few .log);
-            few-strings = omega (arith, to, d .few .strings);
-            log-laid = d .walked .log-laid;
-            strings-laid = d .walked .strings-laid;
-          }
-
--- THE SHAPE OF WHAT IS HANDED ON
-
--- of an instruction that was read
-pub shape-got : (r : Decoded) → ShapeIs (r .words) (r .opcode) (r .place) (Got r)
-unfolding ShapeIs
-shape-got r = (refl, refl, refl)
-
--- of one that was refused
-pub shape-refused : (count op place : ℕ) (r : InstRead) (y : Refusal) → r ≡ Refused y → ShapeIs count op place r
-unfolding ShapeIs
-shape-refused count op place r y u = rw u tt
+          let l : leftOf (e .limit) ≡ 0 = spent-left (e .limit) (u .0) in
+          let to : e .offset ≡ at + 4 * r .words = omega (arith, d .went .pace, l, h, k .words) in (
+            record {
+              instr = m;
+              read = body-by _ (d .read) ∙ all-spent s e m (u .0) ∙ ap (λ (p : ℕ). got m (readerAt s p Unlimited)) to;
+              inside = omega (arith, to, d .few .inside);
+              offset = refl;
+              words = sym (k .words);
+              moves = omega (arith, h, k .words);
+              opcode = sym (k .opcode);
+              rtype = sym (k .rtype ∙ d .walked .rtype);
+              rid = sym (k .rid ∙ d .walked .rid);
+              operands = used-count n _ (d .walked .noted) ∙ sym (k .operands);
+              few = omega (arith, to, d .few .operands, k .operands);
+              literals = rw (k .first, k .second) (used-literals n _ (d .walked .noted));
+              nlog = k .log ∙ d .walked .nlog;
+              nstrings = k .strings ∙ d .walked .nstrings;
+              few-log = omega (arith, to, d .few .log, k .log);
+              few-strings = omega (arith, to, d .few .strings, k .strings);
+              log-laid = d .walked .log-laid;
+              strings-laid = d .walked .strings-laid;
+            },
+            (k .words, k .opcode, k .place-is),
+          )
 
 -- THE FIRST WORD
 
@@ -203,17 +196,17 @@ found-none : (g : List ℕ) (r : Found) (o : Option (List Slot)) → rowFound g 
 unfolding rowFound
 found-none g r o e q = sym e ∙ ap (rowFound g) q
 
+-- a row that was guessed is the row
+pub row-guessed : (g : List ℕ) (r : Found) (o : Option (List Slot)) (p : ℕ) → (Sure r → rowFound g r ≡ o) → placeFound r ≤ length g → r ≡ At p
+    → (rowFound g (At p) ≡ o) × (placeFound (At p) ≤ length g)
+unfolding Sure
+row-guessed g r o p e h q = (sym (ap (rowFound g) q) ∙ e (rw q tt), (rw q at h))
+
 -- the place is within the grammar, and a row's operands stand there
 pub place-told : (g index : List ℕ) → Indexed g index → (op : ℕ) (r : Found) (p : ℕ) → rowFound g r ≡ rowOf op (grammarOf g .rows)
     → placeFound r ≤ length g → r ≡ At p → (p ≤ length g) × (every isOperand (slotsAt g p) ≡ true)
 unfolding placeFound
 place-told g index i op r p e h q = ((rw q at h), row-operands g index i op (slotsAt g p) (found-at g r _ p e q))
-
--- a refusal before the operands
-decline : (s : List ℕ) (at : ℕ) (x : Read Instr) (l₀ t₀ l t : List ℕ) (a b c : ℕ) (r : InstRead) (y : Refusal) (q : Reader)
-    → r ≡ Refused y → x ≡ refused y q → Decodes s at x l₀ t₀ l t a b c r
-unfolding Decodes
-decline s at x l₀ t₀ l t a b c r y q u e = rw u (record { rest = q; read = e })
 
 -- a word that was read is there
 pub word-inside : (s : List ℕ) (at w : ℕ) (e : Decoder) → Word w e ≡ wordFrom s (decoder at Unlimited) → at + 4 ≤ length s
@@ -233,10 +226,11 @@ module _ (g : List ℕ) (types : List Entry) (s : List ℕ) (at : ℕ) where
   first-by y e =
       ap (λ (m : Read ℕ). after m (λ w. if eqb (w / 65536) 0 then refuse 4 at else readBody (grammarOf g) types at (w / 65536) (w % 65536) (rowOf (w % 65536) (grammarOf g .rows)))) e
 
-  -- a refusal has no row
-  pub row-refused : (x : Read Instr) (r : InstRead) (y : Refusal) → r ≡ Refused y → RowIs g types s at x r
-  unfolding RowIs
-  row-refused x r y u = rw u tt
+  -- a refusal before the operands
+  decline : (x : Read Instr) (l t : List ℕ) (a b c : ℕ) (r : InstRead) (y : Refusal) (q : Reader) → r ≡ Refused y → x ≡ refused y q
+      → DecodesOver s at x l t a b c r × RowIs g types s at x r
+  unfolding Decodes RowIs
+  decline x l t a b c r y q u e = rw u (record { log₀ = l; strs₀ = t; decodes = record { rest = q; read = e } }, tt)
 
   -- the row of an instruction by its shape
   row-is : (count op p : ℕ) (x : Read Instr) (r : InstRead) → ShapeIs count op p r → (p ≤ length g) × (every isOperand (slotsAt g p) ≡ true)
@@ -245,25 +239,28 @@ module _ (g : List ℕ) (types : List Entry) (s : List ℕ) (at : ℕ) where
   row-is count op p x (Got r) h q e = record { inside = rw (h .2) (q .0); operands = rw (h .2) (q .1); body = rw (h .0, h .1, h .2) e }
   row-is count op p x (Refused y) h q e = tt
 
-  module _ (l₀ t₀ l t : List ℕ) (a b c : ℕ) where
+  module _ (l t : List ℕ) (a b c : ℕ) where
     -- there is no word
     pub inst-no-word : (y : Refusal) (e : Decoder) → NoWord y e ≡ wordFrom s (decoder at Unlimited)
-        → Decodes s at (readInstr (grammarOf g) types (readerAt s at Unlimited)) l₀ t₀ l t a b c (Refused y)
-    inst-no-word y e h = decline s at _ l₀ t₀ l t a b c _ y _ refl (first-by _ (word-refused s (decoder at Unlimited) e y h))
+        → DecodesOver s at (readInstr (grammarOf g) types (readerAt s at Unlimited)) l t a b c (Refused y)
+        × RowIs g types s at (readInstr (grammarOf g) types (readerAt s at Unlimited)) (Refused y)
+    inst-no-word y e h = decline _ l t a b c _ y _ refl (first-by _ (word-refused s (decoder at Unlimited) e y h))
 
     -- its count is zero
     pub inst-zero : (w : ℕ) (e : Decoder) → Word w e ≡ wordFrom s (decoder at Unlimited) → (r : InstRead) → w / 65536 ≡ 0 → r ≡ Refused (refusal 4 at 0)
-        → Decodes s at (readInstr (grammarOf g) types (readerAt s at Unlimited)) l₀ t₀ l t a b c r
+        → DecodesOver s at (readInstr (grammarOf g) types (readerAt s at Unlimited)) l t a b c r
+        × RowIs g types s at (readInstr (grammarOf g) types (readerAt s at Unlimited)) r
     inst-zero w e h r z u =
-        decline s at _ l₀ t₀ l t a b c r _ (readerOf s e) u (first-by _ (word-got s (decoder at Unlimited) e w h .reads) ∙ simp (eq-eqb (w / 65536) 0 z))
+        decline _ l t a b c r _ (readerOf s e) u (first-by _ (word-got s (decoder at Unlimited) e w h .reads) ∙ simp (eq-eqb (w / 65536) 0 z))
 
   module _ (w : ℕ) (e : Decoder) (h : Word w e ≡ wordFrom s (decoder at Unlimited)) (z : w / 65536 ≡ 0 → ⊥)
       (f : Found) (o : rowFound g f ≡ rowOf (w % 65536) (grammarOf g .rows)) where
     -- its opcode has no row
-    pub inst-unknown : (l₀ t₀ l t : List ℕ) (a b c : ℕ) (r : InstRead) → f ≡ Nothing → r ≡ Refused (refusal 5 at (w % 65536))
-        → Decodes s at (readInstr (grammarOf g) types (readerAt s at Unlimited)) l₀ t₀ l t a b c r
-    inst-unknown l₀ t₀ l t a b c r q u =
-        decline s at _ l₀ t₀ l t a b c r _ (readerOf s e) u
+    pub inst-unknown : (l t : List ℕ) (a b c : ℕ) (r : InstRead) → f ≡ Nothing → r ≡ Refused (refusal 5 at (w % 65536))
+        → DecodesOver s at (readInstr (grammarOf g) types (readerAt s at Unlimited)) l t a b c r
+        × RowIs g types s at (readInstr (grammarOf g) types (readerAt s at Unlimited)) r
+    inst-unknown l t a b c r q u =
+        decline _ l t a b c r _ (readerOf s e) u
         (first-by _ (word-got s (decoder at Unlimited) e w h .reads) ∙ simp (ne-eqb (w / 65536) 0 z, found-none g f _ o q))
 
     -- its opcode has a row
@@ -279,7 +276,8 @@ module _ (g : List ℕ) (types : List Entry) (s : List ℕ) (at : ℕ) where
     -- the instruction is that of the row
     pub inst-by : (p : ℕ) → f ≡ At p → (p ≤ length g) × (every isOperand (slotsAt g p) ≡ true) → (l₀ t₀ l t : List ℕ) (a b c : ℕ) (r : InstRead)
         → Decodes s at (bodyRead (grammarOf g) types at (w / 65536) (w % 65536) (slotsAt g p) (readerAt s (at + 4) Unlimited)) l₀ t₀ l t a b c r
-        → ShapeIs (w / 65536) (w % 65536) p r
-        → Decodes s at (readInstr (grammarOf g) types (readerAt s at Unlimited)) l₀ t₀ l t a b c r
+        × ShapeIs (w / 65536) (w % 65536) p r
+        → DecodesOver s at (readInstr (grammarOf g) types (readerAt s at Unlimited)) l t a b c r
         × RowIs g types s at (readInstr (grammarOf g) types (readerAt s at Unlimited)) r
-    inst-by p q k l₀ t₀ l t a b c r d v = (rw (inst-row p q) d, row-is _ _ p _ r v k (inst-row p q))
+    inst-by p q k l₀ t₀ l t a b c r d =
+        (record { log₀ = l₀; strs₀ = t₀; decodes = rw (inst-row p q) (d .0) }, row-is _ _ p _ r (d .1) k (inst-row p q))

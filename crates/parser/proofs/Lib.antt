@@ -7,4 +7,6 @@ pub mod TypeLaws
 pub mod Once
 pub mod SlotLaws
 pub mod RowLaws
+pub mod SimpleLaws
+pub mod SimpleRows
 pub mod InstLaws

@@ -52,7 +52,7 @@ module _ (s : List ℕ) (g : Grammar) (types : List Entry) (d : Decoder) (x : Se
     next-read (suc n) h e = let i : suc n - 1 ≡ n = omega arith in rw i (simp e)
 
 -- a limit that is not reached has a word left
-left-some : (l : Limit) (n : ℕ) → l ≡ Words n → reached l ≡ false → 1 ≤ leftOf l
+pub left-some : (l : Limit) (n : ℕ) → l ≡ Words n → reached l ≡ false → 1 ≤ leftOf l
 unfolding leftOf
 left-some l n e h =
     let z : eqb n 0 ≡ false = rw e at h in

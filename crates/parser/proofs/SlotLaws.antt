@@ -104,7 +104,7 @@ module _ (g : Grammar) (types : List Entry) (t i : Option ℕ) (k : ℕ) (r : Re
   kind-other x y z = simp (ne-eqb k 48 x, ne-eqb k 49 y, ne-eqb k 39 z)
 
   -- a word
-  kind-word : within 31 k 35 ≡ true → kindAlone g types t i k r ≡ readEach g (k ∷ []) r
+  pub kind-word : within 31 k 35 ≡ true → kindAlone g types t i k r ≡ readEach g (k ∷ []) r
   unfolding readOperand
   kind-word h =
       let a = in-word k h in

@@ -1,7 +1,7 @@
 -- What one instruction comes to: the answer and the stores after it, by the reader of `spec`.
 use Prim.Native.Nat.{ℕ, _+_, _*_, _≤_}
 use mathlib.Core.Path.{_≡_}
-use mathlib.Core.Bool.{true}
+use mathlib.Core.Bool.{true, false}
 use mathlib.Core.List.{List}
 use lib.ListN.{length}
 use Rattle.spec.specs.declared.Limit.the-variants.{Unlimited}
@@ -9,11 +9,14 @@ use Rattle.spec.specs.declared.Refusal.{Refusal}
 use Rattle.spec.specs.Base.{every}
 use Rattle.spec.specs.Records.{Instr, Entry, operandsLog, operandsStrings}
 use Rattle.spec.specs.Grammar.{grammarOf}
-use Rattle.spec.specs.Reader.{Reader, Read, got, refused, readerAt}
+use Rattle.spec.specs.Reader.{Reader, Read, got, refused, refusal, readerAt}
 use Rattle.operand.specs.Log.{Laid}
+use Rattle.decoder.specs.declared.Decoder.{Decoder}
+use Rattle.decoder.specs.Answer.{limitReached}
 use Rattle.tracker.specs.Track.{idIs, literalOf, Literals}
-use Rattle.parser.specs.Parse.{isOperand, slotsAt}
+use Rattle.parser.specs.Parse.{wordIs, isOperand, slotsAt}
 use Rattle.parser.specs.Body.{bodyRead}
+use Rattle.parser.specs.declared.used.Used.{Used}
 use Rattle.parser.specs.declared.inst.Decoded.{Decoded}
 use Rattle.parser.specs.declared.inst.InstRead.{InstRead}
 use Rattle.parser.specs.declared.inst.InstRead.the-variants.{Got, Refused}
@@ -39,6 +42,24 @@ pub record Handed (s : List ℕ) (at : ℕ) (x : Read Instr) (log₀ strs₀ log
   pub log-laid : Laid log₀ a (operandsLog (c + b) (instr .operands)) log
   pub strings-laid : Laid strs₀ b (operandsStrings (instr .operands)) strs
 
+-- what is handed on of an instruction whose row was read
+pub record Ends (count op place : ℕ) (n : Used) (r : Decoded) : Type 0 where
+  pub words : r .words ≡ count
+  pub opcode : r .opcode ≡ op
+  pub place-is : r .place ≡ place
+  pub rtype : idIs (r .rtype) ≡ wordIs (n .rtype)
+  pub rid : idIs (r .rid) ≡ wordIs (n .rid)
+  pub operands : r .operands ≡ n .operands
+  pub first : literalOf (r .first) ≡ wordIs (n .first)
+  pub second : literalOf (r .second) ≡ wordIs (n .second)
+  pub log : r .log ≡ n .log
+  pub strings : r .strings ≡ n .strings
+
+-- its answer: 7 where words are left over
+unfoldable pub Ended : ℕ → ℕ → ℕ → Decoder → Used → InstRead → Type 0
+Ended count op place e n (Got r) = (limitReached e ≡ true) × Ends count op place n r
+Ended count op place e n (Refused y) = (limitReached e ≡ false) × (y ≡ refusal 7 (e .offset) 0)
+
 -- it was refused
 pub record Declined (x : Read Instr) (y : Refusal) : Type 0 where
   pub rest : Reader
@@ -48,6 +69,12 @@ pub record Declined (x : Read Instr) (y : Refusal) : Type 0 where
 unfoldable pub Decodes : List ℕ → ℕ → Read Instr → List ℕ → List ℕ → List ℕ → List ℕ → ℕ → ℕ → ℕ → InstRead → Type 0
 Decodes s at x log₀ strs₀ log strs a b c (Got r) = Handed s at x log₀ strs₀ log strs a b c r
 Decodes s at x log₀ strs₀ log strs a b c (Refused y) = Declined x y
+
+-- the same, whatever the stores held before
+pub record DecodesOver (s : List ℕ) (at : ℕ) (x : Read Instr) (log strs : List ℕ) (a b c : ℕ) (r : InstRead) : Type 0 where
+  pub log₀ : List ℕ
+  pub strs₀ : List ℕ
+  pub decodes : Decodes s at x log₀ strs₀ log strs a b c r
 
 -- an instruction that was read has these words, this opcode, and its row's operands from this place of the grammar on
 unfoldable pub ShapeIs : ℕ → ℕ → ℕ → InstRead → Type 0

@@ -4,6 +4,7 @@ mod inst;
 mod literals;
 mod operands;
 mod rows;
+mod simple;
 mod used;
 
 pub use inst::Decoded;

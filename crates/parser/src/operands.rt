@@ -121,7 +121,7 @@ pub fn read_one(
 }
 
 // The parameters that start at a place of the grammar, each as one record.
-fn parse_parameters(
+pub fn parse_parameters(
     start: Decoder,
     s: &[u8],
     g: &[u8],

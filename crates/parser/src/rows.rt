@@ -31,7 +31,7 @@ use grammar::SlotAt;
 use tracker::TypeTracker;
 
 // What is in use before the first operand.
-fn nothing_used(log: usize, strings: usize, base: usize) -> Used
+pub fn nothing_used(log: usize, strings: usize, base: usize) -> Used
     ensures { λ r. ⌜ r ≡ unused «log» «strings» base ⌝ }
 {
     Used {
@@ -48,7 +48,7 @@ fn nothing_used(log: usize, strings: usize, base: usize) -> Used
 }
 
 // A result more: the result type for 46, else the result id.
-fn with_result(u: Used, kind: u8, id: u64) -> Used
+pub fn with_result(u: Used, kind: u8, id: u64) -> Used
     ensures { λ r. ⌜ r ≡ withResult kind id u ⌝ }
 {
     let rtype = u.rtype;
@@ -87,7 +87,7 @@ fn with_result(u: Used, kind: u8, id: u64) -> Used
 }
 
 // The place of the operand that comes next: ZeroOrMore stays.
-fn next_place(place: usize, quantifier: u8) -> usize
+pub fn next_place(place: usize, quantifier: u8) -> usize
     requires { ⌜ place ≤ 65535 ⌝ }
     ensures { λ r. ⌜ r ≡ (if eqb quantifier 2 then place else place + 3) ⌝ }
 {

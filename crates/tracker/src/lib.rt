@@ -334,6 +334,9 @@ impl TypeTracker {
             (entriesOf (self .count) (now (types .entry))))) (self .greatest) ⌝ }
         ensures { λ r. ⌜ Hinted (r .count) (now (types .exit)) (now (hints .exit)) (r .greatest) ⌝ }
     {
+        let Id::Is(_) = rid else {
+            return self;
+        };
         let change = self.change(types, hints, opcode, rtype, rid, count, first, second);
         let Change::Define { id, width, sort } = change else {
             return self;

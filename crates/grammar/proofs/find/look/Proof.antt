@@ -1,24 +1,23 @@
 -- `grammar::find::look` meets its contract.
-use Rattle.grammar.proofs.FindLaws.{look-hit}
-use native.Mathlib.Omega.{arith}
+use Rattle.grammar.proofs.FindLaws.{guess-right}
 use borrow.Author.Needs.{needs}
 use Rattle.grammar.proofs.find.look.Statement.{statement}
 use Rattle.grammar.proofs.find.look.Tie as tie
 
-guess-at-requires : tie.Need-guess-at-requires
-guess-at-requires c κs = search needs
+guessed-requires : tie.Need-guessed-requires
+guessed-requires c κs = search needs
 
-mark-count-requires : tie.Need-mark-count-requires
-mark-count-requires c κs = search needs
+enum-known-guess : tie.Need-enum-known-guess
+enum-known-guess c = search needs
 
-mark-at-requires : tie.Need-mark-at-requires
-mark-at-requires c κs = search needs
-
-returns : tie.Need-returns
-returns c = look-hit _ _ _ _ (c .before .before .before .before .before .before .before .before .before .before .pre) _ _ (c .before .before .before .before .mark-at .ensures) (omega (arith, c .before .before .before .before .before .before .mark-count .ensures, c .before .before .before .before .before .before .before .before .before .before .pre .count)) (c .before .before .if2 .taken) (c .if3 .taken)
+enum-told : tie.Need-enum-told
+enum-told c = search needs
 
 search-requires : tie.Need-search-requires
 search-requires c κs = search needs
+
+returns : tie.Need-returns
+returns c = guess-right _ _ _ (c .before .guess .given .1) (c .before .before .before .guessed .ensures)
 
 returns-2 : tie.Need-returns-2
 returns-2 c = search needs
@@ -26,10 +25,4 @@ returns-2 c = search needs
 pub look-spec : {M : Type 1} → statement M
 look-spec =
     tie.close
-    (tie.spec
-    guess-at-requires
-    mark-count-requires
-    mark-at-requires
-    returns
-    search-requires
-    returns-2)
+    (tie.spec guessed-requires enum-known-guess enum-told search-requires returns returns-2)

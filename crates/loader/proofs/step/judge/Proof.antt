@@ -15,7 +15,7 @@ enum-known-read-2 : tie.Need-enum-known-read-2
 enum-known-read-2 c = search needs
 
 admit-requires : tie.Need-admit-requires
-admit-requires c κs = let h = few-read _ _ _ _ _ _ _ _ _ _ _ (c .before .before .before .before .before .before .before .parse-inst .ensures .0) _ (c .before .read2 .given .1) (c .before .before .before .before .before .before .before .before .before .before .before .before .before .before .before .before .before .pre .1 .0 .short) in let b = c .before .before .before .before .before .before .before .before .before .before .before .before .before .before .before .before .before .pre .1 .0 in ((b .types-in, omega (arith, b .few, b .inside, b .short)), (c .before .before .before .before .before .before .before .before .before .before .before .before .before .before .before .before .before .pre .1 .1, (b .hinted, (omega (arith, b .few-log, b .inside, b .short), h .0, omega (arith, b .few-strings, b .inside, b .short), h .1))))
+admit-requires c κs = let h = few-read _ _ _ _ _ _ _ _ _ _ _ (c .before .before .before .before .before .before .before .parse-inst .ensures .0 .decodes) _ (c .before .read2 .given .1) (c .before .before .before .before .before .before .before .before .before .before .before .before .before .before .before .before .before .pre .1 .0 .short) in let b = c .before .before .before .before .before .before .before .before .before .before .before .before .before .before .before .before .before .pre .1 .0 in ((b .types-in, omega (arith, b .few, b .inside, b .short)), (c .before .before .before .before .before .before .before .before .before .before .before .before .before .before .before .before .before .pre .1 .1, (b .hinted, (omega (arith, b .few-log, b .inside, b .short), h .0, omega (arith, b .few-strings, b .inside, b .short), h .1))))
 
 same-length : tie.Need-same-length
 same-length c = search needs
@@ -24,7 +24,7 @@ same-length-2 : tie.Need-same-length-2
 same-length-2 c = search needs
 
 returns : tie.Need-returns
-returns c = judges-unread _ _ _ _ _ _ _ _ _ _ _ (c .before .before .before .before .before .before .before .parse-inst .ensures .0) (c .before .before .before .before .before .before .before .parse-inst .ensures .1) _ (c .before .read .given .1)
+returns c = judges-unread _ _ _ _ _ _ _ _ _ _ _ (c .before .before .before .before .before .before .before .parse-inst .ensures .0 .decodes) (c .before .before .before .before .before .before .before .parse-inst .ensures .1) _ (c .before .read .given .1)
 
 same-length-3 : tie.Need-same-length-3
 same-length-3 c = search needs
@@ -33,7 +33,7 @@ same-length-4 : tie.Need-same-length-4
 same-length-4 c = search needs
 
 returns-2 : tie.Need-returns-2
-returns-2 c = judges-read _ _ _ _ _ _ _ _ _ _ _ (c .before .before .before .before .before .before .before .before .parse-inst .ensures .0) (c .before .before .before .before .before .before .before .before .parse-inst .ensures .1) _ (c .before .before .read2 .given .1) _ (c .admit .ensures)
+returns-2 c = judges-read _ _ _ _ _ _ _ _ _ _ _ (c .before .before .before .before .before .before .before .before .parse-inst .ensures .0 .decodes) (c .before .before .before .before .before .before .before .before .parse-inst .ensures .1) _ (c .before .before .read2 .given .1) _ (c .admit .ensures)
 
 pub judge-spec : {M : Type 1} → statement M
 judge-spec =
