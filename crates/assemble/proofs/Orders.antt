@@ -16,7 +16,7 @@ use Rattle.spec.specs.Check.{placedOf}
 use Rattle.spec.specs.Write.{bytesOfAll, hasTag, sectionOf, sections, parametersIn, functions, moduleOrder}
 use Rattle.operand.specs.Log.{kept}
 use Rattle.assemble.specs.Spelled.{saidBy}
-use Rattle.assemble.specs.Placing.{GoodStores, instrsOf, oneAt, tagged, laterOf, lastTagged, functionPart, ordered, largest, Room, Wrote}
+use Rattle.assemble.specs.Placing.{GoodStores, instrsOf, oneAt, tagged, laterOf, lastTagged, functionPart, largest, Room, Wrote}
 use Rattle.assemble.proofs.Spell.{length-said}
 use Rattle.assemble.proofs.Stores.{At, one-is, stores-length}
 
@@ -24,12 +24,12 @@ use Rattle.assemble.proofs.Stores.{At, one-is, stores-length}
 
 module _ {ws log strings : List ℕ} {count i : ℕ} {f : Fields} (a : At ws log strings count i f) where
   -- its bytes
-  at-bytes : instrBytes (saidBy log strings f .instr) ≡ bytesOfAll (oneAt (instrsOf ws log strings count) i)
+  pub at-bytes : instrBytes (saidBy log strings f .instr) ≡ bytesOfAll (oneAt (instrsOf ws log strings count) i)
   unfolding bytesOfAll
   at-bytes = sym (ap bytesOfAll (one-is a) ∙ append-nil (instrBytes (saidBy log strings f .instr)))
 
   -- how many they are
-  at-length : length (bytesOfAll (oneAt (instrsOf ws log strings count) i)) ≡ 4 * f .words
+  pub at-length : length (bytesOfAll (oneAt (instrsOf ws log strings count) i)) ≡ 4 * f .words
   at-length = ap length (sym at-bytes) ∙ length-said log strings f (a .sound)
 
   -- there is room for it
@@ -44,10 +44,10 @@ module _ {ws log strings : List ℕ} {count i : ℕ} {f : Fields} (a : At ws log
     stored = e ∙ ap (kept keep out at) at-bytes;
   }
 
--- PARSE ORDER
+-- ALL
 
 -- the instruction at an index, and those after it
-pub all-more : (is : List Placed) (i : ℕ) → drop i is ≡ oneAt is i ++ drop (i + 1) is
+all-more : (is : List Placed) (i : ℕ) → drop i is ≡ oneAt is i ++ drop (i + 1) is
 unfolding oneAt
 all-more is i = sym (take-append-drop 1 (drop i is)) ∙ ap (λ (z : List Placed). take 1 (drop i is) ++ z) (drop-drop 1 i is)
 
@@ -274,13 +274,3 @@ module _ {ws log strings : List ℕ} {count i : ℕ} {f : Fields} (a : At ws log
 pub module-is : (is : List Placed) → moduleOrder is ≡ sections is ++ functions is
 unfolding moduleOrder
 module-is is = refl
-
--- module order
-pub ordered-whole : (whole : Bool) (is : List Placed) → whole ≡ true → ordered whole is ≡ moduleOrder is
-unfolding ordered
-ordered-whole whole is e = rw e
-
--- as read
-pub ordered-read : (whole : Bool) (is : List Placed) → whole ≡ false → ordered whole is ≡ is
-unfolding ordered
-ordered-read whole is e = rw e

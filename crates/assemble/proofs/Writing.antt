@@ -15,7 +15,7 @@ use Rattle.spec.specs.Words.{bytesOf, major, minor}
 use Rattle.spec.specs.Records.{Placed}
 use Rattle.spec.specs.Load.{laidOver}
 use Rattle.spec.specs.Check.{Given, lower, missing, fieldsFault, Scan, scanFrom, scanOf, tagsFault, recordsOf, faultOf, Checked, good, check}
-use Rattle.spec.specs.Write.{bytesOfAll, parseBytes, moduleHeader, moduleBytes, Writing, unwritten, writeBy, writeParse, writeModule}
+use Rattle.spec.specs.Write.{bytesOfAll, parseBytes, moduleHeader, moduleOrder, moduleBytes, Writing, unwritten, writeBy, writeParse, writeModule}
 use Rattle.spec.proofs.Store.{sets-append}
 use Rattle.operand.specs.Log.{kept}
 use Rattle.records.specs.declared.Checked.{Checked as Answer}
@@ -90,54 +90,97 @@ over-done : (out bs : List ℕ) → length bs ≤ length out
 unfolding writtenOver
 over-done out bs h = pick-no (ltb (length out) (length bs)) (unwritten 29 0 out) _ (le-ltb (length out) (length bs) h)
 
-module _ (whole : Bool) (h : List ℕ) (five : length h ≡ 5) (is : List Placed) (out : List ℕ) (small : length out < largest)
-    (need : ℕ) (l₁ : List ℕ) (m : Wrote false out 20 (ordered whole is) need l₁) where
+-- as read
+pub read-order : (is : List Placed) → ordered false is ≡ is
+unfolding ordered
+read-order is = refl
+
+-- in module order
+whole-order : (is : List Placed) → ordered true is ≡ moduleOrder is
+unfolding ordered
+whole-order is = refl
+
+-- one order is another
+pub order-as : (h out : List ℕ) (is : List Placed) (whole whole' : Bool) → whole ≡ whole' → writtenOver out (orderBytes whole h is) ≡ writtenOver out (orderBytes whole' h is)
+order-as h out is whole whole' e = ap (λ (b : Bool). writtenOver out (orderBytes b h is)) e
+
+module _ (whole : Bool) (h : List ℕ) (five : length h ≡ 5) (is ps : List Placed) (o : ordered whole is ≡ ps) (out : List ℕ) where
+  -- how many bytes there are
+  order-length : length (orderBytes whole h is) ≡ 20 + length (bytesOfAll ps)
+  unfolding orderBytes
+  order-length =
+      length-append (joined bytesOf h) (bytesOfAll (ordered whole is))
+      ∙ ap (λ (n : ℕ). n + length (bytesOfAll (ordered whole is))) (length-header h five)
+      ∙ ap (λ (qs : List Placed). 20 + length (bytesOfAll qs)) o
+
+  -- "29, exactly when the bytes needed exceed the output"
+  pub write-full : (w : Written) (l : List ℕ) → w ≡ record { number = 29; index = 0; bytes = 0 } → l ≡ out → length out < 20 + length (bytesOfAll ps)
+      → (w ≡ writtenOver out (orderBytes whole h is) .said) × (l ≡ writtenOver out (orderBytes whole h is) .output)
+  write-full w l a b g =
+      let q = over-full out (orderBytes whole h is) (omega (arith, g, order-length)) in
+      (a ∙ ap (λ (x : Writing). x .said) q, b ∙ ap (λ (x : Writing). x .output) q)
+
+  module _ (l₁ l₂ : List ℕ) (e₁ : l₁ ≡ sets out 0 (joined bytesOf h)) (e₂ : l₂ ≡ sets l₁ 20 (bytesOfAll ps)) where
+    -- the output with header and instructions
+    end-out : l₂ ≡ laidOver out (orderBytes whole h is)
+    unfolding laidOver orderBytes
+    end-out =
+        e₂
+        ∙ ap (λ (z : List ℕ). sets z 20 (bytesOfAll ps)) e₁
+        ∙ ap (λ (qs : List Placed). sets (sets out 0 (joined bytesOf h)) 20 (bytesOfAll qs)) (sym o)
+        ∙ ap (λ (k : ℕ). sets (sets out 0 (joined bytesOf h)) k (bytesOfAll (ordered whole is))) (sym (omega (arith, length-header h five)))
+        ∙ sets-append (joined bytesOf h) (bytesOfAll (ordered whole is)) out 0
+
+    -- "Output past the bytes written stays"
+    pub write-done : (n : ℕ) → n ≡ 20 + length (bytesOfAll ps) → n ≤ length out
+        → (_≡_ {A = Written} (record { number = 0; index = 0; bytes = n }) (writtenOver out (orderBytes whole h is) .said))
+        × (l₂ ≡ writtenOver out (orderBytes whole h is) .output)
+    write-done n e g =
+        let q = over-done out (orderBytes whole h is) (omega (arith, e, g, order-length)) in (
+          ap (λ (k : ℕ). record { number = 0; index = 0; bytes = k }) (e ∙ sym order-length) ∙ ap (λ (x : Writing). x .said) q,
+          end-out ∙ ap (λ (x : Writing). x .output) q,
+        )
+
+module _ (h : List ℕ) (five : length h ≡ 5) (is : List Placed) (out : List ℕ) (small : length out < largest)
+    (need : ℕ) (l₁ : List ℕ) (m : Wrote false out 20 (moduleOrder is) need l₁) where
   -- the output is as it was
   measured-same : l₁ ≡ out
   unfolding kept
   measured-same = m .stored
 
-  -- how many bytes there are
-  order-length : length (orderBytes whole h is) ≡ 20 + length (bytesOfAll (ordered whole is))
-  unfolding orderBytes
-  order-length =
-      length-append (joined bytesOf h) (bytesOfAll (ordered whole is))
-      ∙ ap (λ (n : ℕ). n + length (bytesOfAll (ordered whole is))) (length-header h five)
+  -- more bytes were measured than the output has
+  pub whole-full : length l₁ < need → (w : Written) → w ≡ record { number = 29; index = 0; bytes = 0 }
+      → (w ≡ writtenOver out (orderBytes true h is) .said) × (l₁ ≡ writtenOver out (orderBytes true h is) .output)
+  whole-full g w e = write-full true h five is (moduleOrder is) (whole-order is) out w l₁ e measured-same (omega (arith, g, ap length measured-same, m .place))
 
-  -- "29, exactly when the bytes needed exceed the output"
-  pub write-full : length l₁ < need
-      → (_≡_ {A = Written} (record { number = 29; index = 0; bytes = 0 }) (writtenOver out (orderBytes whole h is) .said))
-      × (l₁ ≡ writtenOver out (orderBytes whole h is) .output)
-  write-full g =
-      let q = over-full out (orderBytes whole h is) (omega (arith, g, ap length measured-same, m .place, order-length)) in
-      (ap (λ (w : Writing). w .said) q, measured-same ∙ ap (λ (w : Writing). w .output) q)
+  module _ (g : need ≤ length l₁) (l₂ : List ℕ) (e : l₂ ≡ sets l₁ 0 (joined bytesOf h)) where
+    -- there is room for what was measured
+    pub whole-room : (keep : Bool) → Room keep l₂ 20 (moduleOrder is)
+    whole-room keep =
+        let q : length l₂ ≡ length out = ap length e ∙ length-sets l₁ 0 (joined bytesOf h) ∙ ap length measured-same in
+        record { small = omega arith; room = λ _. omega (arith, m .place, ap length measured-same) }
 
-  -- there is room for what was measured
-  pub write-room : need ≤ length l₁ → (l₂ : List ℕ) → l₂ ≡ sets l₁ 0 (joined bytesOf h) → (keep : Bool) → Room keep l₂ 20 (ordered whole is)
-  write-room g l₂ e keep =
-      let q : length l₂ ≡ length out = ap length e ∙ length-sets l₁ 0 (joined bytesOf h) ∙ ap length measured-same in
-      record { small = omega arith; room = λ _. omega (arith, m .place, ap length measured-same) }
-
-  module _ (g : need ≤ length l₁) (l₂ l₃ : List ℕ) (end : ℕ) (e : l₂ ≡ sets l₁ 0 (joined bytesOf h)) (w : Wrote true l₂ 20 (ordered whole is) end l₃) where
-    -- the place after the last byte
-    end-is : end ≡ length (orderBytes whole h is)
-    end-is = omega (arith, g, small, ap length measured-same, m .place, w .place, order-length)
-
-    -- the output with header and instructions
-    end-out : l₃ ≡ laidOver out (orderBytes whole h is)
-    unfolding kept laidOver orderBytes
-    end-out =
-        w .stored
-        ∙ ap (λ (z : List ℕ). sets z 20 (bytesOfAll (ordered whole is))) (e ∙ ap (λ (z : List ℕ). sets z 0 (joined bytesOf h)) measured-same)
-        ∙ ap (λ (k : ℕ). sets (sets out 0 (joined bytesOf h)) k (bytesOfAll (ordered whole is))) (sym (omega (arith, length-header h five)))
-        ∙ sets-append (joined bytesOf h) (bytesOfAll (ordered whole is)) out 0
-
-    -- "Output past the bytes written stays"
-    pub write-done : (_≡_ {A = Written} (record { number = 0; index = 0; bytes = end }) (writtenOver out (orderBytes whole h is) .said))
-        × (l₃ ≡ writtenOver out (orderBytes whole h is) .output)
-    write-done =
-        let q = over-done out (orderBytes whole h is) (omega (arith, g, small, ap length measured-same, m .place, order-length)) in
-        (ap (λ (n : ℕ). record { number = 0; index = 0; bytes = n }) end-is ∙ ap (λ (w : Writing). w .said) q, end-out ∙ ap (λ (w : Writing). w .output) q)
+    -- it is written
+    pub whole-done : (end : ℕ) (l₃ : List ℕ) → Wrote true l₂ 20 (moduleOrder is) end l₃
+        → (_≡_ {A = Written} (record { number = 0; index = 0; bytes = end }) (writtenOver out (orderBytes true h is) .said))
+        × (l₃ ≡ writtenOver out (orderBytes true h is) .output)
+    unfolding kept
+    whole-done end l₃ w =
+        write-done
+        true
+        h
+        five
+        is
+        (moduleOrder is)
+        (whole-order is)
+        out
+        l₂
+        l₃
+        (e ∙ ap (λ (z : List ℕ). sets z 0 (joined bytesOf h)) measured-same)
+        (w .stored)
+        end
+        (omega (arith, g, small, ap length measured-same, m .place, w .place))
+        (omega (arith, g, small, ap length measured-same, m .place, w .place))
 
 -- STORES CUT AT THEIR COUNTS
 

@@ -1,15 +1,17 @@
-// The instructions of good stores in an order, each into the rest of the output: kept, or only measured.
+// The instructions of good stores: as read, each at its offset; or in module order, each into the rest of the output, kept or only
+// measured.
 ghost use mathlib.Core.Path.{_≡_};
 ghost use mathlib.Core.Bool.{true};
 ghost use mathlib.Core.List.{_++_};
 ghost use Prim.Native.Nat.{_+_, _*_, _<_, _≤_, min};
 ghost use lib.Dec.{eqb};
 ghost use lib.ListN.{length, drop};
+ghost use lib.Seq.{sets};
 ghost use Rattle.spec.specs.Records.{instrBytes, recordSize, fieldsAt};
-ghost use Rattle.spec.specs.Write.{sectionOf, sections, parametersIn, functions, moduleOrder};
+ghost use Rattle.spec.specs.Write.{bytesOfAll, sectionOf, sections, parametersIn, functions, moduleOrder};
 ghost use Rattle.operand.specs.Log.{kept};
 ghost use Rattle.assemble.specs.Spelled.{saidBy, Sound};
-ghost use Rattle.assemble.specs.Placing.{GoodStores, instrsOf, oneAt, tagged, laterOf, lastTagged, functionPart, ordered, largest, Room, Wrote};
+ghost use Rattle.assemble.specs.Placing.{GoodStores, instrsOf, oneAt, tagged, laterOf, lastTagged, functionPart, largest, Room, Wrote};
 use crate::instruction::put_instruction;
 use records::record_at;
 use spec::Fields;
@@ -63,27 +65,31 @@ fn put_one(
 
 // PARSE ORDER
 
-// All instructions, as read.
-fn put_all(
-    instructions: &[u32],
-    log: &[u8],
-    strings: &[u8],
-    count: usize,
-    out: &mut [u8],
-    start: usize,
-    keep: bool,
-) -> usize
+// Where the instructions end as read: behind the last.
+pub fn end_of(instructions: &[u32], log: &[u8], strings: &[u8], count: usize) -> usize
     requires { ⌜ GoodStores (now instructions) (now log) (now strings) count ⌝ }
-    requires { ⌜ Room keep (now out) start (instrsOf (now instructions) (now log) (now strings) count) ⌝ }
-    ensures { λ r. ⌜ Wrote keep (now (out .entry)) start (instrsOf (now (instructions .entry)) (now (log .entry)) (now (strings .entry)) count) r (now (out .exit)) ⌝ }
+    ensures { λ r. ⌜ r ≡ 20 + length (bytesOfAll (instrsOf (now (instructions .entry)) (now (log .entry)) (now (strings .entry)) count)) ⌝ }
+{
+    if count == 0 {
+        return 20;
+    }
+    let f = record_at(instructions, count - 1);
+    (f.offset as usize) + 4 * (f.words as usize)
+}
+
+// All instructions, as read: each at its own offset.
+pub fn put_read(instructions: &[u32], log: &[u8], strings: &[u8], count: usize, out: &mut [u8])
+    requires { ⌜ GoodStores (now instructions) (now log) (now strings) count ⌝ }
+    requires { ⌜ 20 + length (bytesOfAll (instrsOf (now instructions) (now log) (now strings) count)) ≤ length (now out) ⌝ }
+    ensures { λ _. ⌜ now (out .exit) ≡ sets (now (out .entry)) 20 (bytesOfAll (instrsOf (now (instructions .entry)) (now (log .entry)) (now (strings .entry)) count)) ⌝ }
 {
     let mut i = 0;
-    let mut at = start;
     while i < count {
-        at = put_one(instructions, log, strings, count, i, out, at, keep);
+        let f = record_at(instructions, i);
+        let at = f.offset as usize;
+        put_instruction(log, strings, f, &mut out[at..]);
         i += 1;
     }
-    at
 }
 
 // MODULE ORDER
@@ -317,7 +323,7 @@ fn put_functions(
 }
 
 // Sections, then functions.
-fn put_module(
+pub fn put_module(
     instructions: &[u32],
     log: &[u8],
     strings: &[u8],
@@ -332,25 +338,4 @@ fn put_module(
 {
     let next = put_sections(instructions, log, strings, count, out, at, keep);
     put_functions(instructions, log, strings, count, out, next, keep)
-}
-
-// All instructions, in module order (whole) or as read.
-pub fn put_order(
-    whole: bool,
-    instructions: &[u32],
-    log: &[u8],
-    strings: &[u8],
-    count: usize,
-    out: &mut [u8],
-    at: usize,
-    keep: bool,
-) -> usize
-    requires { ⌜ GoodStores (now instructions) (now log) (now strings) count ⌝ }
-    requires { ⌜ Room keep (now out) at (ordered whole (instrsOf (now instructions) (now log) (now strings) count)) ⌝ }
-    ensures { λ r. ⌜ Wrote keep (now (out .entry)) at (ordered whole (instrsOf (now (instructions .entry)) (now (log .entry)) (now (strings .entry)) count)) r (now (out .exit)) ⌝ }
-{
-    if whole {
-        return put_module(instructions, log, strings, count, out, at, keep);
-    }
-    put_all(instructions, log, strings, count, out, at, keep)
 }

@@ -1,5 +1,6 @@
 // The writers: first the check of the records (30), then the bytes needed against the output (29), then the bytes.
 ghost use mathlib.Core.Path.{_≡_};
+ghost use mathlib.Core.Bool.{true, false};
 ghost use Prim.Native.Nat.{_≤_};
 ghost use lib.ListN.{length};
 ghost use lib.Seq.{sets};
@@ -8,7 +9,9 @@ ghost use Rattle.spec.specs.Words.{bytesOf};
 ghost use Rattle.spec.specs.Write.{moduleHeader, writeParse, writeModule};
 ghost use Rattle.records.specs.Steps.{given};
 ghost use Rattle.assemble.specs.Placing.{GoodStores, instrsOf, writtenOver, orderBytes, writeOrder};
-use crate::order::put_order;
+use crate::order::end_of;
+use crate::order::put_module;
+use crate::order::put_read;
 use operand::put_word;
 use records::Checked;
 use spec::Written;
@@ -41,7 +44,70 @@ fn module_header(header: [u32; 5]) -> [u32; 5]
     words
 }
 
-// Good stores: measured against the output, then written.
+// An output that is too short.
+fn too_short() -> Written
+    ensures { λ r. ⌜ r ≡ record { number = 29; index = 0; bytes = 0 } ⌝ }
+{
+    Written {
+        number: 29,
+        index: 0,
+        bytes: 0,
+    }
+}
+
+// Good stores, as read: each record says where its instruction goes.
+fn write_read(
+    header: [u32; 5],
+    instructions: &[u32],
+    log: &[u8],
+    strings: &[u8],
+    count: usize,
+    out: &mut [u8],
+) -> Written
+    requires { ⌜ GoodStores (now instructions) (now log) (now strings) count ⌝ }
+    ensures { λ r. ⌜ r ≡ writtenOver (now (out .entry)) (orderBytes false header (instrsOf (now (instructions .entry)) (now (log .entry)) (now (strings .entry)) count)) .said ⌝ }
+    ensures { λ _. ⌜ now (out .exit) ≡ writtenOver (now (out .entry)) (orderBytes false header (instrsOf (now (instructions .entry)) (now (log .entry)) (now (strings .entry)) count)) .output ⌝ }
+{
+    let bytes = end_of(instructions, log, strings, count);
+    if out.len() < bytes {
+        return too_short();
+    }
+    put_header(header, out);
+    put_read(instructions, log, strings, count, out);
+    Written {
+        number: 0,
+        index: 0,
+        bytes,
+    }
+}
+
+// Good stores in module order: measured against the output, then written.
+fn write_whole(
+    header: [u32; 5],
+    instructions: &[u32],
+    log: &[u8],
+    strings: &[u8],
+    count: usize,
+    out: &mut [u8],
+) -> Written
+    requires { ⌜ GoodStores (now instructions) (now log) (now strings) count ⌝ }
+    ensures { λ r. ⌜ r ≡ writtenOver (now (out .entry)) (orderBytes true header (instrsOf (now (instructions .entry)) (now (log .entry)) (now (strings .entry)) count)) .said ⌝ }
+    ensures { λ _. ⌜ now (out .exit) ≡ writtenOver (now (out .entry)) (orderBytes true header (instrsOf (now (instructions .entry)) (now (log .entry)) (now (strings .entry)) count)) .output ⌝ }
+{
+    let need = put_module(instructions, log, strings, count, out, HEADER, false);
+    if out.len() < need {
+        return too_short();
+    }
+    put_header(header, out);
+    let bytes = put_module(instructions, log, strings, count, out, HEADER, true);
+    Written {
+        number: 0,
+        index: 0,
+        bytes,
+    }
+}
+
+// Good stores, in module order (whole) or as read.
 fn write_good(
     whole: bool,
     header: [u32; 5],
@@ -55,21 +121,10 @@ fn write_good(
     ensures { λ r. ⌜ r ≡ writtenOver (now (out .entry)) (orderBytes whole header (instrsOf (now (instructions .entry)) (now (log .entry)) (now (strings .entry)) count)) .said ⌝ }
     ensures { λ _. ⌜ now (out .exit) ≡ writtenOver (now (out .entry)) (orderBytes whole header (instrsOf (now (instructions .entry)) (now (log .entry)) (now (strings .entry)) count)) .output ⌝ }
 {
-    let need = put_order(whole, instructions, log, strings, count, out, HEADER, false);
-    if out.len() < need {
-        return Written {
-            number: 29,
-            index: 0,
-            bytes: 0,
-        };
+    if whole {
+        return write_whole(header, instructions, log, strings, count, out);
     }
-    put_header(header, out);
-    let bytes = put_order(whole, instructions, log, strings, count, out, HEADER, true);
-    Written {
-        number: 0,
-        index: 0,
-        bytes,
-    }
+    write_read(header, instructions, log, strings, count, out)
 }
 
 // The records checked, then written under a header.

@@ -304,17 +304,17 @@ fields-if i true x e = (refl, e)
 fields-if i false x e = some-none i e
 
 -- good fields
-and-two : (t u v : Bool) → (t && u && v) ≡ true → (t ≡ true) × (v ≡ true)
-and-two true true v e = (refl, e)
-and-two true false v e = let z : _≡_ {A = ℕ} 0 1 = cc in absurd (omega arith)
-and-two false u v e = let z : _≡_ {A = ℕ} 0 1 = cc in absurd (omega arith)
+and-three : (t u v : Bool) → (t && u && v) ≡ true → (t ≡ true) × (u ≡ true) × (v ≡ true)
+and-three true true v e = (refl, refl, e)
+and-three true false v e = let z : _≡_ {A = ℕ} 0 1 = cc in absurd (omega arith)
+and-three false u v e = let z : _≡_ {A = ℕ} 0 1 = cc in absurd (omega arith)
 
 -- what good fields hold
-fields-held : (at : ℕ) (f : Fields) → fieldsGood at f ≡ true → (fieldsHold f ≡ true) × (f .words ≤ 65535)
+fields-held : (at : ℕ) (f : Fields) → fieldsGood at f ≡ true → (fieldsHold f ≡ true) × (f .offset ≡ at) × (f .words ≤ 65535)
 unfolding fieldsGood fieldsHold
 fields-held at f e =
-    let t = and-two (fieldsHold f) (eqb (f .offset) at) (leb (f .words) 65535) e in
-    (t .0, leb-true (f .words) 65535 (t .1))
+    let t = and-three (fieldsHold f) (eqb (f .offset) at) (leb (f .words) 65535) e in
+    (t .0, eqb-true (f .offset) at (t .1), leb-true (f .words) 65535 (t .2))
 
 -- each record of a fold without fault
 fields-said : (fs : List Fields) (i at : ℕ) → fieldsFault i at fs ≡ none → (k : ℕ) (f : Fields) (gs : List Fields) → drop k fs ≡ f ∷ gs → (fieldsHold f ≡ true) × (f .words ≤ 65535)
@@ -322,10 +322,32 @@ unfolding fieldsFault
 fields-said [] i at n k f gs e = cons-none f gs (sym (drop-nil k) ∙ e)
 fields-said (c ∷ fs) i at n zero f gs e =
     let q : c ≡ f = cc in
-    subst (λ (y : Fields). (fieldsHold y ≡ true) × (y .words ≤ 65535)) q
-    (fields-held at c (fields-if i (fieldsGood at c) (fieldsFault (suc i) (at + 4 * c .words) fs) n .0))
+    let t = fields-held at c (fields-if i (fieldsGood at c) (fieldsFault (suc i) (at + 4 * c .words) fs) n .0) in
+    subst (λ (y : Fields). (fieldsHold y ≡ true) × (y .words ≤ 65535)) q (t .0, t .2)
 fields-said (c ∷ fs) i at n (suc k) f gs e =
     fields-said fs (suc i) (at + 4 * c .words) (fields-if i (fieldsGood at c) (fieldsFault (suc i) (at + 4 * c .words) fs) n .1) k f gs e
+
+-- the first record of a fold without fault is at its offset
+fields-first : (fs : List Fields) (i at : ℕ) → fieldsFault i at fs ≡ none → (f : Fields) (gs : List Fields) → fs ≡ f ∷ gs → f .offset ≡ at
+unfolding fieldsFault
+fields-first [] i at n f gs e = cons-none f gs e
+fields-first (c ∷ fs) i at n f gs e =
+    let q : c ≡ f = cc in
+    subst (λ (y : Fields). y .offset ≡ at) q
+    (fields-held at c (fields-if i (fieldsGood at c) (fieldsFault (suc i) (at + 4 * c .words) fs) n .0) .1)
+
+-- each later one is behind the one before it
+fields-next : (fs : List Fields) (i at : ℕ) → fieldsFault i at fs ≡ none → (k : ℕ) (f : Fields) (gs : List Fields) → drop k fs ≡ f ∷ gs
+    → (g : Fields) (hs : List Fields) → drop (suc k) fs ≡ g ∷ hs → g .offset ≡ f .offset + 4 * f .words
+unfolding fieldsFault
+fields-next [] i at n k f gs e g hs h = cons-none f gs (sym (drop-nil k) ∙ e)
+fields-next (c ∷ fs) i at n zero f gs e g hs h =
+    let q : c ≡ f = cc in
+    let t = fields-if i (fieldsGood at c) (fieldsFault (suc i) (at + 4 * c .words) fs) n in
+    subst (λ (y : Fields). g .offset ≡ y .offset + 4 * y .words) q
+    (omega (arith, fields-held at c (t .0) .1, fields-first fs (suc i) (at + 4 * c .words) (t .1) g hs h))
+fields-next (c ∷ fs) i at n (suc k) f gs e g hs h =
+    fields-next fs (suc i) (at + 4 * c .words) (fields-if i (fieldsGood at c) (fieldsFault (suc i) (at + 4 * c .words) fs) n .1) k f gs e g hs h
 
 -- the first of some records
 first-said : (t : Bool) → t ≡ true → (f : Fields) (fs : List Fields) → (if t then f ∷ fs else []) ≡ f ∷ drop 1 (if t then f ∷ fs else [])
@@ -425,6 +447,19 @@ module _ (x : Given) (good-x : Good x) where
         few = f .1;
         said = scan-said (take (x .logCount) (x .log)) (take (x .stringCount) (x .strings)) (x .logCount) (x .stringCount) (recordsOf (x .count) (x .instructions)) 1 0 0 (omega arith) (omega arith) (no-faults .2) i _ _ (r .0);
       }
+
+  -- the first record is behind a header
+  pub good-first : 0 < x .count → fieldsAt (drop (recordSize * 0) (x .instructions)) .offset ≡ 20
+  good-first h = fields-first (recordsOf (x .count) (x .instructions)) 1 20 (no-faults .1) _ _ (records-said (x .count) (x .instructions) record-count 0 h .0)
+
+  -- each later one is behind the one before it
+  pub good-next : (i : ℕ) → suc i < x .count
+      → fieldsAt (drop (recordSize * suc i) (x .instructions)) .offset
+      ≡ fieldsAt (drop (recordSize * i) (x .instructions)) .offset + 4 * fieldsAt (drop (recordSize * i) (x .instructions)) .words
+  good-next i h =
+      fields-next (recordsOf (x .count) (x .instructions)) 1 20 (no-faults .1) i
+      _ _ (records-said (x .count) (x .instructions) record-count i (omega arith) .0)
+      _ _ (records-said (x .count) (x .instructions) record-count (suc i) h .0)
 
 -- WHAT THE CHECK SAYS
 

@@ -1,0 +1,76 @@
+-- `assemble::order::put_read` meets its contract: each instruction is put behind those before it.
+-- Assumes nothing.
+use Prim.Native.Nat.{_-_}
+use mathlib.Core.Path.{_≡_}
+use native.Mathlib.Omega.{arith}
+use lib.ListN.{take}
+use lib.Seq.{sets}
+use Rattle.spec.specs.Write.{bytesOfAll}
+use Rattle.assemble.specs.Placing.{instrsOf}
+use Rattle.assemble.proofs.Spell.{lent-room}
+use Rattle.assemble.proofs.Stores.{stores-at, stores-in}
+use Rattle.assemble.proofs.Offsets.{none-put, put-length, offset-room, offset-put, all-put}
+use borrow.Author.Needs.{needs}
+use Rattle.assemble.proofs.order.put_read.Statement.{statement}
+use Rattle.assemble.proofs.order.put_read.Tie as tie
+
+abbrev Inv-loop : tie.InvT-loop
+Inv-loop instructions log strings count out₀ i₀ out i = out ≡ sets out₀ 20 (bytesOfAll (take i (instrsOf instructions log strings count)))
+
+abbrev μ-loop : tie.MeasureT-loop
+μ-loop instructions log strings count out₀ i₀ out i = count - i
+
+loop-holds : tie.Need-loop-holds Inv-loop μ-loop
+loop-holds c = none-put _
+
+record-at-requires : tie.Need-record-at-requires Inv-loop μ-loop
+record-at-requires c κs = stores-in _ _ _ _ (c .before .before .before .before .before .before .pre .0) _ (c .loop-test .taken)
+
+cast-at : tie.Need-cast-at Inv-loop μ-loop
+cast-at c = search needs
+
+sub-put-instruction : tie.Need-sub-put-instruction Inv-loop μ-loop
+sub-put-instruction c = omega (arith, offset-room _ _ _ _ (c .before .before .before .before .before .before .before .before .pre .0) _ (c .before .before .loop-test .taken) _ (c .before .record-at .ensures) _ _ (c .before .before .before .loop .inv) (c .before .before .before .before .before .before .before .before .pre .1))
+
+part-put-instruction-start : tie.Need-part-put-instruction-start Inv-loop μ-loop
+part-put-instruction-start c = omega (arith, offset-room _ _ _ _ (c .before .before .before .before .before .before .before .before .pre .0) _ (c .before .before .loop-test .taken) _ (c .before .record-at .ensures) _ _ (c .before .before .before .loop .inv) (c .before .before .before .before .before .before .before .before .pre .1))
+
+part-put-instruction-end : tie.Need-part-put-instruction-end Inv-loop μ-loop
+part-put-instruction-end c = search needs
+
+put-instruction-requires : tie.Need-put-instruction-requires Inv-loop μ-loop
+put-instruction-requires c κs = (stores-at _ _ _ _ (c .before .before .before .before .before .before .before .before .before .pre .0) _ (c .before .before .before .loop-test .taken) _ (c .before .before .record-at .ensures) .sound, lent-room (c .before .before .before .before .loop .out) _ _ (offset-room _ _ _ _ (c .before .before .before .before .before .before .before .before .before .pre .0) _ (c .before .before .before .loop-test .taken) _ (c .before .before .record-at .ensures) _ _ (c .before .before .before .before .loop .inv) (c .before .before .before .before .before .before .before .before .before .pre .1)))
+
+add-i : tie.Need-add-i Inv-loop μ-loop
+add-i c = omega arith
+
+loop-less : tie.Need-loop-less Inv-loop μ-loop
+loop-less c = omega arith
+
+loop-again : tie.Need-loop-again Inv-loop μ-loop
+loop-again c = offset-put _ _ _ _ (c .before .before .before .before .before .before .before .before .before .before .before .before .pre .0) _ (c .before .before .before .before .before .before .loop-test .taken) _ (c .before .before .before .before .before .record-at .ensures) _ (c .before .before .before .before .before .before .before .loop .out) (c .before .before .before .before .before .before .before .loop .inv) (c .before .before .put-instruction .last .1 .1 .1 .0) (c .before .before .put-instruction .ensures)
+
+same-length : tie.Need-same-length Inv-loop μ-loop
+same-length c = put-length _ _ _ (c .before .loop .inv)
+
+returns : tie.Need-returns Inv-loop μ-loop
+returns c = all-put _ _ _ _ (c .before .before .before .before .before .before .pre .0) _ (c .loop-test .left) _ _ (c .before .loop .inv)
+
+pub put-read-spec : {M : Type 1} → statement M
+put-read-spec =
+    tie.close
+    (tie.spec
+    Inv-loop
+    μ-loop
+    loop-holds
+    record-at-requires
+    cast-at
+    sub-put-instruction
+    part-put-instruction-start
+    part-put-instruction-end
+    put-instruction-requires
+    add-i
+    loop-less
+    loop-again
+    same-length
+    returns)
