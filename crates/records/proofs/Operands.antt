@@ -19,8 +19,10 @@ use Rattle.spec.specs.Check.{Left, past, Took, broken, took, takeText, takeKind
 use Rattle.operand.specs.Parts.{isTwo}
 use Rattle.records.specs.declared.Passed.{Passed}
 use Rattle.records.specs.declared.Passed.the-variants.{Broken as NotPassed, Past}
+use Rattle.text.specs.Plain.{isPlain}
 use Rattle.records.specs.Steps.{leftAt, isString, textGood, textPassed, passedOne, passedAll, wordIf, resultWords, passedRecord, operandsAfter}
 use Rattle.records.proofs.Fields.{word-few}
+use Rattle.records.proofs.Plain.{part-string}
 
 -- LENGTHS AND PLACES
 
@@ -273,6 +275,11 @@ module _ (strings : List ℕ) (a b start n : ℕ) where
       let q : n ≡ b + n - b = omega arith in
       string-by true true v (eq-eqb start b h) (has-yes n (drop b strings) (omega (arith, length-drop b strings)))
       (ap (λ (k : ℕ). isString (take k (drop b strings))) q ∙ sym e ∙ f)
+
+  -- it is a part of plain bytes
+  pub string-plain : start ≡ b → n ≤ length strings - b → isPlain strings ≡ true → Past (a + 9) (b + n) (textWords n) ≡ textPassed strings a b start n
+  string-plain h g p =
+      string-by true true true (eq-eqb start b h) (has-yes n (drop b strings) (omega (arith, length-drop b strings))) (part-string strings n b p)
 
 -- an operand of the log, by its tests
 module _ (log strings : List ℕ) (a b : ℕ) (inLog : a ≤ length log) (inStrings : b ≤ length strings) where

@@ -333,6 +333,11 @@ module _ {whole : Bool} {ws log strings : List ℕ} {count lc sc i at a b : ℕ}
         ∙ ap (λ (x : Bool). if eqb a lc && eqb b sc && (not whole || x) then none else some (suc i)) (sym e)
         ∙ ap (λ (x : Bool). if x then none else some (suc i)) q)
 
+    -- they all say yes: there is no fault
+    pub check-nothing : (eqb a lc && eqb b sc && (not whole || o)) ≡ true
+        → none ≡ faultsFrom whole lc sc 1 count 20 (leftAt log strings 0 0) Outside (recordsOf count ws)
+    check-nothing q = ends true q
+
     -- the answer
     pub check-ends : (x : Checked) → x ≡ endAnswer (eqb a lc && eqb b sc && (not whole || o)) (i + 1)
         → checkedIs x ≡ faultsFrom whole lc sc 1 count 20 (leftAt log strings 0 0) Outside (recordsOf count ws)

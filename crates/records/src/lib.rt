@@ -1,10 +1,13 @@
 // Records in lent stores: the one getter and the one setter of an instruction record, the check behind refusal 30, and the operands
 // of checked records.
 ghost use mathlib.Core.Path.{_≡_};
+ghost use mathlib.Core.Bool.{true};
+ghost use mathlib.Core.Option.{none};
 ghost use Prim.Native.Nat.{_+_, _*_, _≤_};
 ghost use lib.ListN.{length, drop};
 ghost use lib.Seq.{sets};
 ghost use Rattle.spec.specs.Records.{recordSize, fieldWords, fieldsAt};
+ghost use Rattle.text.specs.Plain.{isPlain};
 ghost use Rattle.reflect.specs.Column.{layoutTable, kindTable};
 ghost use Rattle.spec.specs.Check.{takeOperand, takeOperands, faultOf, recordsOf};
 ghost use Rattle.records.specs.Steps.{given, checkedIs, endAnswer, leftAt, fieldsHold, offsetAfter, wordIf, resultWords, isString, textPassed, passedOne, passedAll, operandsAfter, tagAfter, isOutside, atMost, faultsFrom};
@@ -121,10 +124,18 @@ fn is_string(s: &[u8]) -> bool
     text::utf8(s)
 }
 
-// A string of the log: it starts where the strings go on, and lies in them.
-fn pass_text(strings: &[u8], log_at: usize, strings_at: usize, start: u32, size: u32) -> Passed
+// A string of the log: it starts where the strings go on, and lies in them. Where they all are plain, so is it.
+fn pass_text(
+    plain: bool,
+    strings: &[u8],
+    log_at: usize,
+    strings_at: usize,
+    start: u32,
+    size: u32,
+) -> Passed
     requires { ⌜ «strings_at» ≤ length (now strings) ⌝ }
     requires { ⌜ «log_at» + 9 ≤ 18446744073709551615 ⌝ }
+    requires { ⌜ (plain ≡ true → isPlain (now strings) ≡ true) ⌝ }
     ensures { λ r. ⌜ r ≡ textPassed (now (strings .entry)) «log_at» «strings_at» start size ⌝ }
 {
     if (start as usize) != strings_at {
@@ -135,6 +146,9 @@ fn pass_text(strings: &[u8], log_at: usize, strings_at: usize, start: u32, size:
         return Passed::Broken;
     }
     let end = strings_at + n;
+    if plain {
+        return Passed::Past(log_at + 9, end, n / 4 + 1);
+    }
     if is_string(&strings[strings_at..end]) {
         return Passed::Past(log_at + 9, end, n / 4 + 1);
     }
@@ -142,8 +156,9 @@ fn pass_text(strings: &[u8], log_at: usize, strings_at: usize, start: u32, size:
 }
 
 // The operand at a place of the log.
-fn pass_operand(log: &[u8], strings: &[u8], log_at: usize, strings_at: usize) -> Passed
+fn pass_operand(plain: bool, log: &[u8], strings: &[u8], log_at: usize, strings_at: usize) -> Passed
     requires { ⌜ («log_at» ≤ length (now log)) × («strings_at» ≤ length (now strings)) ⌝ }
+    requires { ⌜ (plain ≡ true → isPlain (now strings) ≡ true) ⌝ }
     ensures { λ r. ⌜ r ≡ passedOne (takeOperand (leftAt (now (log .entry)) (now (strings .entry)) «log_at» «strings_at»)) ⌝ }
 {
     let left = log.len() - log_at;
@@ -169,13 +184,14 @@ fn pass_operand(log: &[u8], strings: &[u8], log_at: usize, strings_at: usize) ->
     if kind == 40 {
         let start = decoder::word_at(log, log_at + 1);
         let size = decoder::word_at(log, log_at + 5);
-        return pass_text(strings, log_at, strings_at, start, size);
+        return pass_text(plain, strings, log_at, strings_at, start, size);
     }
     Passed::Past(log_at + 9, strings_at, 2)
 }
 
 // So many operands from a place of the log on.
 fn pass_operands(
+    plain: bool,
     log: &[u8],
     strings: &[u8],
     count: usize,
@@ -183,6 +199,7 @@ fn pass_operands(
     strings_at: usize,
 ) -> Passed
     requires { ⌜ («log_at» ≤ length (now log)) × («strings_at» ≤ length (now strings)) ⌝ }
+    requires { ⌜ (plain ≡ true → isPlain (now strings) ≡ true) ⌝ }
     ensures { λ r. ⌜ r ≡ passedAll 0 (takeOperands count (leftAt (now (log .entry)) (now (strings .entry)) «log_at» «strings_at»)) ⌝ }
 {
     let mut a = log_at;
@@ -190,7 +207,7 @@ fn pass_operands(
     let mut words = 0;
     let mut passed = 0;
     while passed < count {
-        let step = pass_operand(log, strings, a, b);
+        let step = pass_operand(plain, log, strings, a, b);
         let Passed::Past(next_a, next_b, more) = step else {
             return Passed::Broken;
         };
@@ -221,15 +238,23 @@ fn result_words(f: Fields) -> usize
 }
 
 // A record's operands, which start where the log goes on, and its word count.
-fn operands_after(log: &[u8], strings: &[u8], log_at: usize, strings_at: usize, f: Fields) -> Passed
+fn operands_after(
+    plain: bool,
+    log: &[u8],
+    strings: &[u8],
+    log_at: usize,
+    strings_at: usize,
+    f: Fields,
+) -> Passed
     requires { ⌜ («log_at» ≤ length (now log)) × («strings_at» ≤ length (now strings)) ⌝ }
+    requires { ⌜ (plain ≡ true → isPlain (now strings) ≡ true) ⌝ }
     ensures { λ r. ⌜ r ≡ operandsAfter f (leftAt (now (log .entry)) (now (strings .entry)) «log_at» «strings_at») ⌝ }
 {
     if (f.start as usize) != log_at {
         return Passed::Broken;
     }
     let count = f.count as usize;
-    let passed = pass_operands(log, strings, count, log_at, strings_at);
+    let passed = pass_operands(plain, log, strings, count, log_at, strings_at);
     let Passed::Past(a, b, words) = passed else {
         return Passed::Broken;
     };
@@ -286,7 +311,7 @@ fn at_end(good: bool, index: usize) -> Checked
 }
 
 // One pass over the records: each is held to its fields and offset, its operands and its tag.
-fn check_within(
+fn first_fault(
     kinds: &[u8; 256],
     table: &[[u8; 3]; 19],
     whole: bool,
@@ -313,7 +338,7 @@ fn check_within(
         let Offset::Next(next_at) = offset_after(at, f) else {
             return Checked::Bad(i + 1);
         };
-        let Passed::Past(next_a, next_b, _) = operands_after(log, strings, a, b, f) else {
+        let Passed::Past(next_a, next_b, _) = operands_after(false, log, strings, a, b, f) else {
             return Checked::Bad(i + 1);
         };
         let Tagging::Next(next_s) = tag_after(kinds, table, s, f) else {
@@ -327,6 +352,95 @@ fn check_within(
     }
     let good = (a == log_count) & (b == string_count) & (!whole | is_outside(s));
     at_end(good, i + 1)
+}
+
+// The same pass where all strings are plain, and only whether it finds nothing: a loop without a look at single strings is short.
+fn finds_nothing(
+    kinds: &[u8; 256],
+    table: &[[u8; 3]; 19],
+    whole: bool,
+    instructions: &[u32],
+    log: &[u8],
+    strings: &[u8],
+    count: usize,
+    log_count: usize,
+    string_count: usize,
+) -> bool
+    requires { ⌜ (now table ≡ layoutTable) × (now kinds ≡ kindTable) ⌝ }
+    requires { ⌜ isPlain (now strings) ≡ true ⌝ }
+    ensures { λ r. ⌜ (r ≡ true → none ≡ faultsFrom whole «log_count» «string_count» 1 count 20 (leftAt (now (log .entry)) (now (strings .entry)) 0 0) State.Outside (recordsOf count (now (instructions .entry)))) ⌝ }
+{
+    if instructions.len() / RECORD < count {
+        return false;
+    }
+    let mut i = 0;
+    let mut at = 20;
+    let mut a = 0;
+    let mut b = 0;
+    let mut s = State::Outside;
+    while i < count {
+        let f = record_at(instructions, i);
+        let Tagging::Next(next_s) = tag_after(kinds, table, s, f) else {
+            return false;
+        };
+        let Offset::Next(next_at) = offset_after(at, f) else {
+            return false;
+        };
+        let passed = operands_after(true, log, strings, a, b, f);
+        let Passed::Past(next_a, next_b, _) = passed else {
+            return false;
+        };
+        at = next_at;
+        a = next_a;
+        b = next_b;
+        s = next_s;
+        i += 1;
+    }
+    (a == log_count) & (b == string_count) & (!whole | is_outside(s))
+}
+
+// The records with their part of log and strings: they are seldom bad, and strings seldom other than plain.
+fn check_within(
+    kinds: &[u8; 256],
+    table: &[[u8; 3]; 19],
+    whole: bool,
+    instructions: &[u32],
+    log: &[u8],
+    strings: &[u8],
+    count: usize,
+    log_count: usize,
+    string_count: usize,
+) -> Checked
+    requires { ⌜ (now table ≡ layoutTable) × (now kinds ≡ kindTable) ⌝ }
+    ensures { λ r. ⌜ checkedIs r ≡ faultsFrom whole «log_count» «string_count» 1 count 20 (leftAt (now (log .entry)) (now (strings .entry)) 0 0) State.Outside (recordsOf count (now (instructions .entry))) ⌝ }
+{
+    if text::is_plain(strings) {
+        let nothing = finds_nothing(
+            kinds,
+            table,
+            whole,
+            instructions,
+            log,
+            strings,
+            count,
+            log_count,
+            string_count,
+        );
+        if nothing {
+            return Checked::Good;
+        }
+    }
+    first_fault(
+        kinds,
+        table,
+        whole,
+        instructions,
+        log,
+        strings,
+        count,
+        log_count,
+        string_count,
+    )
 }
 
 // The lower of two numbers.

@@ -1,5 +1,5 @@
 -- Laws of plain bytes: how the loop over them goes, that none is zero, and that they are UTF-8.
-use Prim.Native.Nat.{ℕ, _+_, _<_, _≤_}
+use Prim.Native.Nat.{ℕ, zero, suc, _+_, _<_, _≤_}
 use mathlib.Core.Path.{_≡_, refl, ap, sym, subst, _∙_}
 use mathlib.Core.Bool.{Bool, true, false, not, _&&_}
 use mathlib.Core.List.{List, [], _∷_}
@@ -7,7 +7,7 @@ use mathlib.Core.Option.{Option, some}
 use native.Mathlib.Omega.{arith}
 use borrow.Author.Tests.{le-leb, ne-eqb}
 use lib.Dec.{T, leb, ltb, leb→le, ltb→lt, eqb}
-use lib.ListN.{length, drop, getD, drop-of-length-le}
+use lib.ListN.{length, take, drop, getD, drop-of-length-le}
 use mir.Facts.{and-yes}
 use Rattle.spec.specs.Base.{if_then_else_, every}
 use Rattle.spec.specs.Text.{Due, due, utf8Table, leadOf, dueAfter, onDue, utf8From, isUtf8}
@@ -72,6 +72,29 @@ well-formed [] h = refl
 well-formed (b ∷ s) h =
     let u = plain-cons b s h in
     ap (λ (o : Option Due). onDue o (λ d. utf8From d s)) (whole-byte b (u .1)) ∙ well-formed s (u .2)
+
+-- two tests that hold
+both : (t u : Bool) → T t → T u → T (t && u)
+both true u h g = g
+both false u h g = h
+
+-- those from a place on
+plain-drop : (n : ℕ) (s : List ℕ) → T (isPlain s) → T (isPlain (drop n s))
+plain-drop zero s h = h
+plain-drop (suc n) [] h = h
+plain-drop (suc n) (b ∷ s) h = plain-drop n s (plain-cons b s h .2)
+
+-- so many of them
+plain-take : (n : ℕ) (s : List ℕ) → T (isPlain s) → T (isPlain (take n s))
+unfolding isPlain
+plain-take zero s h = tt
+plain-take (suc n) [] h = h
+plain-take (suc n) (b ∷ s) h =
+    both (leb 1 b && ltb b 128) (isPlain (take n s)) (and-yes (leb 1 b && ltb b 128) (isPlain s) h .0) (plain-take n s (plain-cons b s h .2))
+
+-- a part of them is plain
+pub plain-part : (n k : ℕ) (s : List ℕ) → T (isPlain s) → T (isPlain (take n (drop k s)))
+plain-part n k s h = plain-take n (drop k s) (plain-drop k s h)
 
 -- bytes that are told to be plain are
 pub told-plain : (s : List ℕ) (t : Bool) → t ≡ isPlain s → t ≡ true → T (isPlain s)

@@ -37,7 +37,7 @@ add-if2 : tie.Need-add-if2
 add-if2 c = omega (arith, c .result-words .ensures, results-few (c .before .before .before .before .before .before .before .before .before .before .before .args .f))
 
 add-if2-2 : tie.Need-add-if2-2
-add-if2-2 c = omega (arith, c .result-words .ensures, results-few (c .before .before .before .before .before .before .before .before .before .before .before .args .f), passed-few _ _ _ _ _ (c .before .before .before .before .before .before .before .before .before .before .before .pre .0) (c .before .before .before .before .before .before .before .before .before .before .before .pre .1) _ (c .before .before .before .before .before .pass-operands .ensures) _ _ _ (c .before .before .before .passed .given .1))
+add-if2-2 c = omega (arith, c .result-words .ensures, results-few (c .before .before .before .before .before .before .before .before .before .before .before .args .f), passed-few _ _ _ _ _ (c .before .before .before .before .before .before .before .before .before .before .before .pre .0 .0) (c .before .before .before .before .before .before .before .before .before .before .before .pre .0 .1) _ (c .before .before .before .before .before .pass-operands .ensures) _ _ _ (c .before .before .before .passed .given .1))
 
 returns-3 : tie.Need-returns-3
 returns-3 c = after-right _ _ _ _ _ (c .before .before .before .before .before .before .before .before .if1 .left) _ (c .before .before .before .before .before .before .pass-operands .ensures) _ _ _ (c .before .before .before .before .passed .given .1) _ (c .before .result-words .ensures) (c .if2 .taken)

@@ -8,16 +8,16 @@ use Rattle.records.proofs.pass_operands.Statement.{statement}
 use Rattle.records.proofs.pass_operands.Tie as tie
 
 abbrev Inv-loop : tie.InvT-loop
-Inv-loop log strings count log-at strings-at a₀ b₀ words₀ passed₀ a b words passed = Passing log strings count log-at strings-at a b words passed
+Inv-loop plain log strings count log-at strings-at a₀ b₀ words₀ passed₀ a b words passed = Passing log strings count log-at strings-at a b words passed
 
 abbrev μ-loop : tie.MeasureT-loop
-μ-loop log strings count log-at strings-at a₀ b₀ words₀ passed₀ a b words passed = count - passed
+μ-loop plain log strings count log-at strings-at a₀ b₀ words₀ passed₀ a b words passed = count - passed
 
 loop-holds : tie.Need-loop-holds Inv-loop μ-loop
-loop-holds c = pass-starts _ _ _ _ _ (c .before .before .pre .0) (c .before .before .pre .1)
+loop-holds c = pass-starts _ _ _ _ _ (c .before .before .pre .0 .0) (c .before .before .pre .0 .1)
 
 pass-operand-requires : tie.Need-pass-operand-requires Inv-loop μ-loop
-pass-operand-requires c κs = (c .before .loop .inv .inLog, c .before .loop .inv .inStrings)
+pass-operand-requires c κs = ((c .before .loop .inv .inLog, c .before .loop .inv .inStrings), c .before .before .before .before .pre .1)
 
 enum-known-step : tie.Need-enum-known-step Inv-loop μ-loop
 enum-known-step c = search needs

@@ -1,6 +1,6 @@
 -- `records::pass_text` meets its contract: by each test in turn.
 -- Assumes nothing.
-use Rattle.records.proofs.Operands.{string-elsewhere, string-outside, string-bytes}
+use Rattle.records.proofs.Operands.{string-elsewhere, string-outside, string-plain, string-bytes}
 use mathlib.Core.Bool.{true, false}
 use borrow.Author.Needs.{needs}
 use Rattle.records.proofs.pass_text.Statement.{statement}
@@ -18,6 +18,15 @@ returns-2 c = string-outside _ _ _ _ _ (c .before .if1 .left) (c .if2 .taken)
 add-end : tie.Need-add-end
 add-end c = search needs
 
+add-t12 : tie.Need-add-t12
+add-t12 c = search needs
+
+add-t14 : tie.Need-add-t14
+add-t14 c = search needs
+
+returns-3 : tie.Need-returns-3
+returns-3 c = string-plain _ _ _ _ _ (c .before .before .if1 .left) (c .before .if2 .left) (c .before .before .before .before .pre .1 .1 (c .if3 .taken))
+
 sub-is-string : tie.Need-sub-is-string
 sub-is-string c = search needs
 
@@ -30,17 +39,17 @@ part-is-string-end c = search needs
 is-string-requires : tie.Need-is-string-requires
 is-string-requires c κs = search needs
 
-add-t15 : tie.Need-add-t15
-add-t15 c = search needs
+add-t19 : tie.Need-add-t19
+add-t19 c = search needs
 
-add-t17 : tie.Need-add-t17
-add-t17 c = search needs
-
-returns-3 : tie.Need-returns-3
-returns-3 c = string-bytes _ _ _ _ _ (c .before .before .before .before .if1 .left) (c .before .before .before .if2 .left) true _ (c .before .is-string .ensures) (c .if3 .taken)
+add-t21 : tie.Need-add-t21
+add-t21 c = search needs
 
 returns-4 : tie.Need-returns-4
-returns-4 c = string-bytes _ _ _ _ _ (c .before .before .before .before .if1 .left) (c .before .before .before .if2 .left) false _ (c .before .is-string .ensures) (c .if3 .left)
+returns-4 c = string-bytes _ _ _ _ _ (c .before .before .before .before .before .if1 .left) (c .before .before .before .before .if2 .left) true _ (c .before .is-string .ensures) (c .if4 .taken)
+
+returns-5 : tie.Need-returns-5
+returns-5 c = string-bytes _ _ _ _ _ (c .before .before .before .before .before .if1 .left) (c .before .before .before .before .if2 .left) false _ (c .before .is-string .ensures) (c .if4 .left)
 
 pub pass-text-spec : {M : Type 1} → statement M
 pass-text-spec =
@@ -50,11 +59,14 @@ pass-text-spec =
     sub-if2
     returns-2
     add-end
+    add-t12
+    add-t14
+    returns-3
     sub-is-string
     part-is-string-start
     part-is-string-end
     is-string-requires
-    add-t15
-    add-t17
-    returns-3
-    returns-4)
+    add-t19
+    add-t21
+    returns-4
+    returns-5)
