@@ -163,19 +163,20 @@ joined-append f [] ys = refl
 joined-append f (x ∷ xs) ys = ap (λ (z : List _). f x ++ z) (joined-append f xs ys) ∙ sym (append-assoc (f x) (joined f xs) (joined f ys))
 
 -- what a loop has done: the bytes of some operands, and those after them can be read
-pub record Putting (log strings : List ℕ) (n start : ℕ) (l₀ l : List ℕ) (i a at : ℕ) : Type 0 where
+pub record Putting (log strings : List ℕ) (n start : ℕ) (l₀ l : List ℕ) (from i a at : ℕ) : Type 0 where
   pub acc : List Operand
   pub left : ℕ
   pub split : operandsFrom n log strings start ≡ acc ++ operandsFrom left log strings a
   pub readable : AllReadable left log strings a
   pub counted : i + left ≡ n
-  pub place : at ≡ length (joined operandBytes acc)
-  pub stored : l ≡ sets l₀ 0 (joined operandBytes acc)
+  pub place : at ≡ from + length (joined operandBytes acc)
+  pub stored : l ≡ sets l₀ from (joined operandBytes acc)
 
 -- none at first
-pub putting-starts : (log strings : List ℕ) (n start : ℕ) (l : List ℕ) → AllReadable n log strings start → Putting log strings n start l l 0 start 0
-putting-starts log strings n start l r =
-    record { acc = []; left = n; split = refl; readable = r; counted = zero-add n; place = refl; stored = refl }
+pub putting-starts : (log strings : List ℕ) (n start : ℕ) (l : List ℕ) (from : ℕ) → AllReadable n log strings start
+    → Putting log strings n start l l from 0 start from
+putting-starts log strings n start l from r =
+    record { acc = []; left = n; split = refl; readable = r; counted = zero-add n; place = omega arith; stored = refl }
 
 -- what one turn needs and gives
 record Turned (log strings : List ℕ) (n start : ℕ) (acc : List Operand) (left a : ℕ) : Type 0 where
@@ -198,18 +199,18 @@ turned log strings n start acc (suc m) a h r e = record {
   split = e ∙ sym (append-assoc acc (operandAt log strings a ∷ []) (operandsFrom m log strings (operandAfter log a)));
 }
 
-module _ {log strings : List ℕ} {n start : ℕ} {l₀ l : List ℕ} {i a at : ℕ} (r : Putting log strings n start l₀ l i a at) where
+module _ {log strings : List ℕ} {n start : ℕ} {l₀ l : List ℕ} {from i a at : ℕ} (r : Putting log strings n start l₀ l from i a at) where
   -- no byte more or less
   pub putting-length : length l ≡ length l₀
-  putting-length = ap length (r .stored) ∙ length-sets l₀ 0 (joined operandBytes (r .acc))
+  putting-length = ap length (r .stored) ∙ length-sets l₀ from (joined operandBytes (r .acc))
 
   -- all are put
-  pub putting-ends : n ≤ i → l ≡ sets l₀ 0 (joined operandBytes (operandsFrom n log strings start))
+  pub putting-ends : n ≤ i → l ≡ sets l₀ from (joined operandBytes (operandsFrom n log strings start))
   unfolding operandsFrom
   putting-ends h =
       let z : r .left ≡ 0 = omega (arith, r .counted) in
       r .stored
-      ∙ ap (λ (os : List Operand). sets l₀ 0 (joined operandBytes os))
+      ∙ ap (λ (os : List Operand). sets l₀ from (joined operandBytes os))
       (sym (r .split ∙ ap (λ (k : ℕ). r .acc ++ operandsFrom k log strings a) z ∙ append-nil (r .acc)))
 
   module _ (h : i < n) where
@@ -227,13 +228,12 @@ module _ {log strings : List ℕ} {n start : ℕ} {l₀ l : List ℕ} {i a at : 
         ∙ ap (λ (z : List ℕ). joined operandBytes (r .acc) ++ z) (append-nil (operandBytes (operandAt log strings a)))
 
     -- how many they are
-    length-more : length (joined operandBytes (r .acc ++ (operandAt log strings a ∷ []))) ≡ at + length (operandBytes (operandAt log strings a))
+    length-more : from + length (joined operandBytes (r .acc ++ (operandAt log strings a ∷ []))) ≡ at + length (operandBytes (operandAt log strings a))
     length-more =
-        ap length more-bytes ∙ length-append (joined operandBytes (r .acc)) (operandBytes (operandAt log strings a))
-        ∙ ap (λ (k : ℕ). k + length (operandBytes (operandAt log strings a))) (sym (r .place))
+        omega (arith, r .place, ap length more-bytes ∙ length-append (joined operandBytes (r .acc)) (operandBytes (operandAt log strings a)))
 
     -- there is room for it
-    pub putting-room : length (joined operandBytes (operandsFrom n log strings start)) ≤ length l₀
+    pub putting-room : from + length (joined operandBytes (operandsFrom n log strings start)) ≤ length l₀
         → at + length (operandBytes (operandAt log strings a)) ≤ length l
     putting-room room =
         omega (
@@ -247,7 +247,7 @@ module _ {log strings : List ℕ} {n start : ℕ} {l₀ l : List ℕ} {i a at : 
 
     -- it is put
     pub putting-goes-on : (a' at' : ℕ) (l' : List ℕ) → a' ≡ operandAfter log a → at' ≡ at + length (operandBytes (operandAt log strings a))
-        → l' ≡ sets l at (operandBytes (operandAt log strings a)) → Putting log strings n start l₀ l' (i + 1) a' at'
+        → l' ≡ sets l at (operandBytes (operandAt log strings a)) → Putting log strings n start l₀ l' from (i + 1) a' at'
     putting-goes-on a' at' l' f e g = record {
       acc = r .acc ++ (operandAt log strings a ∷ []);
       left = next .less;
@@ -258,9 +258,9 @@ module _ {log strings : List ℕ} {n start : ℕ} {l₀ l : List ℕ} {i a at : 
       stored =
           g
           ∙ ap (λ (z : List ℕ). sets z at (operandBytes (operandAt log strings a))) (r .stored)
-          ∙ ap (λ (j : ℕ). sets (sets l₀ 0 (joined operandBytes (r .acc))) j (operandBytes (operandAt log strings a))) (r .place ∙ sym (zero-add (length (joined operandBytes (r .acc)))))
-          ∙ sets-append (joined operandBytes (r .acc)) (operandBytes (operandAt log strings a)) l₀ 0
-          ∙ ap (λ (z : List ℕ). sets l₀ 0 z) (sym more-bytes);
+          ∙ ap (λ (j : ℕ). sets (sets l₀ from (joined operandBytes (r .acc))) j (operandBytes (operandAt log strings a))) (r .place)
+          ∙ sets-append (joined operandBytes (r .acc)) (operandBytes (operandAt log strings a)) l₀ from
+          ∙ ap (λ (z : List ℕ). sets l₀ from z) (sym more-bytes);
     }
 
 -- what is lent of the rest has room
@@ -341,11 +341,11 @@ module _ (log strings l l₁ : List ℕ) (f : Fields) (s : Sound log strings f) 
   said-room h = omega (arith, said-length, operands-bytes (operandsFrom (f .count) log strings (f .start)), s .words)
 
   -- head and operands are put
-  pub said-put : (ys : List ℕ) → ys ≡ sets (midOf at (length l₁ - at) l₁) 0 (joined operandBytes (operandsFrom (f .count) log strings (f .start)))
-      → putMid at (length l₁ - at) l₁ ys ≡ sets l 0 (instrBytes (saidBy log strings f .instr))
-  said-put ys g =
+  pub said-put : (l₂ : List ℕ) → l₂ ≡ sets l₁ at (joined operandBytes (operandsFrom (f .count) log strings (f .start)))
+      → l₂ ≡ sets l 0 (instrBytes (saidBy log strings f .instr))
+  said-put l₂ g =
       let os = joined operandBytes (operandsFrom (f .count) log strings (f .start)) in
-      rest-back l₁ os ys at g
+      g
       ∙ ap (λ (z : List ℕ). sets z at os) e
       ∙ ap (λ (k : ℕ). sets (sets l 0 (headBytes f)) k os) (p ∙ sym (length-head f) ∙ sym (zero-add (length (headBytes f))))
       ∙ sets-append (headBytes f) os l 0

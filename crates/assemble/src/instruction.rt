@@ -93,15 +93,15 @@ fn put_next(log: &[u8], strings: &[u8], a: usize, out: &mut [u8], at: usize) -> 
     }
 }
 
-// So many operands from a place of the log on, one after the other.
-fn put_operands(log: &[u8], strings: &[u8], count: usize, start: usize, out: &mut [u8])
+// So many operands from a place of the log on, one after the other from a place of the output on.
+fn put_operands(log: &[u8], strings: &[u8], count: usize, start: usize, out: &mut [u8], from: usize)
     requires { ⌜ AllReadable count (now log) (now strings) start ⌝ }
-    requires { ⌜ length (joined operandBytes (operandsFrom count (now log) (now strings) start)) ≤ length (now out) ⌝ }
-    ensures { λ _. ⌜ now (out .exit) ≡ sets (now (out .entry)) 0 (joined operandBytes (operandsFrom count (now (log .entry)) (now (strings .entry)) start)) ⌝ }
+    requires { ⌜ from + length (joined operandBytes (operandsFrom count (now log) (now strings) start)) ≤ length (now out) ⌝ }
+    ensures { λ _. ⌜ now (out .exit) ≡ sets (now (out .entry)) from (joined operandBytes (operandsFrom count (now (log .entry)) (now (strings .entry)) start)) ⌝ }
 {
     let mut i = 0;
     let mut a = start;
-    let mut at = 0;
+    let mut at = from;
     while i < count {
         let next = put_next(log, strings, a, out, at);
         a = next.log;
@@ -148,5 +148,5 @@ pub fn put_instruction(log: &[u8], strings: &[u8], f: Fields, out: &mut [u8])
     let at = put_head(f, out);
     let count = f.count as usize;
     let start = f.start as usize;
-    put_operands(log, strings, count, start, &mut out[at..]);
+    put_operands(log, strings, count, start, out, at);
 }

@@ -1,7 +1,6 @@
 // Runs the table of fittings through both loads. Each module comes on standard input as a byte that is its length, then its bytes. A
 // line for each: its number in the table; number, offset, index and value; the header words; the counts; the four stores up to their
 // counts. Where the two loads differ, the line says so.
-ghost use mathlib.Core.Path.{_≡_};
 ghost use Prim.Native.Nat.{_+_, _≤_};
 ghost use lib.ListN.{length};
 ghost use Rattle.spec.specs.Load.{roomOf};

@@ -6,7 +6,6 @@ ghost use Rattle.spec.specs.Grammar.{items, slotsOf, parametersOf, rowOf, liste
 ghost use Rattle.spec.specs.Words.{bitsOf};
 ghost use Rattle.grammar.specs.Index.{marksOf, found, Indexed};
 ghost use Rattle.grammar.specs.Find.{Sure, placeFound, rowFound, parametersFound, slotsThen, slotBytes, parametersThen, parameterBytes, isListed, bitListed};
-use crate::index::Mark;
 use crate::index::guess_at;
 use crate::index::mark_at;
 use crate::index::mark_count;

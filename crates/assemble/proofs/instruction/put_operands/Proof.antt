@@ -7,13 +7,13 @@ use Rattle.assemble.proofs.instruction.put_operands.Statement.{statemen
 use Rattle.assemble.proofs.instruction.put_operands.Tie as tie
 
 abbrev Inv-loop : tie.InvT-loop
-Inv-loop log strings count start out₀ i₀ a₀ at₀ out i a at = Putting log strings count start out₀ out i a at
+Inv-loop log strings count start out₀ from i₀ a₀ at₀ out i a at = Putting log strings count start out₀ out from i a at
 
 abbrev μ-loop : tie.MeasureT-loop
-μ-loop log strings count start out₀ i₀ a₀ at₀ out i a at = count - i
+μ-loop log strings count start out₀ from i₀ a₀ at₀ out i a at = count - i
 
 loop-holds : tie.Need-loop-holds Inv-loop μ-loop
-loop-holds c = putting-starts _ _ _ _ _ (c .before .before .before .pre .0)
+loop-holds c = putting-starts _ _ _ _ _ _ (c .before .before .before .pre .0)
 
 put-next-requires : tie.Need-put-next-requires Inv-loop μ-loop
 put-next-requires c κs = (putting-here (c .before .before .loop .inv) (c .before .loop-test .taken), putting-room (c .before .before .loop .inv) (c .before .loop-test .taken) (c .before .before .before .before .before .before .pre .1))
