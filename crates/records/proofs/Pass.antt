@@ -7,7 +7,8 @@ use mathlib.Core.Option.{Option, none, some}
 use native.Mathlib.Nat.{zero-add}
 use native.Mathlib.Numerals.{add-one}
 use native.Mathlib.Omega.{arith}
-use lib.Dec.{eqb, eqb·zero-suc, eqb·suc-suc}
+use borrow.Author.Tests.{ne-eqb}
+use lib.Dec.{leb, eqb, eqb·zero-suc, eqb·suc-suc}
 use lib.ListN.{length, take, drop, length-drop}
 use lib.Seq.{drop-drop}
 use Rattle.spec.specs.declared.State.{State}
@@ -20,16 +21,17 @@ use Rattle.spec.specs.Records.{Operand, Placed, operandsSize, recordSize, field
 use Rattle.spec.specs.Layout.{layoutOf, endNumber}
 use Rattle.spec.specs.Check.{lower, recordsOf, missing, fieldsGood, fieldsFault, Left, Taken, short, taken, takeOperands, placedOf, wordsGood, Scan, endScan, addScan, onTaken, scanFrom, onTag, tagsFault, faultOf}
 use Rattle.records.specs.declared.Checked.{Checked}
-use Rattle.records.specs.declared.Checked.the-variants.{Bad}
+use Rattle.records.specs.declared.Checked.the-variants.{Good, Bad}
 use Rattle.records.specs.declared.Offset.{Offset}
 use Rattle.records.specs.declared.Offset.the-variants.{Broken as NoOffset, Next as NextOffset}
 use Rattle.records.specs.declared.Passed.{Passed}
 use Rattle.records.specs.declared.Passed.the-variants.{Broken as NotPassed, Past}
 use Rattle.records.specs.declared.Tagging.{Tagging}
 use Rattle.records.specs.declared.Tagging.the-variants.{Broken as NoTag, Next as NextState}
-use Rattle.records.specs.Steps.{given, checkedIs, endAnswer, atMost, leftAt, offsetAfter, passedRecord, operandsAfter, tagBy, tagAfter, isOutside, missingFrom, faultsFrom}
+use Rattle.records.specs.Steps.{given, checkedIs, endAnswer, atMost, leftAt, offsetAfter, passedRecord, operandsAfter, tagBy, tagAfter, isOutside, missingFrom, faultsFrom, isFree}
 use Rattle.records.proofs.Fields.{take-most}
 use Rattle.records.proofs.Operands.{has-yes, has-no, Within, Reached, past-same, past-not, all-within}
+use Rattle.records.proofs.Good.{records-said}
 use Rattle.records.proofs.Lowest.{lowest-1, lowest-2, lowest-3, lowest-4, both-ends, missing-late, fields-late, scan-late, tags-late}
 
 -- THE RECORDS
@@ -244,6 +246,45 @@ unfolding checkedIs endAnswer
 end-is true i = refl
 end-is false i = ap some (add-one i)
 
+-- no fault is a good answer
+pub free-good : (t : Bool) (x : Option ℕ) → t ≡ isFree x → t ≡ true → checkedIs Good ≡ x
+unfolding checkedIs isFree
+free-good t none e q = refl
+free-good t (some i) e q = let z : _≡_ {A = Bool} true false = sym q ∙ e in let k : _≡_ {A = ℕ} 0 1 = cc in absurd (omega arith)
+
+-- a bad answer is a fault
+pub bad-fault : (k : ℕ) (x : Option ℕ) → checkedIs (Bad k) ≡ x → false ≡ isFree x
+unfolding checkedIs isFree
+bad-fault k x e = ap isFree e
+
+-- one test decides
+free-by : (t : Bool) (i : ℕ) → t ≡ isFree (if t then none else some (suc i))
+unfolding isFree
+free-by true i = refl
+free-by false i = refl
+
+-- a fault is one or another
+either : (t : Bool) (i j : ℕ) → false ≡ isFree (if t then some i else some j)
+unfolding isFree
+either true i j = refl
+either false i j = refl
+
+-- a fault stays one beside others
+lower-fault : (i : ℕ) (x : Option ℕ) → false ≡ isFree (lower (some i) x)
+unfolding isFree
+lower-fault i none = refl
+lower-fault i (some j) = either (leb i j) i j
+
+-- the store has too few records
+pub check-few : (whole : Bool) (ws : List ℕ) (count lc sc : ℕ) (l : Left) (s : State) → length ws / recordSize < count
+    → false ≡ isFree (faultsFrom whole lc sc 1 count 20 l s (recordsOf count ws))
+unfolding faultsFrom missingFrom
+check-few whole ws count lc sc l s h =
+    let fs : List Fields = recordsOf count ws in
+    let more : Option ℕ = lower (fieldsFault 1 20 fs) (lower (scanFrom lc sc 1 l fs .fault) (tagsFault whole 1 s fs)) in
+    let e : eqb (length fs) count ≡ false = ne-eqb (length fs) count (λ q. omega (arith, records-said count ws q (count - 1) (omega arith) .1)) in
+    lower-fault (length fs + 1) more ∙ ap (λ (t : Bool). isFree (lower (if t then none else some (length fs + 1)) more)) (sym e)
+
 -- before the first
 pub check-starts : (whole : Bool) (ws log strings : List ℕ) (count lc sc : ℕ) → Checking whole ws log strings count lc sc 0 20 0 0 Outside
 check-starts whole ws log strings count lc sc =
@@ -333,10 +374,9 @@ module _ {whole : Bool} {ws log strings : List ℕ} {count lc sc i at a b : ℕ}
         ∙ ap (λ (x : Bool). if eqb a lc && eqb b sc && (not whole || x) then none else some (suc i)) (sym e)
         ∙ ap (λ (x : Bool). if x then none else some (suc i)) q)
 
-    -- they all say yes: there is no fault
-    pub check-nothing : (eqb a lc && eqb b sc && (not whole || o)) ≡ true
-        → none ≡ faultsFrom whole lc sc 1 count 20 (leftAt log strings 0 0) Outside (recordsOf count ws)
-    check-nothing q = ends true q
+    -- whether there is a fault
+    pub check-free : (eqb a lc && eqb b sc && (not whole || o)) ≡ isFree (faultsFrom whole lc sc 1 count 20 (leftAt log strings 0 0) Outside (recordsOf count ws))
+    check-free = free-by (eqb a lc && eqb b sc && (not whole || o)) i ∙ ap isFree (ends (eqb a lc && eqb b sc && (not whole || o)) refl)
 
     -- the answer
     pub check-ends : (x : Checked) → x ≡ endAnswer (eqb a lc && eqb b sc && (not whole || o)) (i + 1)

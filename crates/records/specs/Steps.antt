@@ -133,3 +133,8 @@ unfoldable pub faultsFrom : Bool → ℕ → ℕ → ℕ → ℕ → ℕ → Lef
 faultsFrom whole logCount stringCount index count at l s fs =
     lower (missingFrom index count fs)
     (lower (fieldsFault index at fs) (lower (scanFrom logCount stringCount index l fs .fault) (tagsFault whole index s fs)))
+
+-- free of faults
+unfoldable pub isFree : Option ℕ → Bool
+isFree none = true
+isFree (some i) = false

@@ -2,7 +2,6 @@
 // of checked records.
 ghost use mathlib.Core.Path.{_≡_};
 ghost use mathlib.Core.Bool.{true};
-ghost use mathlib.Core.Option.{none};
 ghost use Prim.Native.Nat.{_+_, _*_, _≤_};
 ghost use lib.ListN.{length, drop};
 ghost use lib.Seq.{sets};
@@ -10,7 +9,7 @@ ghost use Rattle.spec.specs.Records.{recordSize, fieldWords, fieldsAt};
 ghost use Rattle.text.specs.Plain.{isPlain};
 ghost use Rattle.reflect.specs.Column.{layoutTable, kindTable};
 ghost use Rattle.spec.specs.Check.{takeOperand, takeOperands, faultOf, recordsOf};
-ghost use Rattle.records.specs.Steps.{given, checkedIs, endAnswer, leftAt, fieldsHold, offsetAfter, wordIf, resultWords, isString, textPassed, passedOne, passedAll, operandsAfter, tagAfter, isOutside, atMost, faultsFrom};
+ghost use Rattle.records.specs.Steps.{given, checkedIs, endAnswer, leftAt, fieldsHold, offsetAfter, wordIf, resultWords, isString, textPassed, passedOne, passedAll, operandsAfter, tagAfter, isOutside, atMost, faultsFrom, isFree};
 ghost use Rattle.records.specs.Good.{Whole, Logged};
 use operand::Parts;
 use operand::is_two;
@@ -354,7 +353,7 @@ fn first_fault(
     at_end(good, i + 1)
 }
 
-// The same pass where all strings are plain, and only whether it finds nothing: a loop without a look at single strings is short.
+// Whether the same pass, where all strings are plain, finds nothing: a loop without a look at single strings is short.
 fn finds_nothing(
     kinds: &[u8; 256],
     table: &[[u8; 3]; 19],
@@ -368,7 +367,7 @@ fn finds_nothing(
 ) -> bool
     requires { ⌜ (now table ≡ layoutTable) × (now kinds ≡ kindTable) ⌝ }
     requires { ⌜ isPlain (now strings) ≡ true ⌝ }
-    ensures { λ r. ⌜ (r ≡ true → none ≡ faultsFrom whole «log_count» «string_count» 1 count 20 (leftAt (now (log .entry)) (now (strings .entry)) 0 0) State.Outside (recordsOf count (now (instructions .entry)))) ⌝ }
+    ensures { λ r. ⌜ r ≡ isFree (faultsFrom whole «log_count» «string_count» 1 count 20 (leftAt (now (log .entry)) (now (strings .entry)) 0 0) State.Outside (recordsOf count (now (instructions .entry)))) ⌝ }
 {
     if instructions.len() / RECORD < count {
         return false;

@@ -1,6 +1,6 @@
 -- `records::check_within` meets its contract: where the pass with plain strings finds nothing, there is no fault.
 -- Assumes nothing.
-use Rattle.records.specs.Steps.{checkedIs}
+use Rattle.records.proofs.Pass.{free-good}
 use mathlib.Core.Path.{sym, _∙_}
 use borrow.Author.Needs.{needs}
 use Rattle.records.proofs.check_within.Statement.{statement}
@@ -13,8 +13,7 @@ finds-nothing-requires : tie.Need-finds-nothing-requires
 finds-nothing-requires c κs = (c .before .before .before .before .before .pre, sym (c .before .is-plain .ensures) ∙ c .if1 .taken)
 
 returns : tie.Need-returns
-unfolding checkedIs
-returns c = c .before .finds-nothing .ensures (c .if2 .taken)
+returns c = free-good _ _ (c .before .finds-nothing .ensures) (c .if2 .taken)
 
 first-fault-requires : tie.Need-first-fault-requires
 first-fault-requires c κs = search needs

@@ -1,10 +1,9 @@
--- `records::finds_nothing` meets its contract: where the records are passed and the end is good, there is no fault.
+-- `records::finds_nothing` meets its contract: at a record that is bad there is a fault; behind the last the end decides.
 -- Assumes nothing.
-use Rattle.records.proofs.Pass.{Checking, check-starts, check-goes-on, check-nothing}
+use Rattle.records.proofs.Pass.{Checking, check-few, check-starts, check-fields, check-operands, check-tag, check-goes-on, check-free, bad-fault}
 use native.Mathlib.Omega.{arith}
 use borrow.Author.Needs.{needs}
-use Prim.Native.Nat.{ℕ, _-_}
-use mathlib.Core.Path.{_≡_}
+use Prim.Native.Nat.{_-_}
 use Rattle.records.proofs.finds_nothing.Statement.{statement}
 use Rattle.records.proofs.finds_nothing.Tie as tie
 
@@ -15,7 +14,7 @@ abbrev μ-loop : tie.MeasureT-loop
 μ-loop kinds table whole instructions log strings count log-count string-count i₀ at₀ a₀ b₀ s₀ i at a b s = count - i
 
 returns : tie.Need-returns Inv-loop μ-loop
-returns c = λ e. let z : _≡_ {A = ℕ} 0 1 = cc in absurd (omega arith)
+returns c = check-few _ _ _ _ _ _ _ (c .if1 .taken)
 
 loop-holds : tie.Need-loop-holds Inv-loop μ-loop
 loop-holds c = check-starts _ _ _ _ _ _ _
@@ -33,7 +32,7 @@ enum-told : tie.Need-enum-told Inv-loop μ-loop
 enum-told c = search needs
 
 returns-2 : tie.Need-returns-2 Inv-loop μ-loop
-returns-2 c = λ e. let z : _≡_ {A = ℕ} 0 1 = cc in absurd (omega arith)
+returns-2 c = bad-fault _ _ (check-tag (c .before .before .before .before .before .loop .inv) (c .before .before .before .before .loop-test .taken) (omega (arith, c .before .before .before .before .loop-test .taken, c .before .before .before .before .before .before .if1 .left)) _ (c .before .before .before .record-at .ensures) _ (c .before .before .tag-after .ensures) (c .enum-told .given .1))
 
 offset-after-requires : tie.Need-offset-after-requires Inv-loop μ-loop
 offset-after-requires c κs = search needs
@@ -45,7 +44,7 @@ enum-told-2 : tie.Need-enum-told-2 Inv-loop μ-loop
 enum-told-2 c = search needs
 
 returns-3 : tie.Need-returns-3 Inv-loop μ-loop
-returns-3 c = λ e. let z : _≡_ {A = ℕ} 0 1 = cc in absurd (omega arith)
+returns-3 c = bad-fault _ _ (check-fields (c .before .before .before .before .before .before .before .before .before .loop .inv) (c .before .before .before .before .before .before .before .before .loop-test .taken) (omega (arith, c .before .before .before .before .before .before .before .before .loop-test .taken, c .before .before .before .before .before .before .before .before .before .before .if1 .left)) _ (c .before .before .before .before .before .before .before .record-at .ensures) _ (c .before .before .offset-after .ensures) (c .enum-told2 .given .1))
 
 operands-after-requires : tie.Need-operands-after-requires Inv-loop μ-loop
 operands-after-requires c κs = ((c .before .before .before .before .before .before .before .before .before .before .loop .inv .inLog, c .before .before .before .before .before .before .before .before .before .before .loop .inv .inStrings), λ _. c .before .before .before .before .before .before .before .before .before .before .before .before .before .before .before .pre .1)
@@ -57,7 +56,7 @@ enum-told-3 : tie.Need-enum-told-3 Inv-loop μ-loop
 enum-told-3 c = search needs
 
 returns-4 : tie.Need-returns-4 Inv-loop μ-loop
-returns-4 c = λ e. let z : _≡_ {A = ℕ} 0 1 = cc in absurd (omega arith)
+returns-4 c = bad-fault _ _ (check-operands (c .before .before .before .before .before .before .before .before .before .before .before .before .before .loop .inv) (c .before .before .before .before .before .before .before .before .before .before .before .before .loop-test .taken) (omega (arith, c .before .before .before .before .before .before .before .before .before .before .before .before .loop-test .taken, c .before .before .before .before .before .before .before .before .before .before .before .before .before .before .if1 .left)) _ (c .before .before .before .before .before .before .before .before .before .before .before .record-at .ensures) _ (c .before .before .operands-after .ensures) (c .enum-told3 .given .1))
 
 add-i : tie.Need-add-i Inv-loop μ-loop
 add-i c = omega (arith, c .before .before .before .before .before .before .before .before .before .before .before .before .before .loop-test .taken, c .before .before .before .before .before .before .before .before .before .before .before .before .before .before .before .before .before .before .before .fits .count)
@@ -72,7 +71,7 @@ is-outside-requires : tie.Need-is-outside-requires Inv-loop μ-loop
 is-outside-requires c κs = search needs
 
 returns-5 : tie.Need-returns-5 Inv-loop μ-loop
-returns-5 c = check-nothing (c .before .before .loop .inv) (c .before .loop-test .left) _ (c .is-outside .ensures)
+returns-5 c = check-free (c .before .before .loop .inv) (c .before .loop-test .left) _ (c .is-outside .ensures)
 
 pub finds-nothing-spec : {M : Type 1} → statement M
 finds-nothing-spec =
