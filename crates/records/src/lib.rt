@@ -398,50 +398,6 @@ fn finds_nothing(
     (a == log_count) & (b == string_count) & (!whole | is_outside(s))
 }
 
-// The records with their part of log and strings: they are seldom bad, and strings seldom other than plain.
-fn check_within(
-    kinds: &[u8; 256],
-    table: &[[u8; 3]; 19],
-    whole: bool,
-    instructions: &[u32],
-    log: &[u8],
-    strings: &[u8],
-    count: usize,
-    log_count: usize,
-    string_count: usize,
-) -> Checked
-    requires { ⌜ (now table ≡ layoutTable) × (now kinds ≡ kindTable) ⌝ }
-    ensures { λ r. ⌜ checkedIs r ≡ faultsFrom whole «log_count» «string_count» 1 count 20 (leftAt (now (log .entry)) (now (strings .entry)) 0 0) State.Outside (recordsOf count (now (instructions .entry))) ⌝ }
-{
-    if text::is_plain(strings) {
-        let nothing = finds_nothing(
-            kinds,
-            table,
-            whole,
-            instructions,
-            log,
-            strings,
-            count,
-            log_count,
-            string_count,
-        );
-        if nothing {
-            return Checked::Good;
-        }
-    }
-    first_fault(
-        kinds,
-        table,
-        whole,
-        instructions,
-        log,
-        strings,
-        count,
-        log_count,
-        string_count,
-    )
-}
-
 // The lower of two numbers.
 fn at_most(a: usize, b: usize) -> usize
     ensures { λ r. ⌜ r ≡ atMost a b ⌝ }
@@ -452,7 +408,8 @@ fn at_most(a: usize, b: usize) -> usize
     b
 }
 
-// Whether given records keep the store layout, and in module order (whole) end outside functions.
+// Whether given records keep the store layout, and in module order (whole) end outside functions. They are seldom bad, and their strings
+// seldom other than plain.
 pub fn check(
     whole: bool,
     instructions: &[u32],
@@ -468,13 +425,31 @@ pub fn check(
     let strings_end = at_most(string_count, strings.len());
     let kinds = reflect::kinds();
     let table = reflect::table();
-    check_within(
+    let log = &log[..log_end];
+    let strings = &strings[..strings_end];
+    if text::is_plain(strings) {
+        let nothing = finds_nothing(
+            &kinds,
+            &table,
+            whole,
+            instructions,
+            log,
+            strings,
+            count,
+            log_count,
+            string_count,
+        );
+        if nothing {
+            return Checked::Good;
+        }
+    }
+    first_fault(
         &kinds,
         &table,
         whole,
         instructions,
-        &log[..log_end],
-        &strings[..strings_end],
+        log,
+        strings,
         count,
         log_count,
         string_count,

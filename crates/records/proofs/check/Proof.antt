@@ -1,6 +1,8 @@
--- `records::check` meets its contract: log and strings up to their counts are what the definition takes.
+-- `records::check` meets its contract: log and strings up to their counts are what the definition takes; where the pass with plain strings
+-- finds nothing, there is no fault.
 -- Assumes nothing.
-use Rattle.records.proofs.Pass.{check-whole}
+use mathlib.Core.Path.{sym, _∙_}
+use Rattle.records.proofs.Pass.{free-good, check-whole}
 use Rattle.records.proofs.Fields.{most-length}
 use borrow.Author.Needs.{needs}
 use Rattle.records.proofs.check.Statement.{statement}
@@ -18,17 +20,26 @@ kinds-requires c κs = search needs
 table-requires : tie.Need-table-requires
 table-requires c κs = search needs
 
-slice-aggregate-check-within : tie.Need-slice-aggregate-check-within
-slice-aggregate-check-within c = most-length _ _ (c .before .before .before .before .before .before .before .before .before .before .args .log .now) (c .before .before .before .before .before .before .at-most .ensures)
+slice-aggregate-log : tie.Need-slice-aggregate-log
+slice-aggregate-log c = most-length _ _ (c .before .before .before .before .before .before .before .before .args .log .now) (c .before .before .before .before .at-most .ensures)
 
-slice-aggregate-check-within-2 : tie.Need-slice-aggregate-check-within-2
-slice-aggregate-check-within-2 c = most-length _ _ (c .before .before .before .before .before .before .before .before .before .before .before .args .strings .now) (c .before .before .before .before .before .before .at-most2 .ensures)
+slice-aggregate-strings : tie.Need-slice-aggregate-strings
+slice-aggregate-strings c = most-length _ _ (c .before .before .before .before .before .before .before .before .before .args .strings .now) (c .before .before .before .before .at-most2 .ensures)
 
-check-within-requires : tie.Need-check-within-requires
-check-within-requires c κs = (c .before .before .before .before .table .ensures, c .before .before .before .before .before .kinds .ensures)
+is-plain-requires : tie.Need-is-plain-requires
+is-plain-requires c κs = search needs
+
+finds-nothing-requires : tie.Need-finds-nothing-requires
+finds-nothing-requires c κs = ((c .before .before .before .before .before .before .table .ensures, c .before .before .before .before .before .before .before .kinds .ensures), sym (c .before .before .before .is-plain .ensures) ∙ c .before .before .if1 .taken)
 
 returns : tie.Need-returns
-returns c = check-whole _ _ _ _ _ _ _ (c .before .before .before .before .before .before .before .before .at-most .result) (c .before .before .before .before .before .before .before .at-most2 .result) (c .before .before .before .before .before .before .before .before .at-most .ensures) (c .before .before .before .before .before .before .before .at-most2 .ensures) _ (c .check-within .ensures)
+returns c = check-whole _ _ _ _ _ _ _ (c .before .before .before .before .before .before .before .before .before .before .before .at-most .result) (c .before .before .before .before .before .before .before .before .before .before .at-most2 .result) (c .before .before .before .before .before .before .before .before .before .before .before .at-most .ensures) (c .before .before .before .before .before .before .before .before .before .before .at-most2 .ensures) _ (free-good _ _ (c .before .finds-nothing .ensures) (c .if2 .taken))
+
+first-fault-requires : tie.Need-first-fault-requires
+first-fault-requires c κs = search needs
+
+returns-2 : tie.Need-returns-2
+returns-2 c = check-whole _ _ _ _ _ _ _ (c .before .before .before .before .before .before .before .before .before .before .at-most .result) (c .before .before .before .before .before .before .before .before .before .at-most2 .result) (c .before .before .before .before .before .before .before .before .before .before .at-most .ensures) (c .before .before .before .before .before .before .before .before .before .at-most2 .ensures) _ (c .first-fault .ensures)
 
 pub check-spec : {M : Type 1} → statement M
 check-spec =
@@ -38,7 +49,10 @@ check-spec =
     at-most-requires-2
     kinds-requires
     table-requires
-    slice-aggregate-check-within
-    slice-aggregate-check-within-2
-    check-within-requires
-    returns)
+    slice-aggregate-log
+    slice-aggregate-strings
+    is-plain-requires
+    finds-nothing-requires
+    returns
+    first-fault-requires
+    returns-2)
