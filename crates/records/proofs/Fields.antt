@@ -1,6 +1,6 @@
 -- Laws of a record's words, and of the steps of the check over fields and tags.
 use Prim.Native.Nat.{ℕ, _+_, _*_, _%_, _<_, _≤_}
-use mathlib.Core.Path.{_≡_, refl, ap, sym, _∙_}
+use mathlib.Core.Path.{_≡_, refl, ap, sym, _∙_, subst}
 use mathlib.Core.Bool.{Bool, true, false, not, _&&_}
 use mathlib.Core.List.{List, [], _∷_}
 use mathlib.Core.Option.{Option, none, some}
@@ -155,3 +155,23 @@ few-by n m false e = omega arith
 pub most-length : (k n : ℕ) (l : List ℕ) → k ≡ atMost n (length l) → k ≡ length (take k l)
 unfolding atMost
 most-length k n l e = let h : atMost n (length l) ≤ length l = few-by n (length l) (leb n (length l)) refl in sym (length-take-le k l (omega (arith, e, h)))
+
+-- what is below the lower number
+below-by : (a b i : ℕ) (t : Bool) → leb a b ≡ t → i < (if t then a else b) → (i < a) × (i < b)
+below-by a b i true e h = (h, omega (arith, leb-true a b e))
+below-by a b i false e h = (omega (arith, leb-false a b e), h)
+
+-- what is not, but is below the first
+above-by : (a b i : ℕ) (t : Bool) → leb a b ≡ t → (if t then a else b) ≤ i → i < a → b ≤ i
+above-by a b i true e h g = absurd (omega arith)
+above-by a b i false e h g = h
+
+-- below the lower of two numbers
+pub most-below : (k a b i : ℕ) → k ≡ atMost a b → i < k → (i < a) × (i < b)
+unfolding atMost
+most-below k a b i e h = below-by a b i (leb a b) refl (subst (λ (n : ℕ). i < n) e h)
+
+-- not below it, but below the first
+pub most-above : (k a b i : ℕ) → k ≡ atMost a b → k ≤ i → i < a → b ≤ i
+unfolding atMost
+most-above k a b i e h g = above-by a b i (leb a b) refl (subst (λ (n : ℕ). n ≤ i) e h) g

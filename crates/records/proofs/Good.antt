@@ -364,7 +364,7 @@ records-if true n f fs e = (refl, omega (arith, e))
 records-if false n f fs e = absurd (omega (arith, e))
 
 -- each record of those asked for, where none is missing
-pub records-said : (n : ℕ) (ws : List ℕ) → length (recordsOf n ws) ≡ n → (k : ℕ) → k < n
+records-said : (n : ℕ) (ws : List ℕ) → length (recordsOf n ws) ≡ n → (k : ℕ) → k < n
     → (drop k (recordsOf n ws) ≡ fieldsAt (drop (recordSize * k) ws) ∷ drop (suc k) (recordsOf n ws)) × (recordSize * k + recordSize ≤ length ws)
 unfolding recordsOf
 records-said zero ws e k h = absurd (omega arith)

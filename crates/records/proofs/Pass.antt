@@ -7,8 +7,7 @@ use mathlib.Core.Option.{Option, none, some}
 use native.Mathlib.Nat.{zero-add}
 use native.Mathlib.Numerals.{add-one}
 use native.Mathlib.Omega.{arith}
-use borrow.Author.Tests.{ne-eqb}
-use lib.Dec.{leb, eqb, eqb·zero-suc, eqb·suc-suc}
+use lib.Dec.{eqb, eqb·zero-suc, eqb·suc-suc}
 use lib.ListN.{length, take, drop, length-drop}
 use lib.Seq.{drop-drop}
 use Rattle.spec.specs.declared.State.{State}
@@ -31,7 +30,6 @@ use Rattle.records.specs.declared.Tagging.the-variants.{Broken as NoTag,
 use Rattle.records.specs.Steps.{given, checkedIs, endAnswer, atMost, leftAt, offsetAfter, passedRecord, operandsAfter, tagBy, tagAfter, isOutside, missingFrom, faultsFrom, isFree}
 use Rattle.records.proofs.Fields.{take-most}
 use Rattle.records.proofs.Operands.{has-yes, has-no, Within, Reached, past-same, past-not, all-within}
-use Rattle.records.proofs.Good.{records-said}
 use Rattle.records.proofs.Lowest.{lowest-1, lowest-2, lowest-3, lowest-4, both-ends, missing-late, fields-late, scan-late, tags-late}
 
 -- THE RECORDS
@@ -262,28 +260,6 @@ free-by : (t : Bool) (i : ℕ) → t ≡ isFree (if t then none else some (suc i
 unfolding isFree
 free-by true i = refl
 free-by false i = refl
-
--- a fault is one or another
-either : (t : Bool) (i j : ℕ) → false ≡ isFree (if t then some i else some j)
-unfolding isFree
-either true i j = refl
-either false i j = refl
-
--- a fault stays one beside others
-lower-fault : (i : ℕ) (x : Option ℕ) → false ≡ isFree (lower (some i) x)
-unfolding isFree
-lower-fault i none = refl
-lower-fault i (some j) = either (leb i j) i j
-
--- the store has too few records
-pub check-few : (whole : Bool) (ws : List ℕ) (count lc sc : ℕ) (l : Left) (s : State) → length ws / recordSize < count
-    → false ≡ isFree (faultsFrom whole lc sc 1 count 20 l s (recordsOf count ws))
-unfolding faultsFrom missingFrom
-check-few whole ws count lc sc l s h =
-    let fs : List Fields = recordsOf count ws in
-    let more : Option ℕ = lower (fieldsFault 1 20 fs) (lower (scanFrom lc sc 1 l fs .fault) (tagsFault whole 1 s fs)) in
-    let e : eqb (length fs) count ≡ false = ne-eqb (length fs) count (λ q. omega (arith, records-said count ws q (count - 1) (omega arith) .1)) in
-    lower-fault (length fs + 1) more ∙ ap (λ (t : Bool). isFree (lower (if t then none else some (length fs + 1)) more)) (sym e)
 
 -- before the first
 pub check-starts : (whole : Bool) (ws log strings : List ℕ) (count lc sc : ℕ) → Checking whole ws log strings count lc sc 0 20 0 0 Outside

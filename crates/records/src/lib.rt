@@ -369,15 +369,13 @@ fn finds_nothing(
     requires { ⌜ isPlain (now strings) ≡ true ⌝ }
     ensures { λ r. ⌜ r ≡ isFree (faultsFrom whole «log_count» «string_count» 1 count 20 (leftAt (now (log .entry)) (now (strings .entry)) 0 0) State.Outside (recordsOf count (now (instructions .entry)))) ⌝ }
 {
-    if instructions.len() / RECORD < count {
-        return false;
-    }
+    let most = at_most(count, instructions.len() / RECORD);
     let mut i = 0;
     let mut at = 20;
     let mut a = 0;
     let mut b = 0;
     let mut s = State::Outside;
-    while i < count {
+    while i < most {
         let f = record_at(instructions, i);
         let Tagging::Next(next_s) = tag_after(kinds, table, s, f) else {
             return false;
@@ -394,6 +392,9 @@ fn finds_nothing(
         b = next_b;
         s = next_s;
         i += 1;
+    }
+    if i < count {
+        return false;
     }
     (a == log_count) & (b == string_count) & (!whole | is_outside(s))
 }
