@@ -20,6 +20,10 @@
 extern "C" {
 #endif
 
+/* The version of this header. It changes whenever the layout of a store or an answer changes, or what a call takes. A program compares it
+ * with kollafrin_version() before any other call: where they differ, this header is not that of the library. */
+#define KOLLAFRIN_VERSION 1
+
 /* The numbers that the functions return. The offset of a load's answer is where each is found; where nothing is said of offset or
  * value, they are 0. "Its instruction" is where the instruction starts. */
 enum kollafrin_number {
@@ -69,6 +73,9 @@ enum kollafrin_load_word {
     KOLLAFRIN_LOAD_TYPES = 7,        /* How many type entries, of three words each. */
     KOLLAFRIN_LOAD_HEADER = 8        /* Words 8 to 12: the five header words; 0 after 1, 2, 3, 24 and 31. */
 };
+
+/* The version of the library, which is KOLLAFRIN_VERSION of its header. */
+uint32_t kollafrin_version(void);
 
 /* The length of the built-in grammar in bytes. Its bytes are put at the start of `out` where they fit; else `out` is unchanged. */
 size_t kollafrin_builtin(uint8_t *out, size_t out_length);

@@ -6,7 +6,8 @@
  *     cc -std=c99 -O2 -Iinclude examples/c/roundtrip.c -Ltarget/staticlib -lkollafrin -o target/roundtrip
  *     target/roundtrip in.spv out.spv
  *
- * The exit status is 0 for a module that is accepted and written, 1 for one that is refused, 2 where a file or memory lacks.
+ * The exit status is 0 for a module that is accepted and written, 1 for one that is refused, 2 where a file or memory lacks or the
+ * library has another version than the header.
  */
 #include "kollafrin.h"
 
@@ -60,6 +61,10 @@ int main(int argc, char **argv) {
 
     if (argc != 3) {
         fputs("roundtrip IN OUT\n", stderr);
+        return 2;
+    }
+    if (kollafrin_version() != KOLLAFRIN_VERSION) {
+        fprintf(stderr, "the library has version %u, its header %u\n", (unsigned)kollafrin_version(), (unsigned)KOLLAFRIN_VERSION);
         return 2;
     }
     module = contents(argv[1], &length);

@@ -1,4 +1,4 @@
-//! The library's six functions. Every lent store is filled with a pattern first, so that what a call leaves alone can be seen.
+//! The library's functions. Every lent store is filled with a pattern first, so that what a call leaves alone can be seen.
 
 use compare::reading::Stores;
 
@@ -152,6 +152,11 @@ pub fn standing(s: &Stores) -> Written {
         )
     };
     Written { returned, answer, out: vec![] }
+}
+
+/// Whether the library has the version that it is declared with here.
+pub fn same_version() -> bool {
+    unsafe { c::kollafrin_version() == c::VERSION }
 }
 
 /// The length said of the built-in grammar, and an output of that many bytes after the call.

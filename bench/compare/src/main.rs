@@ -67,9 +67,12 @@ fn modules_in(folder: &Path, into: &mut Vec<Vec<u8>>) {
     }
 }
 
-/// The built-in grammar: the library's bytes, the reading's, and what the crate looks up.
+/// The library's version; the built-in grammar: the library's bytes, the reading's, and what the crate looks up.
 fn tables(grammar: &Grammar) -> Vec<String> {
     let mut wrong = vec![];
+    if !library::same_version() {
+        wrong.push("the library's version".to_string());
+    }
     let (length, bytes) = library::builtin(GRAMMAR.len() + 3);
     let past: Vec<u8> = (GRAMMAR.len()..GRAMMAR.len() + 3).map(library::byte_before).collect();
     if length != GRAMMAR.len() || bytes[..GRAMMAR.len()] != *GRAMMAR || bytes[GRAMMAR.len()..] != past {

@@ -1,4 +1,4 @@
-//! Five of the library's functions, on stores that are lent again and again and never cleared in between.
+//! Functions of the library, on stores that are lent again and again and never cleared in between.
 
 #[path = "../../../bindings/rust/src/c.rs"]
 #[allow(dead_code)]
@@ -93,6 +93,11 @@ impl Stores {
         };
         (number, answer[2] as usize)
     }
+}
+
+/// Whether the library has the version that it is declared with here.
+pub fn same_version() -> bool {
+    unsafe { c::kollafrin_version() == c::VERSION }
 }
 
 /// The built-in grammar's bytes.

@@ -362,6 +362,7 @@ fn counts(files: &[String]) {
 }
 
 fn main() {
+    assert!(library::same_version(), "the library has another version than its declarations");
     let args: Vec<String> = env::args().skip(1).collect();
     let read = |file: &str| fs::read(file).unwrap_or_else(|e| panic!("{file}: {e}"));
     match args.iter().map(String::as_str).collect::<Vec<_>>()[..] {

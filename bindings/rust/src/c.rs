@@ -1,7 +1,11 @@
-//! The six functions of the library as its header has them (include/kollafrin.h). Declared here alone: the drivers under bench take
-//! this file over by its path.
+//! The functions of the library and their version as its header has them (include/kollafrin.h). Declared here alone: the drivers under
+//! bench take this file over by its path.
+
+/// KOLLAFRIN_VERSION: what `kollafrin_version` says of a library that these declarations fit.
+pub const VERSION: u32 = 1;
 
 extern "C" {
+    pub fn kollafrin_version() -> u32;
     pub fn kollafrin_builtin(out: *mut u8, out_length: usize) -> usize;
     pub fn kollafrin_load(
         module: *const u8,

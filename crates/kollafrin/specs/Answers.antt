@@ -9,6 +9,10 @@ use Rattle.spec.specs.declared.Stands.{Stands}
 use Rattle.spec.specs.Base.{if_then_else_}
 use Rattle.spec.specs.Load.{laidOver}
 
+-- the version of the layouts and calls, raised whenever the layout of a store or an answer, or what a call takes, changes
+unfoldable pub version : ℕ
+version = 1
+
 -- number, offset, index, value; counts of instructions, log bytes, string bytes, type entries; five header words; three zeros
 unfoldable pub loadAnswer : Loaded → List ℕ
 loadAnswer x =

@@ -15,10 +15,13 @@ ghost use Rattle.spec.specs.Write.{writeParse, writeModule, standing as standin
 ghost use Rattle.records.specs.Steps.{given};
 ghost use Rattle.loader.specs.Loading.{loading};
 ghost use Rattle.demands.proofs.Bounds.{Small};
-ghost use Rattle.kollafrin.specs.Answers.{loadAnswer, writeAnswer, standAnswer, laidIn};
+ghost use Rattle.kollafrin.specs.Answers.{version, loadAnswer, writeAnswer, standAnswer, laidIn};
 use spec::Loaded;
 use spec::Stands;
 use spec::Written;
+
+// The version of the layouts and calls: KOLLAFRIN_VERSION of the header.
+const VERSION: u32 = 1;
 
 // A load's answer into words.
 fn say_loaded(x: Loaded, answer: &mut [u32; 16]) -> u32
@@ -91,6 +94,14 @@ fn put_where_fits(bytes: &[u8], out: &mut [u8]) -> usize
         operand::put_bytes(out, 0, bytes);
     }
     bytes.len()
+}
+
+// The version, for a caller to compare with that of the header it was compiled with.
+#[no_mangle]
+pub extern "C" fn kollafrin_version() -> u32
+    ensures { λ r. ⌜ r ≡ version ⌝ }
+{
+    VERSION
 }
 
 // The length of the built-in grammar; its bytes go to the start of `out` where they fit, else `out` stays.

@@ -45,6 +45,7 @@ use Rattle.assemble.proofs.write_parse_order as parse-call
 use Rattle.assemble.proofs.write_module_order as module-call
 use Rattle.assemble.proofs.standing as standing-call
 use Rattle.round_trip.proofs.round_trip as round-trip-call
+use Rattle.kollafrin.proofs.kollafrin_version as door-version-call
 use Rattle.kollafrin.proofs.kollafrin_builtin as door-builtin-call
 use Rattle.kollafrin.proofs.kollafrin_load as door-load-call
 use Rattle.kollafrin.proofs.kollafrin_load_builtin as door-load-builtin-call
@@ -263,6 +264,11 @@ round-trip =
     }
 
 -- THE DOOR FOR OTHER LANGUAGES
+
+-- the version of the layouts and calls
+pub door-version :
+    Offered door-version-call.Kinds.ps door-version-call.Kinds.r door-version-call.Reads.Asked door-version-call.Reads.Learnt
+door-version = record { free = λ κs a. tt; one = λ κs a x y after other p q. (both p q, refl) }
 
 -- the built-in grammar's length, and its bytes in the output where they fit
 pub door-builtin :
