@@ -1,13 +1,28 @@
-//! The six functions of the library, on slices. A slice passes as its pointer and its length, a reference to an array as its
-//! pointer.
+//! The functions of the library, on slices. A slice passes as its pointer and its length, a reference to an array as its pointer.
+//! No function is called of a library with another version than the declarations here: each asks for the version first, which costs
+//! less than to remember it.
 
-use crate::{c, Module};
+use crate::{c, Error, Module};
 
 // Safety of every call below: each pointer comes from a live slice or array with its own length, the written ones are
 // borrowed mutably, so that no two overlap, and the library reads and writes nothing else and keeps no pointer.
 
-pub fn builtin(out: &mut [u8]) -> usize {
-    unsafe { c::kollafrin_builtin(out.as_mut_ptr(), out.len()) }
+/// An error where a library has another version than the declarations.
+fn fits(version: u32) -> Result<(), Error> {
+    if version == c::VERSION {
+        Ok(())
+    } else {
+        Err(Error::Version(version))
+    }
+}
+
+fn same_version() -> Result<(), Error> {
+    fits(unsafe { c::kollafrin_version() })
+}
+
+pub fn builtin(out: &mut [u8]) -> Result<usize, Error> {
+    same_version()?;
+    Ok(unsafe { c::kollafrin_builtin(out.as_mut_ptr(), out.len()) })
 }
 
 pub fn load(
@@ -18,8 +33,9 @@ pub fn load(
     strings: &mut [u8],
     types: &mut [u32],
     answer: &mut [u32; 16],
-) -> u32 {
-    unsafe {
+) -> Result<u32, Error> {
+    same_version()?;
+    Ok(unsafe {
         c::kollafrin_load(
             module.as_ptr(),
             module.len(),
@@ -35,7 +51,7 @@ pub fn load(
             types.len(),
             answer,
         )
-    }
+    })
 }
 
 pub fn load_builtin(
@@ -45,8 +61,9 @@ pub fn load_builtin(
     strings: &mut [u8],
     types: &mut [u32],
     answer: &mut [u32; 16],
-) -> u32 {
-    unsafe {
+) -> Result<u32, Error> {
+    same_version()?;
+    Ok(unsafe {
         c::kollafrin_load_builtin(
             module.as_ptr(),
             module.len(),
@@ -60,11 +77,12 @@ pub fn load_builtin(
             types.len(),
             answer,
         )
-    }
+    })
 }
 
-pub fn write_parse_order(module: &Module, out: &mut [u8], answer: &mut [u32; 4]) -> u32 {
-    unsafe {
+pub fn write_parse_order(module: &Module, out: &mut [u8], answer: &mut [u32; 4]) -> Result<u32, Error> {
+    same_version()?;
+    Ok(unsafe {
         c::kollafrin_write_parse_order(
             &module.header,
             module.instructions.as_ptr(),
@@ -80,11 +98,12 @@ pub fn write_parse_order(module: &Module, out: &mut [u8], answer: &mut [u32; 4])
             out.len(),
             answer,
         )
-    }
+    })
 }
 
-pub fn write_module_order(module: &Module, out: &mut [u8], answer: &mut [u32; 4]) -> u32 {
-    unsafe {
+pub fn write_module_order(module: &Module, out: &mut [u8], answer: &mut [u32; 4]) -> Result<u32, Error> {
+    same_version()?;
+    Ok(unsafe {
         c::kollafrin_write_module_order(
             &module.header,
             module.instructions.as_ptr(),
@@ -100,11 +119,12 @@ pub fn write_module_order(module: &Module, out: &mut [u8], answer: &mut [u32; 4]
             out.len(),
             answer,
         )
-    }
+    })
 }
 
-pub fn standing(module: &Module, answer: &mut [u32; 4]) -> u32 {
-    unsafe {
+pub fn standing(module: &Module, answer: &mut [u32; 4]) -> Result<u32, Error> {
+    same_version()?;
+    Ok(unsafe {
         c::kollafrin_standing(
             module.instructions.as_ptr(),
             module.instructions.len(),
@@ -117,5 +137,17 @@ pub fn standing(module: &Module, answer: &mut [u32; 4]) -> u32 {
             module.strings.len(),
             answer,
         )
+    })
+}
+
+#[cfg(test)]
+mod tests {
+    use super::*;
+
+    #[test]
+    fn another_version_is_an_error() {
+        assert_eq!(same_version(), Ok(()));
+        assert_eq!(fits(c::VERSION + 1), Err(Error::Version(c::VERSION + 1)));
+        assert_eq!(fits(0), Err(Error::Version(0)));
     }
 }

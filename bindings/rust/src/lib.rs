@@ -1,8 +1,9 @@
 //! Loads SPIR-V modules into records and writes them back.
 //!
 //! The work is done by the library kollafrin, whose every function is proved against its contract. This crate is a thin, safe
-//! cover: a [`Module`] owns its records, and a [`Refusal`] says what is wrong with an input and where. Nothing here panics on
-//! any input.
+//! cover: a [`Module`] owns its records, and a [`Refusal`] says what is wrong with an input and where. No call panics, whatever its
+//! input, and a call that lacks memory answers [`Error::NoMemory`]; a clone of a module alone ends the program then, as any clone
+//! does. A library with another [`VERSION`] than this crate is an [`Error::Version`], and none of its other functions is called.
 //!
 //! ```no_run
 //! let bytes = std::fs::read("shader.spv")?;
@@ -21,9 +22,13 @@
 
 mod c;
 mod door;
+mod error;
 mod records;
 mod refusal;
+mod room;
 
+pub use c::VERSION;
+pub use error::Error;
 pub use records::{Instruction, Instructions, Operand, Operands, Value};
 pub use refusal::{sentence, Refusal};
 
@@ -31,10 +36,10 @@ pub use refusal::{sentence, Refusal};
 pub const MOST_MODULE_BYTES: usize = 67_108_864;
 
 /// The bytes of the built-in grammar, the one [`Module::load_builtin`] goes by.
-pub fn builtin() -> Vec<u8> {
-    let mut bytes = vec![0; door::builtin(&mut [])];
-    door::builtin(&mut bytes);
-    bytes
+pub fn builtin() -> Result<Vec<u8>, Error> {
+    let mut bytes = room::zeros(door::builtin(&mut [])?)?;
+    door::builtin(&mut bytes)?;
+    Ok(bytes)
 }
 
 /// What a load keeps of a module: its five header words and four stores.
@@ -54,52 +59,51 @@ pub struct Module {
 
 impl Module {
     /// Loads a module by the bytes of a grammar.
-    pub fn load(bytes: &[u8], grammar: &[u8]) -> Result<Module, Refusal> {
-        whole(Module::load_kept(bytes, grammar))
+    pub fn load(bytes: &[u8], grammar: &[u8]) -> Result<Module, Error> {
+        whole(Module::load_kept(bytes, grammar)?)
     }
 
     /// Loads a module by the built-in grammar.
-    pub fn load_builtin(bytes: &[u8]) -> Result<Module, Refusal> {
-        whole(Module::load_builtin_kept(bytes))
+    pub fn load_builtin(bytes: &[u8]) -> Result<Module, Error> {
+        whole(Module::load_builtin_kept(bytes)?)
     }
 
-    /// As [`Module::load`], with the records of the instructions before the fault where the module is refused.
-    pub fn load_kept(bytes: &[u8], grammar: &[u8]) -> (Module, Option<Refusal>) {
+    /// As [`Module::load`], with the records of the instructions before the fault where the module is refused, which is then no error.
+    pub fn load_kept(bytes: &[u8], grammar: &[u8]) -> Result<(Module, Option<Refusal>), Error> {
         Module::with_room(bytes, |m, answer| {
             door::load(bytes, grammar, &mut m.instructions, &mut m.log, &mut m.strings, &mut m.types, answer)
         })
     }
 
-    /// As [`Module::load_builtin`], with the records of the instructions before the fault where the module is refused.
-    pub fn load_builtin_kept(bytes: &[u8]) -> (Module, Option<Refusal>) {
+    /// As [`Module::load_kept`], by the built-in grammar.
+    pub fn load_builtin_kept(bytes: &[u8]) -> Result<(Module, Option<Refusal>), Error> {
         Module::with_room(bytes, |m, answer| {
             door::load_builtin(bytes, &mut m.instructions, &mut m.log, &mut m.strings, &mut m.types, answer)
         })
     }
 
     /// Stores that suffice for any module of this length, filled by the call and cut to what it kept.
-    fn with_room(bytes: &[u8], call: impl FnOnce(&mut Module, &mut [u32; 16]) -> u32) -> (Module, Option<Refusal>) {
+    fn with_room(
+        bytes: &[u8],
+        call: impl FnOnce(&mut Module, &mut [u32; 16]) -> Result<u32, Error>,
+    ) -> Result<(Module, Option<Refusal>), Error> {
         let words = if bytes.len() > MOST_MODULE_BYTES { 0 } else { (bytes.len() / 4).saturating_sub(5) };
         let mut module = Module {
             header: [0; 5],
-            instructions: vec![0; 8 * words],
-            log: vec![0; 9 * words],
-            strings: vec![0; 4 * words],
-            types: vec![0; 3 * words],
+            instructions: room::zeros(8 * words)?,
+            log: room::zeros(9 * words)?,
+            strings: room::zeros(4 * words)?,
+            types: room::zeros(3 * words)?,
         };
         let mut answer = [0; 16];
-        let number = call(&mut module, &mut answer);
+        let number = call(&mut module, &mut answer)?;
         module.header.copy_from_slice(&answer[8..13]);
-        module.instructions.truncate(8 * answer[4] as usize);
-        module.log.truncate(answer[5] as usize);
-        module.strings.truncate(answer[6] as usize);
-        module.types.truncate(3 * answer[7] as usize);
-        module.instructions.shrink_to_fit();
-        module.log.shrink_to_fit();
-        module.strings.shrink_to_fit();
-        module.types.shrink_to_fit();
+        module.instructions = room::cut(module.instructions, 8 * answer[4] as usize);
+        module.log = room::cut(module.log, answer[5] as usize);
+        module.strings = room::cut(module.strings, answer[6] as usize);
+        module.types = room::cut(module.types, 3 * answer[7] as usize);
         let refusal = Refusal { number, offset: answer[1], index: answer[2], value: answer[3] };
-        (module, if number == 0 { None } else { Some(refusal) })
+        Ok((module, if number == 0 { None } else { Some(refusal) }))
     }
 
     /// A module of records from elsewhere. Nothing is checked here: the writers and [`Module::standing`] refuse with 30 what
@@ -111,36 +115,41 @@ impl Module {
 
     /// The bytes of the module: header words and instructions as they were read. Of a plain module (no bytes after the last
     /// whole word, only zeros after the ends of strings, embedded opcodes below 65,536) these are the bytes it was loaded from.
-    pub fn write_parse_order(&self) -> Result<Vec<u8>, Refusal> {
+    pub fn write_parse_order(&self) -> Result<Vec<u8>, Error> {
         self.write(door::write_parse_order)
     }
 
     /// The bytes of the module in the order of its sections, with the header that the crate rspirv writes.
-    pub fn write_module_order(&self) -> Result<Vec<u8>, Refusal> {
+    pub fn write_module_order(&self) -> Result<Vec<u8>, Error> {
         self.write(door::write_module_order)
     }
 
-    fn write(&self, call: impl FnOnce(&Module, &mut [u8], &mut [u32; 4]) -> u32) -> Result<Vec<u8>, Refusal> {
-        // a word count over 65,535 is refused before anything is written
-        let words: usize = self.instructions.chunks_exact(8).map(|record| record[7].min(65_535) as usize).sum();
-        let mut bytes = vec![0; 20 + 4 * words];
+    /// Writes into no room at first: bad records are refused before anything else is (30), and good ones for want of room (29), since
+    /// there is always a header. Only then is memory asked for, by the end of the last record: neither order writes more.
+    fn write(&self, call: impl Fn(&Module, &mut [u8], &mut [u32; 4]) -> Result<u32, Error>) -> Result<Vec<u8>, Error> {
         let mut answer = [0; 4];
-        match call(self, &mut bytes, &mut answer) {
+        match call(self, &mut [], &mut answer)? {
+            29 => (),
+            number => return Err(refused(number, answer)),
+        }
+        let end = self.instructions.chunks_exact(8).last().map_or(20, |record| record[2] as usize + 4 * record[7] as usize);
+        let mut bytes = room::zeros(end)?;
+        match call(self, &mut bytes, &mut answer)? {
             0 => {
                 bytes.truncate(answer[2] as usize + ((answer[3] as usize) << 32));
                 Ok(bytes)
             }
-            number => Err(Refusal { number, offset: 0, index: answer[1], value: 0 }),
+            number => Err(refused(number, answer)),
         }
     }
 
     /// Whether the module stands: its sections come first and in order, no parameter follows a label in its function, and at
     /// most one memory model is given. On a module that stands both orders of writing agree after the header.
-    pub fn standing(&self) -> Result<bool, Refusal> {
+    pub fn standing(&self) -> Result<bool, Error> {
         let mut answer = [0; 4];
-        match door::standing(self, &mut answer) {
+        match door::standing(self, &mut answer)? {
             0 => Ok(answer[2] == 1),
-            number => Err(Refusal { number, offset: 0, index: answer[1], value: 0 }),
+            number => Err(refused(number, answer)),
         }
     }
 
@@ -180,9 +189,14 @@ impl Module {
     }
 }
 
-fn whole((module, refusal): (Module, Option<Refusal>)) -> Result<Module, Refusal> {
+fn whole((module, refusal): (Module, Option<Refusal>)) -> Result<Module, Error> {
     match refusal {
         None => Ok(module),
-        Some(refusal) => Err(refusal),
+        Some(refusal) => Err(Error::Refused(refusal)),
     }
+}
+
+/// The refusal of a writer or of standing: a number, and the index of a record.
+fn refused(number: u32, answer: [u32; 4]) -> Error {
+    Error::Refused(Refusal { number, offset: 0, index: answer[1], value: 0 })
 }

@@ -1,6 +1,6 @@
 //! Modules through the safe crate: what is kept, what is refused and where, what is written.
 
-use kollafrin::{builtin, sentence, Module, Refusal, Value, MOST_MODULE_BYTES};
+use kollafrin::{builtin, sentence, Error, Module, Refusal, Value, MOST_MODULE_BYTES};
 use std::collections::HashSet;
 
 /// The header 07230203 00010000 0 0 0 and these words, as bytes.
@@ -8,9 +8,13 @@ fn module(words: &[u32]) -> Vec<u8> {
     [0x0723_0203, 0x0001_0000, 0, 0, 0].iter().chain(words).flat_map(|w| w.to_le_bytes()).collect()
 }
 
-fn refused(bytes: &[u8]) -> (u32, u32, u32, u32) {
-    let Refusal { number, offset, index, value } = Module::load_builtin(bytes).expect_err("a refusal");
+fn refusal(loaded: Result<Module, Error>) -> (u32, u32, u32, u32) {
+    let Err(Error::Refused(Refusal { number, offset, index, value })) = loaded else { panic!("a refusal") };
     (number, offset, index, value)
+}
+
+fn refused(bytes: &[u8]) -> (u32, u32, u32, u32) {
+    refusal(Module::load_builtin(bytes))
 }
 
 #[test]
@@ -63,7 +67,7 @@ fn operands_of_each_form() {
 
 #[test]
 fn a_refused_load_keeps_what_came_before() {
-    let (kept, refusal) = Module::load_builtin_kept(&module(&[0x0002_0011, 0, 0x0001_0038]));
+    let (kept, refusal) = Module::load_builtin_kept(&module(&[0x0002_0011, 0, 0x0001_0038])).unwrap();
     assert_eq!(refusal, Some(Refusal { number: 17, offset: 28, index: 2, value: 0 }));
     assert_eq!(kept.instructions().map(|i| i.opcode).collect::<Vec<_>>(), [17]);
     assert_eq!(kept.header()[0], 0x0723_0203);
@@ -92,41 +96,55 @@ fn records_from_elsewhere_are_checked() {
     let mut words = loaded.instruction_words().to_vec();
     words[1] = 5;
     let bad = Module::from_stores(loaded.header(), words, loaded.log().to_vec(), vec![], vec![]);
-    let refusal = Refusal { number: 30, offset: 0, index: 1, value: 0 };
-    assert_eq!(bad.write_parse_order(), Err(refusal));
-    assert_eq!(bad.write_module_order(), Err(refusal));
-    assert_eq!(bad.standing(), Err(refusal));
+    let refused = |index| Error::Refused(Refusal { number: 30, offset: 0, index, value: 0 });
+    assert_eq!(bad.write_parse_order(), Err(refused(1)));
+    assert_eq!(bad.write_module_order(), Err(refused(1)));
+    assert_eq!(bad.standing(), Err(refused(1)));
     let left = [loaded.log(), &[33]].concat();
     let over = Module::from_stores(loaded.header(), loaded.instruction_words().to_vec(), left, vec![], vec![]);
-    assert_eq!(over.standing(), Err(Refusal { index: 2, ..refusal }));
+    assert_eq!(over.standing(), Err(refused(2)));
     // the longest word count, and more than one can be
     let mut huge = loaded.instruction_words().to_vec();
     huge[7] = u32::MAX;
     let huge = Module::from_stores(loaded.header(), huge, loaded.log().to_vec(), vec![], vec![]);
-    assert_eq!(huge.write_parse_order(), Err(refusal));
+    assert_eq!(huge.write_parse_order(), Err(refused(1)));
+}
+
+#[test]
+fn no_records_are_a_header() {
+    let header = [0x0723_0203, 0x0001_0000, 0, 0, 0];
+    let empty = Module::from_stores(header, vec![], vec![], vec![], vec![]);
+    assert_eq!(empty.write_parse_order().unwrap(), module(&[]));
+    assert_eq!(empty.write_module_order().unwrap().len(), 20);
 }
 
 #[test]
 fn grammars() {
-    let grammar = builtin();
+    let grammar = builtin().unwrap();
     assert_eq!(grammar.len(), 12_251);
     let bytes = module(&[0x0003_000E, 0, 1]);
     assert_eq!(Module::load(&bytes, &grammar), Module::load_builtin(&bytes));
-    assert_eq!(Module::load(&bytes, &[5]).unwrap_err().number, 24);
-    let unknown = Module::load(&bytes, &[]).unwrap_err();
-    assert_eq!((unknown.number, unknown.offset, unknown.value), (5, 20, 14));
+    assert_eq!(refusal(Module::load(&bytes, &[5])), (24, 0, 0, 0));
+    assert_eq!(refusal(Module::load(&bytes, &[])), (5, 20, 1, 14));
 }
 
 #[test]
 fn a_module_that_is_too_long() {
-    let refusal = Module::load_builtin(&vec![0; MOST_MODULE_BYTES + 1]).unwrap_err();
-    assert_eq!(refusal, Refusal { number: 31, offset: 0, index: 0, value: 0 });
+    assert_eq!(refused(&vec![0; MOST_MODULE_BYTES + 1]), (31, 0, 0, 0));
 }
 
 #[test]
 fn every_number_has_its_own_sentence() {
     let all: HashSet<&str> = (0..=32).map(sentence).collect();
     assert_eq!(all.len(), 33);
+}
+
+#[test]
+fn every_error_says_what_it_is() {
+    let refusal = Refusal { number: 30, offset: 0, index: 1, value: 0 };
+    assert_eq!(Error::Refused(refusal).to_string(), refusal.to_string());
+    assert_eq!(Error::NoMemory.to_string(), "no memory");
+    assert_eq!(Error::Version(7).to_string(), "the library has version 7, and this crate is for version 1");
 }
 
 /// Every module kept under samples/: loaded and written back, or refused without a panic.
