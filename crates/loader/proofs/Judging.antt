@@ -21,7 +21,7 @@ use Rattle.spec.specs.Types.{track}
 use Rattle.spec.specs.Load.{counts, roomFault, usedAfter}
 use Rattle.demands.proofs.Stores.{operands-log-length}
 use Rattle.tracker.specs.Entries.{entriesOf}
-use Rattle.tracker.specs.Track.{idIs, literalOf}
+use Rattle.tracker.specs.Track.{idIs, FirstFit, literalOf}
 use Rattle.tracker.proofs.Laws.{length-entries}
 use Rattle.tracker.proofs.Growth.{track-grows}
 use Rattle.tracker.proofs.Instruction.{track-as}
@@ -90,13 +90,14 @@ module _ {s : List ℕ} {x : Read Instr} {l₀ t₀ l t : List ℕ} (p : Progres
   pub placed-is : (st : State) (c : Cell) → layoutOf (d .opcode) st ≡ c → layoutOf (h .instr .opcode) st ≡ c
   placed-is st c e = ap (λ (o : ℕ). layoutOf o st) (h .opcode) ∙ e
 
--- its records are few, and so are its strings
+-- its records are few, and so are its strings; its first two operands are operands
 pub few-read : (s : List ℕ) (at : ℕ) (x : Read Instr) (l₀ t₀ l t : List ℕ) (a b c : ℕ) (v : InstRead) → Decodes s at x l₀ t₀ l t a b c v
-    → (d : Decoded) → v ≡ inst.Got d → length s ≤ 67108864 → (d .log ≤ 1000000000) × (d .strings ≤ 1000000000)
+    → (d : Decoded) → v ≡ inst.Got d → length s ≤ 67108864
+    → (d .log ≤ 1000000000) × (d .strings ≤ 1000000000) × FirstFit (d .operands) (d .first) (d .second)
 unfolding Decodes
 few-read s at x l₀ t₀ l t a b c v e d q short =
     let h : Handed s at x l₀ t₀ l t a b c d = subst (Decodes s at x l₀ t₀ l t a b c) q e in
-    (omega (arith, h .few-log, h .inside), omega (arith, h .few-strings, h .inside))
+    (omega (arith, h .few-log, h .inside), omega (arith, h .few-strings, h .inside), h .fits)
 
 module _ (room : Counts) (p : Progress) (d : Decoded) where
   -- the room for it, by the count of entries after it

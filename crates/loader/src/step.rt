@@ -8,6 +8,7 @@ ghost use Rattle.reflect.specs.Column.{layoutTable, kindTable};
 ghost use Rattle.grammar.specs.Index.{Indexed};
 ghost use Rattle.tracker.specs.Entries.{entriesOf};
 ghost use Rattle.tracker.specs.Hints.{Hinted};
+ghost use Rattle.tracker.specs.Track.{FirstFit};
 ghost use Rattle.loader.specs.Steps.{readAt, needOf, judgedBy, Bounded, Verdict, Shown, Admitted, Stored, Keeps, Steps};
 use crate::parts::Progress;
 use crate::parts::fields_of;
@@ -41,6 +42,7 @@ fn need_after(p: Progress, d: Decoded, types: &[u32], hints: &[u32], room: Count
     requires { ⌜ (3 * p .types ≤ length (now types)) × (p .instructions < 67108864) ⌝ }
     requires { ⌜ Hinted (p .types) (now types) (now hints) (p .greatest) ⌝ }
     requires { ⌜ (p .log ≤ 1000000000) × (d .log ≤ 1000000000) × (p .strings ≤ 1000000000) × (d .strings ≤ 1000000000) ⌝ }
+    requires { ⌜ FirstFit (d .operands) (d .first) (d .second) ⌝ }
     ensures { λ r. ⌜ roomFault room r ≡ roomFault room (needOf p d (entriesOf (p .types) (now (types .entry)))) ⌝ }
 {
     let mut entries = p.types + 1;
@@ -100,6 +102,7 @@ fn admit(
     requires { ⌜ (now table ≡ layoutTable) × (now kinds ≡ kindTable) ⌝ }
     requires { ⌜ Hinted (p .types) (now types) (now hints) (p .greatest) ⌝ }
     requires { ⌜ (p .log ≤ 1000000000) × (d .log ≤ 1000000000) × (p .strings ≤ 1000000000) × (d .strings ≤ 1000000000) ⌝ }
+    requires { ⌜ FirstFit (d .operands) (d .first) (d .second) ⌝ }
     ensures { λ r. ⌜ r ≡ judgedBy room (needOf p d (entriesOf (p .types) (now (types .entry)))) (p .at) d (layoutOf (d .opcode) (p .state)) ⌝ }
 {
     let state = p.state;

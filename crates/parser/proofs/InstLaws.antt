@@ -24,7 +24,7 @@ use Rattle.decoder.specs.Answer.{decoder, readerOf, limitReached, wordFrom}
 use Rattle.decoder.proofs.Laws.{word-got, word-refused}
 use Rattle.grammar.specs.Index.{Indexed}
 use Rattle.grammar.specs.Find.{Sure, placeFound, rowFound}
-use Rattle.tracker.specs.Track.{Literals}
+use Rattle.tracker.specs.Track.{literalOf, Literals}
 use Rattle.parser.specs.declared.used.Used.{Used}
 use Rattle.parser.specs.declared.used.Parsed.{Parsed}
 use Rattle.parser.specs.declared.used.Parsed.the-variants.{Good, Bad}
@@ -32,7 +32,7 @@ use Rattle.parser.specs.declared.simple.Simple.{Simple}
 use Rattle.parser.specs.declared.simple.Simple.the-variants.{On}
 use Rattle.parser.specs.declared.inst.InstRead.{InstRead}
 use Rattle.parser.specs.declared.inst.InstRead.the-variants.{Got, Refused}
-use Rattle.parser.specs.Parse.{Notes, wordIs, notesOf, noteAs, note, notes, noNotes, leftOf, isOperand, slotsAt, RowRead, Walks}
+use Rattle.parser.specs.Parse.{Notes, notesOf, noteAs, note, notes, noNotes, leftOf, isOperand, slotsAt, RowRead, Walks}
 use Rattle.parser.specs.Inst.{Ended, Decodes, DecodesOver, ShapeIs, RowIs}
 use Rattle.parser.specs.Simple.{RowReads}
 use Rattle.parser.specs.Body.{bodyRead}
@@ -72,7 +72,7 @@ module _ (n : Used) (os : List Operand) (e : notesOf n ≡ notes os noNotes) whe
   used-count = omega (arith, ap (λ (m : Notes). m .count) e, count-notes os noNotes)
 
   -- what the first two in use are
-  used-literals : Literals os (wordIs (n .first)) (wordIs (n .second))
+  used-literals : Literals os (literalOf (n .first)) (literalOf (n .second))
   unfolding notesOf
   used-literals = subst (λ (m : Notes). Literals os (m .first) (m .second)) (sym e) (noted-literals os)
 
@@ -174,6 +174,7 @@ module _ (g : Grammar) (types : List Entry) (s : List ℕ) (at count op : ℕ) (
               operands = used-count n _ (d .walked .noted) ∙ sym (k .operands);
               few = omega (arith, to, d .few .operands, k .operands);
               literals = rw (k .first, k .second) (used-literals n _ (d .walked .noted));
+              fits = rw (k .operands, k .first, k .second) (d .few .fits);
               nlog = k .log ∙ d .walked .nlog;
               nstrings = k .strings ∙ d .walked .nstrings;
               few-log = omega (arith, to, d .few .log, k .log);

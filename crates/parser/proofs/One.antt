@@ -33,10 +33,11 @@ use Rattle.decoder.specs.declared.TextRead.the-variants.{Got as GotText, Refuse
 use Rattle.decoder.specs.Answer.{readerOf, limitReached, wordFrom, longFrom, textFrom}
 use Rattle.decoder.proofs.Laws.{word-got, word-refused, long-got, text-got, text-refused, text-within}
 use Rattle.grammar.specs.Find.{placeFound, parametersFound, isListed}
+use Rattle.tracker.specs.Track.{literalOf}
 use Rattle.parser.specs.declared.used.Used.{Used}
 use Rattle.parser.specs.declared.operands.EnumRead.{EnumRead}
 use Rattle.parser.specs.declared.operands.EnumRead.the-variants.{Known as KnownAt, Unread}
-use Rattle.parser.specs.Parse.{notesOf, noteAs, note, notes, valueIf, Pushed, Copied, Step, Went, Few, Held, isSingle, orNone, parametersAt, KnownAs, EnumIs}
+use Rattle.parser.specs.Parse.{idRefOf, notesOf, noteAs, note, notes, Pushed, Copied, Step, Went, Few, Held, isSingle, orNone, parametersAt, KnownAs, EnumIs}
 use Rattle.parser.proofs.Walk.{step-few, step-went, laid-as}
 
 -- HOW FAR
@@ -233,7 +234,7 @@ module _ (s g : List ℕ) (k : ℕ) (d : Decoder) (t : Bool) (b : t ≡ isEnum k
 -- a record of one word
 pub held-narrow : (l t l₁ : List ℕ) (u n : Used) (j w : ℕ) → isTwo j ≡ false → Pushed j w u n
     → Laid l (u .log) (recordOf (parts j w)) l₁ → Held l t l₁ t u n (narrow j w ∷ [])
-unfolding operandsLog operandLog operandsStrings operandString notes note recordOf recordBy recordLength lengthBy valueIf bytesOf
+unfolding operandsLog operandLog operandsStrings operandString literalOf idRefOf notes note recordOf recordBy recordLength lengthBy bytesOf
 held-narrow l t l₁ u n j w z p h =
     let a : n .log ≡ u .log + 5 = simp z at (p .log) in
     let b : recordOf (parts j w) ≡ j ∷ bytesOf w = simp z in
@@ -256,7 +257,7 @@ one-more u r a b e = ap (λ n. n .count) e
 -- little is in use after a record
 pub few-pushed : (s : List ℕ) (d e : Decoder) (u r : Used) (n j w : ℕ) → Few s d u → Step s d e n → 1 ≤ n → Pushed j w u r → Few s e r
 few-pushed s d e u r n j w f t h p =
-    step-few s d e u r n f t h (one-more u r _ _ (p .noted)) (omega (arith, p .log, length-range (parts j w) .1)) (omega (arith, p .strings)) (p .base)
+    step-few s d e u r n f t h (one-more u r _ _ (p .noted)) (omega (arith, p .log, length-range (parts j w) .1)) (omega (arith, p .strings)) (p .base) (p .fits (f .fits))
 
 -- the numbers are small
 pub few-small : (s : List ℕ) (d : Decoder) (u : Used) → Few s d u → (u .log ≤ 1000000000) × (u .operands ≤ 1000000000) × (u .base + u .strings ≤ 67108864)
@@ -329,7 +330,7 @@ module _ (s : List ℕ) (from size : ℕ) (h : from + size < length s) where
 -- little is in use after a string
 pub few-copied : (s : List ℕ) (d e : Decoder) (u r : Used) (size : ℕ) → Few s d u → Step s d e (textWords size) → Copied size u r → Few s e r
 few-copied s d e u r size f t p =
-    step-few s d e u r (textWords size) f t (omega arith) (one-more u r _ _ (p .noted)) (omega (arith, p .log)) (omega (arith, p .strings)) (p .base)
+    step-few s d e u r (textWords size) f t (omega arith) (one-more u r _ _ (p .noted)) (omega (arith, p .log)) (omega (arith, p .strings)) (p .base) (p .fits (f .fits))
 
 -- a string takes a word or more
 pub text-went : (s : List ℕ) (d e : Decoder) (size m : ℕ) → Step s d e (textWords size) → d .limit ≡ Words m → Went d e 4
@@ -367,7 +368,7 @@ long-fits k w h = record { known = long-by k (eqb k 36) (eqb k 38) refl refl h; 
 -- a record of two words
 pub held-wide : (l t l₁ : List ℕ) (u n : Used) (j w : ℕ) → isLong j ≡ true → Pushed j w u n
     → Laid l (u .log) (recordOf (parts j w)) l₁ → Held l t l₁ t u n (wide j w ∷ [])
-unfolding operandsLog operandLog operandsStrings operandString notes note recordOf recordBy recordLength lengthBy valueIf bytesOf
+unfolding operandsLog operandLog operandsStrings operandString literalOf idRefOf notes note recordOf recordBy recordLength lengthBy bytesOf
 held-wide l t l₁ u n j w z p h =
     let a : n .log ≡ u .log + 9 = simp z at (p .log) in
     let b : recordOf (parts j w) ≡ j ∷ longBytes w = simp z in

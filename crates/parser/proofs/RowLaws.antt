@@ -19,10 +19,11 @@ use Rattle.spec.specs.Match.{Seen, nothingSeen, noneLeft, slotsAfter, readSlot,
 use Rattle.operand.proofs.LogLaws.{laid-nil}
 use Rattle.decoder.specs.declared.Decoder.{Decoder}
 use Rattle.decoder.specs.Answer.{readerOf, limitReached}
+use Rattle.tracker.specs.Track.{literalOf}
 use Rattle.parser.specs.declared.used.Used.{Used}
 use Rattle.parser.specs.declared.used.Parsed.{Parsed}
 use Rattle.parser.specs.declared.used.Parsed.the-variants.{Good, Bad}
-use Rattle.parser.specs.Parse.{notesOf, notes, noNotes, wordIs, leftOf, Went, Few, isOperand, slotsAt, Walked, Walks}
+use Rattle.parser.specs.Parse.{selectorOf, notesOf, notes, noNotes, wordIs, leftOf, Went, Few, isOperand, slotsAt, Walked, Walks}
 use Rattle.parser.specs.Slots.{unused, SlotRead, SlotIs, SlotWalks}
 use Rattle.parser.proofs.One.{both}
 use Rattle.parser.proofs.Walk.{went-nowhere, went-then}
@@ -74,7 +75,7 @@ pub record Rowing (s : List ℕ) (g : Grammar) (types : List Entry) (x : Read Se
 
 -- nothing is seen where nothing is in use
 walked-nothing : (log strs : List ℕ) (a b c : ℕ) → Walked log strs log strs a b c (unused a b c) nothingSeen
-unfolding unused notesOf notes noNotes wordIs operandsLog operandsStrings
+unfolding unused literalOf selectorOf notesOf notes noNotes wordIs operandsLog operandsStrings
 walked-nothing log strs a b c = record {
   rtype = refl;
   rid = refl;
@@ -98,6 +99,7 @@ few-nothing s d a b c h i l p q = record {
   operands = omega arith;
   strings = q;
   log = p;
+  fits = record { first = λ k. absurd (omega arith); second = λ k. absurd (omega arith) };
 }
 
 -- nothing yet

@@ -19,7 +19,7 @@ use Rattle.parser.specs.declared.used.Used.{Used}
 use Rattle.parser.specs.declared.used.Parsed.the-variants.{Good}
 use Rattle.parser.specs.declared.simple.Simple.{Simple}
 use Rattle.parser.specs.declared.simple.Simple.the-variants.{On, Pass}
-use Rattle.parser.specs.Parse.{wordIs, leftOf, Went, Few, Walks, literalAlone, kindAlone}
+use Rattle.parser.specs.Parse.{wordIs, selectorOf, leftOf, Went, Few, Walks, literalAlone, kindAlone}
 use Rattle.parser.specs.Slots.{withResult, SlotWalks}
 use Rattle.parser.specs.Simple.{There, Reads, SlotReads, RowReads}
 use Rattle.parser.proofs.Walk.{same-read}
@@ -56,7 +56,7 @@ module _ (s : List ℕ) (g : Grammar) (types : List Entry) (j : ℕ) (d : Decode
 
   module _ (q : t ≡ false) (log₁ : List ℕ) where
     -- any other operand, by its read
-    reads-more : (strs₁ : List ℕ) (y : Read (List Operand)) → kindAlone g types (wordIs (u .rtype)) (wordIs (u .selector)) j (readerOf s d) ≡ y
+    reads-more : (strs₁ : List ℕ) (y : Read (List Operand)) → kindAlone g types (wordIs (u .rtype)) (selectorOf u) j (readerOf s d) ≡ y
         → (v : Simple) → Reads s d y log strs log₁ strs₁ u v → SlotReads s d (λ x. readSlot g types x j (readerOf s d)) log strs log₁ strs₁ u v
     unfolding Reads SlotReads
     reads-more strs₁ y e (On f n) h =

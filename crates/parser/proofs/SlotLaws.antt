@@ -15,14 +15,16 @@ use Rattle.spec.specs.Records.{Operand, narrow, wide, text, Entry}
 use Rattle.spec.specs.Reader.{Reader, Read, refused, after, give, readWord}
 use Rattle.spec.specs.Grammar.{Grammar}
 use Rattle.spec.specs.Match.{Seen, selector, withType, withId, withOperands, readEach, readEmbedded, readOperand, readPair, readKind, readSlot}
+use Rattle.operand.specs.Parts.{parts}
 use Rattle.decoder.specs.declared.Decoder.{Decoder}
 use Rattle.decoder.specs.declared.WordRead.the-variants.{Got as Word, Refused as NoWord}
 use Rattle.decoder.specs.Answer.{readerOf, wordFrom}
 use Rattle.decoder.proofs.Laws.{word-got, word-refused}
+use Rattle.tracker.specs.Track.{literalOf}
 use Rattle.parser.specs.declared.used.Used.{Used}
 use Rattle.parser.specs.declared.used.Parsed.{Parsed}
 use Rattle.parser.specs.declared.used.Parsed.the-variants.{Good, Bad}
-use Rattle.parser.specs.Parse.{Notes, notesOf, noteAs, note, notes, noNotes, Step, Few, Held, Parses, wordIs, isSingle, isPlain, literalAlone, pairAlone, kindAlone, Walked}
+use Rattle.parser.specs.Parse.{Notes, selectorOf, notesOf, noteAs, note, notes, noNotes, Step, Few, Held, Parses, wordIs, isSingle, isPlain, literalAlone, pairAlone, kindAlone, Walked}
 use Rattle.parser.specs.Slots.{unused, withResults, withResult, SlotRead, SlotIs, SlotWalks}
 use Rattle.parser.proofs.One.{both, step-word}
 use Rattle.parser.proofs.Walk.{held-then, step-went, same-read}
@@ -133,6 +135,7 @@ result-few s d e u t i f p = record {
   operands = omega (arith, p .next, f .operands);
   strings = omega (arith, p .next, f .strings);
   log = omega (arith, p .next, f .log);
+  fits = f .fits;
 }
 
 -- THE IDS THAT LITERALS ARE READ BY
@@ -159,13 +162,13 @@ noted-id (o ∷ os) = id-stays os (note o noNotes) (omega arith) ∙ first-selec
 
 module _ {log₀ strs₀ log strs : List ℕ} {a b c : ℕ} {u : Used} {x : Seen} (w : Walked log₀ strs₀ log strs a b c u x) where
   -- the id in use is that of the first operand seen
-  selector-is : wordIs (u .selector) ≡ selector (x .operands)
+  selector-is : selectorOf u ≡ selector (x .operands)
   unfolding notesOf
   selector-is = ap (λ n. n .id) (w .noted) ∙ noted-id (x .operands)
 
   -- the read of an operand that is no result is by what is in use
   kind-is : (g : Grammar) (types : List Entry) (j : ℕ) (r : Reader)
-      → readKind g types x j r ≡ kindAlone g types (wordIs (u .rtype)) (wordIs (u .selector)) j r
+      → readKind g types x j r ≡ kindAlone g types (wordIs (u .rtype)) (selectorOf u) j r
   unfolding readKind kindAlone literalAlone pairAlone readPair
   kind-is g types j r = rw (w .rtype, selector-is) refl
 
@@ -173,7 +176,7 @@ module _ {log₀ strs₀ log strs : List ℕ} {a b c : ℕ} {u : Used} {x : Seen
 
   -- what was seen is held, from the places where the row began
   walked-held : Held log₀ strs₀ log strs (withResults (u .rtype) (u .rid) (unused a b c)) u (x .operands)
-  unfolding withResults unused notesOf noNotes wordIs
+  unfolding withResults unused literalOf selectorOf notesOf noNotes wordIs
   walked-held = record {
     rtype = refl;
     rid = refl;
@@ -188,7 +191,7 @@ module _ {log₀ strs₀ log strs : List ℕ} {a b c : ℕ} {u : Used} {x : Seen
   -- operands more
   walked-more : {log₁ strs₁ : List ℕ} {n : Used} {os : List Operand} → Held log strs log₁ strs₁ u n os
       → Walked log₀ strs₀ log₁ strs₁ a b c n (withOperands x os)
-  unfolding withResults unused notesOf noNotes wordIs
+  unfolding withResults unused literalOf selectorOf notesOf noNotes wordIs
   walked-more h =
       let m = held-then walked-held h in
       record {
@@ -204,7 +207,7 @@ module _ {log₀ strs₀ log strs : List ℕ} {a b c : ℕ} {u : Used} {x : Seen
 
   -- a result type
   walked-type : (v n : ℕ) → wordIs n ≡ some v → Walked log₀ strs₀ log strs a b c (withResults n (u .rid) u) (withType x v)
-  unfolding withResults notesOf
+  unfolding withResults selectorOf notesOf
   walked-type v n h = record {
     rtype = h;
     rid = w .rid;
@@ -218,7 +221,7 @@ module _ {log₀ strs₀ log strs : List ℕ} {a b c : ℕ} {u : Used} {x : Seen
 
   -- a result id
   walked-id : (v n : ℕ) → wordIs n ≡ some v → Walked log₀ strs₀ log strs a b c (withResults (u .rtype) n u) (withId x v)
-  unfolding withResults notesOf
+  unfolding withResults selectorOf notesOf
   walked-id v n h = record {
     rtype = w .rtype;
     rid = h;
@@ -234,7 +237,7 @@ module _ {log₀ strs₀ log strs : List ℕ} {a b c : ℕ} {u : Used} {x : Seen
 
   module _ (s : List ℕ) (g : Grammar) (types : List Entry) (j : ℕ) (d : Decoder) where
     -- what is read is added to what was seen
-    more-by : isResult j ≡ false → (y : Read (List Operand)) → kindAlone g types (wordIs (u .rtype)) (wordIs (u .selector)) j (readerOf s d) ≡ y
+    more-by : isResult j ≡ false → (y : Read (List Operand)) → kindAlone g types (wordIs (u .rtype)) (selectorOf u) j (readerOf s d) ≡ y
         → readSlot g types x j (readerOf s d) ≡ after y (λ os. give (withOperands x os))
     unfolding readSlot
     more-by h y e =
@@ -243,7 +246,7 @@ module _ {log₀ strs₀ log strs : List ℕ} {a b c : ℕ} {u : Used} {x : Seen
 
     -- an operand that is no result
     slot-more : (log₁ strs₁ : List ℕ) → isResult j ≡ false → (v : Parsed)
-        → Parses s d 4 (kindAlone g types (wordIs (u .rtype)) (wordIs (u .selector)) j (readerOf s d)) log strs log₁ strs₁ u v
+        → Parses s d 4 (kindAlone g types (wordIs (u .rtype)) (selectorOf u) j (readerOf s d)) log strs log₁ strs₁ u v
         → SlotIs s d (readSlot g types x j (readerOf s d)) log₀ strs₀ log₁ strs₁ a b c v
     unfolding Parses SlotIs
     slot-more log₁ strs₁ h (Good e n) p = record {
@@ -302,7 +305,7 @@ module _ (s : List ℕ) (g : Grammar) (types : List Entry) (j : ℕ) (d : Decode
 
   -- it goes on with operands, or ends where they are refused
   pub walks-more : t ≡ false → (log₁ strs₁ : List ℕ) (v : Parsed)
-      → Parses s d 4 (kindAlone g types (wordIs (u .rtype)) (wordIs (u .selector)) j (readerOf s d)) log strs log₁ strs₁ u v
+      → Parses s d 4 (kindAlone g types (wordIs (u .rtype)) (selectorOf u) j (readerOf s d)) log strs log₁ strs₁ u v
       → SlotWalks s d (λ x. readSlot g types x j (readerOf s d)) log strs log₁ strs₁ u v
   unfolding SlotWalks
   walks-more q log₁ strs₁ v h log₀ strs₀ a b c x w = slot-more w s g types j d log₁ strs₁ (sym p ∙ q) v h
@@ -326,21 +329,21 @@ goes-on p q e = simp (ne-eqb q 2 e)
 
 -- nothing is in use
 pub no-use : (a b c : ℕ)
-    → record { rtype = 0; rid = 0; selector = 0; operands = 0; first = 0; second = 0; log = a; strings = b; base = c } ≡ unused a b c
+    → record { rtype = 0; rid = 0; operands = 0; first = parts 0 0; second = parts 0 0; log = a; strings = b; base = c } ≡ unused a b c
 unfolding unused
 no-use a b c = refl
 
 module _ (u : Used) (k n : ℕ) where
   -- a result type
   pub type-more : k ≡ 46
-      → record { rtype = n; rid = u .rid; selector = u .selector; operands = u .operands; first = u .first; second = u .second; log = u .log; strings = u .strings; base = u .base }
+      → record { rtype = n; rid = u .rid; operands = u .operands; first = u .first; second = u .second; log = u .log; strings = u .strings; base = u .base }
       ≡ withResult k n u
   unfolding withResult withResults
   type-more e = simp (eq-eqb k 46 e)
 
   -- a result id
   pub id-more : (k ≡ 46 → ⊥)
-      → record { rtype = u .rtype; rid = n; selector = u .selector; operands = u .operands; first = u .first; second = u .second; log = u .log; strings = u .strings; base = u .base }
+      → record { rtype = u .rtype; rid = n; operands = u .operands; first = u .first; second = u .second; log = u .log; strings = u .strings; base = u .base }
       ≡ withResult k n u
   unfolding withResult withResults
   id-more e = simp (ne-eqb k 46 e)

@@ -18,7 +18,7 @@ use Rattle.decoder.specs.Answer.{readerOf}
 use Rattle.parser.specs.declared.used.Used.{Used}
 use Rattle.parser.specs.declared.used.Parsed.{Parsed}
 use Rattle.parser.specs.declared.used.Parsed.the-variants.{Good, Bad}
-use Rattle.parser.specs.Parse.{Notes, notesOf, notes, note, Step, leftOf, Went, Few, Held, Accepted, Parses, prefix}
+use Rattle.parser.specs.Parse.{Notes, notesOf, notes, note, FirstFits, Step, leftOf, Went, Few, Held, Accepted, Parses, prefix}
 
 -- RUNS OF OPERANDS
 
@@ -101,8 +101,8 @@ step-went s d e n t m q =
 
 -- what is in use stays few
 pub step-few : (s : List ℕ) (d e : Decoder) (u v : Used) (n : ℕ) → Few s d u → Step s d e n → 1 ≤ n → v .operands ≡ u .operands + 1
-    → v .log ≤ u .log + 9 → v .strings ≤ u .strings + 4 * n → v .base ≡ u .base → Few s e v
-step-few s d e u v n f t h p l q b =
+    → v .log ≤ u .log + 9 → v .strings ≤ u .strings + 4 * n → v .base ≡ u .base → FirstFits v → Few s e v
+step-few s d e u v n f t h p l q b k =
     record {
       short = f .short;
       inside = t .inside;
@@ -111,6 +111,7 @@ step-few s d e u v n f t h p l q b =
       operands = omega (arith, t .next, f .operands);
       strings = omega (arith, t .next, f .strings);
       log = omega (arith, t .next, f .log);
+      fits = k;
     }
 
 -- WHAT IS HELD

@@ -13,7 +13,7 @@ use Rattle.spec.specs.Reader.{Reader, Read, got, refused, refusal, readerAt}
 use Rattle.operand.specs.Log.{Laid}
 use Rattle.decoder.specs.declared.Decoder.{Decoder}
 use Rattle.decoder.specs.Answer.{limitReached}
-use Rattle.tracker.specs.Track.{idIs, literalOf, Literals}
+use Rattle.tracker.specs.Track.{idIs, FirstFit, literalOf, Literals}
 use Rattle.parser.specs.Parse.{wordIs, isOperand, slotsAt}
 use Rattle.parser.specs.Body.{bodyRead}
 use Rattle.parser.specs.declared.used.Used.{Used}
@@ -35,6 +35,7 @@ pub record Handed (s : List ℕ) (at : ℕ) (x : Read Instr) (log₀ strs₀ log
   pub operands : length (instr .operands) ≡ r .operands
   pub few : 4 * r .operands ≤ at + 4 * r .words
   pub literals : Literals (instr .operands) (literalOf (r .first)) (literalOf (r .second))
+  pub fits : FirstFit (r .operands) (r .first) (r .second)
   pub nlog : r .log ≡ a + length (operandsLog (c + b) (instr .operands))
   pub nstrings : r .strings ≡ b + length (operandsStrings (instr .operands))
   pub few-log : 4 * r .log ≤ 9 * (at + 4 * r .words)
@@ -50,8 +51,8 @@ pub record Ends (count op place : ℕ) (n : Used) (r : Decoded) : Type 0 where
   pub rtype : idIs (r .rtype) ≡ wordIs (n .rtype)
   pub rid : idIs (r .rid) ≡ wordIs (n .rid)
   pub operands : r .operands ≡ n .operands
-  pub first : literalOf (r .first) ≡ wordIs (n .first)
-  pub second : literalOf (r .second) ≡ wordIs (n .second)
+  pub first : r .first ≡ n .first
+  pub second : r .second ≡ n .second
   pub log : r .log ≡ n .log
   pub strings : r .strings ≡ n .strings
 

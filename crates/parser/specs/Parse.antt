@@ -17,10 +17,12 @@ use Rattle.spec.specs.Records as records
 use Rattle.spec.specs.Reader.{Read, got, refused, Parse, _>>=_, _into_, give, readWord}
 use Rattle.spec.specs.Types.{literalInt}
 use Rattle.spec.specs.Match.{Seen, selector, known, readEnumerant, readLiteral, readOperand, readEmbedded}
+use Rattle.operand.specs.declared.Parts.{Parts}
 use Rattle.operand.specs.Parts.{parts}
 use Rattle.operand.specs.Log.{recordLength, Laid}
 use Rattle.decoder.specs.declared.Decoder.{Decoder}
 use Rattle.decoder.specs.Answer.{readerOf}
+use Rattle.tracker.specs.Track.{FirstFit, literalOf}
 use Rattle.parser.specs.declared.used.Used.{Used}
 use Rattle.parser.specs.declared.used.Parsed.{Parsed}
 use Rattle.parser.specs.declared.used.Parsed.the-variants.{Good, Bad}
@@ -36,13 +38,21 @@ pub record Notes : Type 0 where
   pub second : Option ℕ
   pub id : Option ℕ
 
--- what may be missing is 2^32 and a word where it is there
+-- a result that may be missing is 2^32 and a word where it is there
 unfoldable pub wordIs : ℕ → Option ℕ
 wordIs n = if ltb n 4294967296 then none else some (n % 4294967296)
 
+-- the id of an operand that is an IdRef, the arm of kind 33
+unfoldable pub idRefOf : Parts → Option ℕ
+idRefOf p = if eqb (p .kind) 33 then some (p .value) else none
+
+-- the id that the first operand in use is
+unfoldable pub selectorOf : Used → Option ℕ
+selectorOf u = if eqb (u .operands) 0 then none else idRefOf (u .first)
+
 -- the notes of what is in use
 unfoldable pub notesOf : Used → Notes
-notesOf u = record { count = u .operands; first = wordIs (u .first); second = wordIs (u .second); id = wordIs (u .selector) }
+notesOf u = record { count = u .operands; first = literalOf (u .first); second = literalOf (u .second); id = selectorOf u }
 
 -- the notes with one operand more, of which the literal number and the id are known
 unfoldable pub noteAs : Option ℕ → Option ℕ → Notes → Notes
@@ -65,18 +75,9 @@ notes (o ∷ os) n = notes os (note o n)
 
 -- ONE RECORD MORE
 
--- the same results and strings, one operand more, and the log up to a place
-pub record Noted (u : Used) (a i log : ℕ) (r : Used) : Type 0 where
-  pub rtype : r .rtype ≡ u .rtype
-  pub rid : r .rid ≡ u .rid
-  pub base : r .base ≡ u .base
-  pub strings : r .strings ≡ u .strings
-  pub log-is : r .log ≡ log
-  pub noted : notesOf r ≡ noteAs (wordIs a) (wordIs i) (notesOf u)
-
--- the value where the kind is that one
-unfoldable pub valueIf : ℕ → ℕ → ℕ → Option ℕ
-valueIf j k v = if eqb k j then some v else none
+-- the first two operands in use are operands, where they are there
+abbrev pub FirstFits : Used → Type 0
+FirstFits u = FirstFit (u .operands) (u .first) (u .second)
 
 -- the same results and strings, and one record of a kind and a value more
 pub record Pushed (k v : ℕ) (u r : Used) : Type 0 where
@@ -85,7 +86,8 @@ pub record Pushed (k v : ℕ) (u r : Used) : Type 0 where
   pub base : r .base ≡ u .base
   pub strings : r .strings ≡ u .strings
   pub log : r .log ≡ u .log + recordLength (parts k v)
-  pub noted : notesOf r ≡ noteAs (valueIf 34 k v) (valueIf 33 k v) (notesOf u)
+  pub noted : notesOf r ≡ noteAs (literalOf (parts k v)) (idRefOf (parts k v)) (notesOf u)
+  pub fits : FirstFits u → FirstFits r
 
 -- the same results, a string's record more, and so many bytes
 pub record Copied (size : ℕ) (u r : Used) : Type 0 where
@@ -95,6 +97,7 @@ pub record Copied (size : ℕ) (u r : Used) : Type 0 where
   pub strings : r .strings ≡ u .strings + size
   pub log : r .log ≡ u .log + 9
   pub noted : notesOf r ≡ noteAs none none (notesOf u)
+  pub fits : FirstFits u → FirstFits r
 
 -- READS AND STORES
 
@@ -114,7 +117,8 @@ pub record Went (d e : Decoder) (m : ℕ) : Type 0 where
   pub pace : e .offset + 4 * leftOf (e .limit) ≡ d .offset + 4 * leftOf (d .limit)
   pub forth : d .offset + m ≤ e .offset
 
--- so little is in use that nothing wraps: a record of nine bytes at most for each word, a byte of string for each byte; and there is a limit
+-- so little is in use that nothing wraps: a record of nine bytes at most for each word, a byte of string for each byte; there is a limit,
+-- and the first two operands are operands
 pub record Few (s : List ℕ) (d : Decoder) (u : Used) : Type 0 where
   pub short : length s ≤ 67108864
   pub inside : d .offset ≤ length s
@@ -123,6 +127,7 @@ pub record Few (s : List ℕ) (d : Decoder) (u : Used) : Type 0 where
   pub operands : 4 * u .operands ≤ d .offset
   pub strings : u .base + u .strings ≤ d .offset
   pub log : 4 * u .log ≤ 9 * d .offset
+  pub fits : FirstFits u
 
 -- operands are what was added to what is in use and, where they fit, to the stores
 pub record Held (log₀ strs₀ log strs : List ℕ) (u n : Used) (os : List records.Operand) : Type 0 where

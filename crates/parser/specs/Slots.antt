@@ -6,6 +6,7 @@ use lib.Dec.{eqb}
 use Rattle.spec.specs.Base.{if_then_else_}
 use Rattle.spec.specs.Reader.{Read, got, refused}
 use Rattle.spec.specs.Match.{Seen}
+use Rattle.operand.specs.Parts.{parts}
 use Rattle.decoder.specs.declared.Decoder.{Decoder}
 use Rattle.decoder.specs.Answer.{readerOf}
 use Rattle.parser.specs.declared.used.Used.{Used}
@@ -15,7 +16,7 @@ use Rattle.parser.specs.Parse.{Went, Few, Walked}
 
 -- what is in use before the first operand, from these places on, with so many string bytes before those of the store
 unfoldable pub unused : ℕ → ℕ → ℕ → Used
-unused a b c = record { rtype = 0; rid = 0; selector = 0; operands = 0; first = 0; second = 0; log = a; strings = b; base = c }
+unused a b c = record { rtype = 0; rid = 0; operands = 0; first = parts 0 0; second = parts 0 0; log = a; strings = b; base = c }
 
 -- the same operands with other results
 unfoldable pub withResults : ℕ → ℕ → Used → Used
@@ -23,7 +24,6 @@ withResults t i u =
     record {
       rtype = t;
       rid = i;
-      selector = u .selector;
       operands = u .operands;
       first = u .first;
       second = u .second;

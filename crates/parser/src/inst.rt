@@ -21,10 +21,9 @@ use crate::simple::simple_operands;
 use crate::used::Parsed;
 use crate::used::Used;
 use crate::used::id_of;
-use crate::used::literal_of;
 use decoder::Decoder;
 use decoder::WordRead;
-use operand::Operand;
+use operand::Parts;
 use spec::Found;
 use spec::Limit;
 use spec::Refusal;
@@ -40,8 +39,8 @@ pub struct Decoded {
     pub rtype: Id,
     pub rid: Id,
     pub operands: usize,
-    pub first: Operand,
-    pub second: Operand,
+    pub first: Parts,
+    pub second: Parts,
     pub log: usize,
     pub strings: usize,
 }
@@ -71,8 +70,8 @@ fn finished(words: u16, opcode: u16, place: usize, e: Decoder, u: Used) -> InstR
     let rtype = id_of(u.rtype);
     let rid = id_of(u.rid);
     let operands = u.operands;
-    let first = literal_of(u.first);
-    let second = literal_of(u.second);
+    let first = u.first;
+    let second = u.second;
     let log = u.log;
     let strings = u.strings;
     if e.limit_reached() {

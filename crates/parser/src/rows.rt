@@ -13,7 +13,8 @@ ghost use Rattle.decoder.specs.Answer.{readerOf};
 ghost use Rattle.grammar.specs.Index.{Indexed};
 ghost use Rattle.tracker.specs.Entries.{entriesOf};
 ghost use Rattle.tracker.specs.Hints.{Hinted};
-ghost use Rattle.parser.specs.Parse.{Few, Parses, Walks, wordIs, isOperand, kindAlone, slotsAt, leftOf};
+ghost use Rattle.tracker.specs.Track.{idIs, FirstFit};
+ghost use Rattle.parser.specs.Parse.{Few, Parses, Walks, wordIs, selectorOf, isOperand, kindAlone, slotsAt, leftOf};
 ghost use Rattle.parser.specs.Slots.{SlotWalks, unused, withResult};
 use crate::embedded::parse_spec_constant_op;
 use crate::literals::parse_literal;
@@ -28,19 +29,21 @@ use crate::used::there;
 use decoder::Decoder;
 use decoder::WordRead;
 use grammar::SlotAt;
+use operand::Parts;
+use tracker::Id;
 use tracker::TypeTracker;
 
 // What is in use before the first operand.
 pub fn nothing_used(log: usize, strings: usize, base: usize) -> Used
     ensures { λ r. ⌜ r ≡ unused «log» «strings» base ⌝ }
 {
+    let none = Parts { kind: 0, value: 0 };
     Used {
         rtype: 0,
         rid: 0,
-        selector: 0,
         operands: 0,
-        first: 0,
-        second: 0,
+        first: none,
+        second: none,
         log,
         strings,
         base,
@@ -53,7 +56,6 @@ pub fn with_result(u: Used, kind: u8, id: u64) -> Used
 {
     let rtype = u.rtype;
     let rid = u.rid;
-    let selector = u.selector;
     let operands = u.operands;
     let first = u.first;
     let second = u.second;
@@ -64,7 +66,6 @@ pub fn with_result(u: Used, kind: u8, id: u64) -> Used
         return Used {
             rtype: id,
             rid,
-            selector,
             operands,
             first,
             second,
@@ -76,7 +77,6 @@ pub fn with_result(u: Used, kind: u8, id: u64) -> Used
     Used {
         rtype,
         rid: id,
-        selector,
         operands,
         first,
         second,
@@ -97,6 +97,21 @@ pub fn next_place(place: usize, quantifier: u8) -> usize
     place + 3
 }
 
+// The id that the first operand is, where it is one.
+fn selector_of(u: Used) -> Id
+    requires { ⌜ FirstFit (u .operands) (u .first) (u .second) ⌝ }
+    ensures { λ r. ⌜ idIs r ≡ selectorOf u ⌝ }
+{
+    if u.operands == 0 {
+        return Id::Absent;
+    }
+    let first = u.first;
+    if first.kind == 33 {
+        return Id::Is(first.value as u32);
+    }
+    Id::Absent
+}
+
 // An operand that is no result, by the result type and by the id that the first operand is.
 fn parse_kind(
     d: Decoder,
@@ -114,14 +129,14 @@ fn parse_kind(
     requires { ⌜ Indexed (now g) (now index) ⌝ }
     requires { ⌜ Few (now s) d u × (3 * tracker .count ≤ length (now types)) × (mayBeOperand kind ≡ true) × (isResult kind ≡ false) ⌝ }
     requires { ⌜ Hinted (tracker .count) (now types) (now hints) (tracker .greatest) ⌝ }
-    ensures { λ r. ⌜ Parses (now (s .entry)) d 4 (kindAlone (grammarOf (now (g .entry))) (entriesOf (tracker .count) (now (types .entry))) (wordIs (u .rtype)) (wordIs (u .selector)) kind (readerOf (now (s .entry)) d)) (now (log .entry)) (now (strings .entry)) (now (log .exit)) (now (strings .exit)) u r ⌝ }
+    ensures { λ r. ⌜ Parses (now (s .entry)) d 4 (kindAlone (grammarOf (now (g .entry))) (entriesOf (tracker .count) (now (types .entry))) (wordIs (u .rtype)) (selectorOf u) kind (readerOf (now (s .entry)) d)) (now (log .entry)) (now (strings .entry)) (now (log .exit)) (now (strings .exit)) u r ⌝ }
 {
     if kind == 48 {
         let id = id_of(u.rtype);
         return parse_literal(d, s, g, index, types, hints, tracker, id, log, strings, u);
     }
     if kind == 49 {
-        let id = id_of(u.selector);
+        let id = selector_of(u);
         return parse_literal_pair(d, s, g, index, types, hints, tracker, id, log, strings, u);
     }
     if kind == 39 {

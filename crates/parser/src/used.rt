@@ -1,31 +1,28 @@
 // What an instruction has come to so far, and one record more.
 ghost use mathlib.Core.Path.{_≡_};
-ghost use mathlib.Core.Bool.{false};
 ghost use mathlib.Core.Option.{some};
 ghost use Prim.Native.Nat.{_+_, _*_, _≤_};
 ghost use lib.ListN.{length};
 ghost use lib.Seq.{slice};
 ghost use Rattle.spec.specs.Reader.{refusal};
-ghost use Rattle.operand.specs.Parts.{parts, isTwo, Fits};
-ghost use Rattle.operand.specs.Log.{recordOf, Laid};
-ghost use Rattle.tracker.specs.Track.{idIs, literalOf};
-ghost use Rattle.parser.specs.Parse.{wordIs, valueIf, Noted, Pushed, Copied};
+ghost use Rattle.operand.specs.Parts.{parts, Fits};
+ghost use Rattle.operand.specs.Log.{recordOf, recordLength, Laid};
+ghost use Rattle.tracker.specs.Track.{idIs};
+ghost use Rattle.parser.specs.Parse.{wordIs, Pushed, Copied};
 use decoder::Decoder;
-use operand::Operand;
 use operand::Parts;
 use spec::Refusal;
 use tracker::Id;
 
-// The results and the operands of an instruction so far: the id that the first operand is, how many operands, the literal numbers of
-// the first two, how much of the operand log and of the string bytes is in use, and how many string bytes there are before those of the
-// store. What may be missing is 2^32 and a word where it is there, else 0.
+// The results and the operands of an instruction so far: how many operands, the first two, how much of the operand log and of the string
+// bytes is in use, and how many string bytes there are before those of the store. A result that may be missing is 2^32 and a word where
+// it is there, else 0; an operand that is missing is of kind 0.
 pub struct Used {
     pub rtype: u64,
     pub rid: u64,
-    pub selector: u64,
     pub operands: usize,
-    pub first: u64,
-    pub second: u64,
+    pub first: Parts,
+    pub second: Parts,
     pub log: usize,
     pub strings: usize,
     pub base: usize,
@@ -66,35 +63,13 @@ pub fn id_of(x: u64) -> Id
     Id::Is((x % 4294967296) as u32)
 }
 
-// A literal number, where it is there, else an operand that is none.
-pub fn literal_of(x: u64) -> Operand
-    ensures { λ r. ⌜ literalOf r ≡ wordIs x ⌝ }
-{
-    if x < 4294967296 {
-        return Operand::IdRef(0);
-    }
-    Operand::LiteralInt32((x % 4294967296) as u32)
-}
-
-// The value of an operand that is of that kind, a kind of one word.
-fn value_if(wanted: u8, kind: u8, value: u64) -> u64
-    requires { ⌜ Fits kind value × (isTwo wanted ≡ false) ⌝ }
-    ensures { λ r. ⌜ wordIs r ≡ valueIf wanted kind value ⌝ }
-{
-    if kind == wanted {
-        return 4294967296 + value;
-    }
-    0
-}
-
-// One operand more, a literal number or an id or neither, whose record ends there in the log.
-fn noted(u: Used, literal: u64, id: u64, log: usize) -> Used
-    requires { ⌜ u .operands ≤ 1000000000 ⌝ }
-    ensures { λ r. ⌜ Noted u literal id log r ⌝ }
+// One operand more, whose record ends there in the log.
+fn noted(u: Used, p: Parts, log: usize) -> Used
+    requires { ⌜ (u .operands ≤ 1000000000) × Fits (p .kind) (p .value) × (log ≡ u .log + recordLength p) ⌝ }
+    ensures { λ r. ⌜ Pushed (p .kind) (p .value) u r ⌝ }
 {
     let rtype = u.rtype;
     let rid = u.rid;
-    let selector = u.selector;
     let operands = u.operands;
     let first = u.first;
     let second = u.second;
@@ -104,9 +79,8 @@ fn noted(u: Used, literal: u64, id: u64, log: usize) -> Used
         return Used {
             rtype,
             rid,
-            selector: id,
             operands: 1,
-            first: literal,
+            first: p,
             second,
             log,
             strings,
@@ -117,10 +91,9 @@ fn noted(u: Used, literal: u64, id: u64, log: usize) -> Used
         return Used {
             rtype,
             rid,
-            selector,
             operands: 2,
             first,
-            second: literal,
+            second: p,
             log,
             strings,
             base,
@@ -129,7 +102,6 @@ fn noted(u: Used, literal: u64, id: u64, log: usize) -> Used
     Used {
         rtype,
         rid,
-        selector,
         operands: operands + 1,
         first,
         second,
@@ -146,10 +118,9 @@ pub fn push(log: &mut [u8], kind: u8, value: u64, u: Used) -> Used
     ensures { λ r. ⌜ Laid (now (log .entry)) (u .log) (recordOf (parts kind value)) (now (log .exit)) ⌝ }
 {
     let at = u.log;
-    let next = operand::keep_record(log, at, Parts { kind, value });
-    let literal = value_if(34, kind, value);
-    let id = value_if(33, kind, value);
-    noted(u, literal, id, next)
+    let p = Parts { kind, value };
+    let next = operand::keep_record(log, at, p);
+    noted(u, p, next)
 }
 
 // A string's record, and its bytes, those of `s` from a place on: each kept where it fits.

@@ -1,6 +1,6 @@
 -- Laws of an operand's literal number: the arms in their order, and which of them has one.
 use Prim.Native.Nat.{ℕ, suc}
-use mathlib.Core.Path.{_≡_, refl, subst}
+use mathlib.Core.Path.{_≡_, refl, ap, sym, subst, _∙_}
 use mathlib.Core.List.{List, [], _∷_}
 use mathlib.Core.Option.{none, some}
 use native.Mathlib.Omega.{arith}
@@ -9,6 +9,7 @@ use types.Run.{OneOf, miss}
 use denote.Enum.Declared.{tagOf}
 use Rattle.operand.specs.declared.Operand.{Operand}
 use Rattle.operand.specs.declared.Operand.the-variants.{ImageOperands, FPFastMathMode, SelectionControl, LoopControl, FunctionControl, MemorySemantics, MemoryAccess, KernelProfilingInfo, SourceLanguage, ExecutionModel, AddressingModel, MemoryModel, ExecutionMode, StorageClass, Dim, SamplerAddressingMode, SamplerFilterMode, ImageFormat, ImageChannelOrder, ImageChannelDataType, FPRoundingMode, LinkageType, AccessQualifier, FunctionParameterAttribute, Decoration, BuiltIn, Scope, GroupOperation, KernelEnqueueFlags, Capability, IdMemorySemantics, IdScope, IdRef, LiteralInt32, LiteralExtInstInteger, LiteralInt64, LiteralFloat32, LiteralFloat64, LiteralSpecConstantOpInteger, LiteralString, RayFlags, RayQueryIntersection, RayQueryCommittedIntersectionType, RayQueryCandidateIntersectionType, FragmentShadingRate}
+use Rattle.operand.specs.declared.Parts.{Parts}
 use Rattle.operand.specs.Parts.{partsOf}
 use Rattle.operand.proofs.Operand as the
 use Rattle.tracker.specs.Track.{literalOf}
@@ -68,15 +69,17 @@ others =
     0 ∷ 1 ∷ 2 ∷ 3 ∷ 4 ∷ 5 ∷ 6 ∷ 7 ∷ 8 ∷ 9 ∷ 10 ∷ 11 ∷ 12 ∷ 13 ∷ 14 ∷ 15 ∷ 16 ∷ 17 ∷ 18 ∷ 19 ∷ 20 ∷ 21 ∷ 22 ∷ 23 ∷ 24 ∷ 25 ∷ 26 ∷ 27 ∷ 28 ∷ 29 ∷ 30 ∷ 31 ∷ 32 ∷ 34 ∷ 35 ∷ 36 ∷ 37 ∷ 38 ∷ 39 ∷ 40 ∷ 41 ∷ 42 ∷ 43 ∷ 44 ∷ []
 
 -- a LiteralInt32 has its number
-pub literal-there : (o : Operand) (v : ℕ) → o ≡ LiteralInt32 v → some v ≡ literalOf o
+pub literal-there : (o : Operand) (p : Parts) → partsOf o ≡ p → (v : ℕ) → o ≡ LiteralInt32 v → some v ≡ literalOf p
 unfolding literalOf partsOf
-literal-there o v e = rw e
+literal-there o p q v e = ap literalOf (sym (ap partsOf e) ∙ q)
 
 -- no other arm has one
-pub literal-missing : (o : Operand) → OneOf others (tagOf the.the-type o) → none ≡ literalOf o
+pub literal-missing : (o : Operand) (p : Parts) → partsOf o ≡ p → OneOf others (tagOf the.the-type o) → none ≡ literalOf p
 unfolding literalOf
-literal-missing o h =
-    let other : partsOf o .kind ≡ 34 → ⊥ =
-    λ e. let q : tagOf the.the-type o ≡ 33 = omega (arith, kind-in-order o, e) in miss others 33 tt (subst (OneOf others) q h)
+literal-missing o p q h =
+    let other : p .kind ≡ 34 → ⊥ =
+    λ e.
+    let t : tagOf the.the-type o ≡ 33 = omega (arith, kind-in-order o, ap (λ (x : Parts). x .kind) q, e) in
+    miss others 33 tt (subst (OneOf others) t h)
     in
-    simp (ne-eqb (partsOf o .kind) 34 other)
+    simp (ne-eqb (p .kind) 34 other)

@@ -1,5 +1,5 @@
--- Tracking over what an instruction is handed on as: ids, how many operands, and the literal numbers of the first two.
-use Prim.Native.Nat.{ℕ}
+-- Tracking over what an instruction is handed on as: ids, how many operands, and the first two.
+use Prim.Native.Nat.{ℕ, _≤_}
 use mathlib.Core.Path.{_≡_}
 use mathlib.Core.List.{List, [], _∷_}
 use mathlib.Core.Option.{Option, none, some}
@@ -9,8 +9,8 @@ use Rattle.spec.specs.Records as records
 use Rattle.spec.specs.Records.{Entry}
 use Rattle.spec.specs.Layout.{isType}
 use Rattle.spec.specs.Types.{define, literalInt, defineInt, defineFloat, trackValue}
-use Rattle.operand.specs.declared.Operand.{Operand}
-use Rattle.operand.specs.Parts.{partsOf}
+use Rattle.operand.specs.declared.Parts.{Parts}
+use Rattle.operand.specs.Parts.{Fits}
 use Rattle.tracker.specs.declared.Id.{Id}
 use Rattle.tracker.specs.declared.Id.the-variants.{Absent, Is}
 use Rattle.tracker.specs.declared.Change.{Change}
@@ -21,9 +21,14 @@ unfoldable pub idIs : Id → Option ℕ
 idIs Absent = none
 idIs (Is i) = some i
 
+-- the first two operands have a kind and a value of an operand, where they are there
+pub record FirstFit (count : ℕ) (a b : Parts) : Type 0 where
+  pub first : 1 ≤ count → Fits (a .kind) (a .value)
+  pub second : 2 ≤ count → Fits (b .kind) (b .value)
+
 -- the number of an operand that is a LiteralInt32, the arm of kind 34
-unfoldable pub literalOf : Operand → Option ℕ
-literalOf o = if eqb (partsOf o .kind) 34 then some (partsOf o .value) else none
+unfoldable pub literalOf : Parts → Option ℕ
+literalOf p = if eqb (p .kind) 34 then some (p .value) else none
 
 -- OpTypeInt: with fewer than two operands nothing is tracked
 unfoldable pub intOf : ℕ → ℕ → Option ℕ → Option ℕ → List Entry → List Entry

@@ -6,10 +6,13 @@ ghost use lib.ListN.{length};
 ghost use lib.Seq.{sets};
 ghost use Rattle.spec.specs.Records.{Entry};
 ghost use Rattle.spec.specs.Types.{entryOf, define, trackValue};
+ghost use Rattle.operand.specs.Parts.{Fits};
 ghost use Rattle.tracker.specs.Entries.{entriesOf, stored, placeOf, typeAt, resolvedIs};
 ghost use Rattle.tracker.specs.Hints.{hintOf, noted, newOf, hintsWith, greaterOf, greatestWith, Hinted};
-ghost use Rattle.tracker.specs.Track.{idIs, literalOf, intOf, floatOf, typeOf, trackOf, changed};
+ghost use Rattle.tracker.specs.Track.{idIs, literalOf, FirstFit, intOf, floatOf, typeOf, trackOf, changed};
 use operand::Operand;
+use operand::Parts;
+use operand::operand_of;
 use spec::Found;
 
 // More entries than this have no hints, as a hint has 32 bits.
@@ -133,16 +136,19 @@ fn put_entry(types: &mut [u32], index: usize, id: u32, width: u32, sort: u32)
 }
 
 // OpTypeInt: "an operand record that is no LiteralInt32 sets no width".
-fn track_int(id: u32, count: usize, first: Operand, second: Operand) -> Change
+fn track_int(id: u32, count: usize, first: Parts, second: Parts) -> Change
+    requires { ⌜ FirstFit count first second ⌝ }
     ensures { λ r. ⌜ ((es : List Entry) → changed r es ≡ intOf id count (literalOf first) (literalOf second) es) ⌝ }
 {
     if count < 2 {
         return Change::Nothing;
     }
-    let Operand::LiteralInt32(width) = first else {
+    let a = operand_of(first.kind, first.value);
+    let Operand::LiteralInt32(width) = a else {
         return Change::Nothing;
     };
-    let Operand::LiteralInt32(sign) = second else {
+    let b = operand_of(second.kind, second.value);
+    let Operand::LiteralInt32(sign) = b else {
         return Change::Nothing;
     };
     if sign == 1 {
@@ -152,20 +158,23 @@ fn track_int(id: u32, count: usize, first: Operand, second: Operand) -> Change
 }
 
 // OpTypeFloat: the same, with a width alone.
-fn track_float(id: u32, count: usize, only: Operand) -> Change
+fn track_float(id: u32, count: usize, only: Parts) -> Change
+    requires { ⌜ (1 ≤ count → Fits (only .kind) (only .value)) ⌝ }
     ensures { λ r. ⌜ ((es : List Entry) → changed r es ≡ floatOf id count (literalOf only) es) ⌝ }
 {
     if count < 1 {
         return Change::Nothing;
     }
-    let Operand::LiteralInt32(width) = only else {
+    let o = operand_of(only.kind, only.value);
+    let Operand::LiteralInt32(width) = o else {
         return Change::Nothing;
     };
     Change::Define { id, width, sort: 3 }
 }
 
 // A result that is a type: integers and floats alone are tracked.
-fn track_type(opcode: u16, id: u32, count: usize, first: Operand, second: Operand) -> Change
+fn track_type(opcode: u16, id: u32, count: usize, first: Parts, second: Parts) -> Change
+    requires { ⌜ FirstFit count first second ⌝ }
     ensures { λ r. ⌜ ((es : List Entry) → changed r es ≡ typeOf opcode id count (literalOf first) (literalOf second) es) ⌝ }
 {
     match opcode {
@@ -225,11 +234,12 @@ impl TypeTracker {
         rtype: Id,
         rid: Id,
         count: usize,
-        first: Operand,
-        second: Operand,
+        first: Parts,
+        second: Parts,
     ) -> Change
         requires { ⌜ 3 * self .count ≤ length (now types) ⌝ }
         requires { ⌜ Hinted (self .count) (now types) (now hints) (self .greatest) ⌝ }
+        requires { ⌜ FirstFit count first second ⌝ }
         ensures { λ r. ⌜ changed r (entriesOf (self .count) (now (types .entry)))
             ≡ trackOf opcode (idIs rtype) (idIs rid) count (literalOf first) (literalOf second)
             (entriesOf (self .count) (now (types .entry))) ⌝ }
@@ -252,11 +262,12 @@ impl TypeTracker {
         rtype: Id,
         rid: Id,
         count: usize,
-        first: Operand,
-        second: Operand,
+        first: Parts,
+        second: Parts,
     ) -> usize
         requires { ⌜ 3 * self .count ≤ length (now types) ⌝ }
         requires { ⌜ Hinted (self .count) (now types) (now hints) (self .greatest) ⌝ }
+        requires { ⌜ FirstFit count first second ⌝ }
         ensures { λ r. ⌜ r ≡ length (trackOf opcode (idIs rtype) (idIs rid) count (literalOf first) (literalOf second)
             (entriesOf (self .count) (now (types .entry)))) ⌝ }
     {
@@ -318,12 +329,13 @@ impl TypeTracker {
         rtype: Id,
         rid: Id,
         count: usize,
-        first: Operand,
-        second: Operand,
+        first: Parts,
+        second: Parts,
     ) -> TypeTracker
         requires { ⌜ Hinted (self .count) (now types) (now hints) (self .greatest) ⌝ }
         requires { ⌜ 3 * length (trackOf opcode (idIs rtype) (idIs rid) count (literalOf first) (literalOf second)
             (entriesOf (self .count) (now types))) ≤ length (now types) ⌝ }
+        requires { ⌜ FirstFit count first second ⌝ }
         ensures { λ r. ⌜ r .count ≡ length (trackOf opcode (idIs rtype) (idIs rid) count (literalOf first) (literalOf second)
             (entriesOf (self .count) (now (types .entry)))) ⌝ }
         ensures { λ _. ⌜ now (types .exit) ≡ stored (now (types .entry)) (trackOf opcode (idIs rtype) (idIs rid) count (literalOf first) (literalOf second)

@@ -8,14 +8,17 @@ use Rattle.tracker.proofs.track_float.Tie as tie
 returns : tie.Need-returns
 returns c = float-few _ _ _ (c .if1 .taken)
 
-enum-known-only : tie.Need-enum-known-only
-enum-known-only c = search needs
+operand-of-requires : tie.Need-operand-of-requires
+operand-of-requires c κs = c .before .pre (c .if1 .left)
+
+enum-known-o : tie.Need-enum-known-o
+enum-known-o c = search needs
 
 returns-2 : tie.Need-returns-2
-returns-2 c = float-no-width _ _ _ (c .before .if1 .left) (literal-missing _ (c .match .keys2))
+returns-2 c = float-no-width _ _ _ (c .before .before .if1 .left) (literal-missing _ _ (c .before .operand-of .ensures) (c .match .keys2))
 
 returns-3 : tie.Need-returns-3
-returns-3 c = float-defined _ _ _ _ (c .before .before .before .if1 .left) (literal-there _ _ (c .before .only .given .1))
+returns-3 c = float-defined _ _ _ _ (c .before .before .before .before .if1 .left) (literal-there _ _ (c .before .before .before .operand-of .ensures) _ (c .before .o .given .1))
 
 pub track-float-spec : {M : Type 1} → statement M
-track-float-spec = tie.close (tie.spec returns enum-known-only returns-2 returns-3)
+track-float-spec = tie.close (tie.spec returns operand-of-requires enum-known-o returns-2 returns-3)

@@ -15,7 +15,7 @@ enum-known-read-2 : tie.Need-enum-known-read-2
 enum-known-read-2 c = search needs
 
 admit-requires : tie.Need-admit-requires
-admit-requires c κs = let h = few-read _ _ _ _ _ _ _ _ _ _ _ (c .before .before .before .before .before .before .before .parse-inst .ensures .0 .decodes) _ (c .before .read2 .given .1) (c .before .before .before .before .before .before .before .before .before .before .before .before .before .before .before .before .before .pre .1 .0 .short) in let b = c .before .before .before .before .before .before .before .before .before .before .before .before .before .before .before .before .before .pre .1 .0 in ((b .types-in, omega (arith, b .few, b .inside, b .short)), (c .before .before .before .before .before .before .before .before .before .before .before .before .before .before .before .before .before .pre .1 .1, (b .hinted, (omega (arith, b .few-log, b .inside, b .short), h .0, omega (arith, b .few-strings, b .inside, b .short), h .1))))
+admit-requires c κs = let h = few-read _ _ _ _ _ _ _ _ _ _ _ (c .before .before .before .before .before .before .before .parse-inst .ensures .0 .decodes) _ (c .before .read2 .given .1) (c .before .before .before .before .before .before .before .before .before .before .before .before .before .before .before .before .before .pre .1 .0 .short) in let b = c .before .before .before .before .before .before .before .before .before .before .before .before .before .before .before .before .before .pre .1 .0 in ((b .types-in, omega (arith, b .few, b .inside, b .short)), (c .before .before .before .before .before .before .before .before .before .before .before .before .before .before .before .before .before .pre .1 .1, (b .hinted, ((omega (arith, b .few-log, b .inside, b .short), h .0, omega (arith, b .few-strings, b .inside, b .short), h .1), h .2))))
 
 same-length : tie.Need-same-length
 same-length c = search needs

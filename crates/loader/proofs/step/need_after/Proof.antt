@@ -12,7 +12,7 @@ add-entries : tie.Need-add-entries
 add-entries c = search needs
 
 after-requires : tie.Need-after-requires
-after-requires c κs = (c .before .before .before .before .before .pre .0 .0, c .before .before .before .before .before .pre .1 .0)
+after-requires c κs = let asked = c .before .before .before .before .before .before .before .pre in (asked .0 .0, (asked .1 .0, asked .1 .1 .1))
 
 add-t13 : tie.Need-add-t13
 add-t13 c = search needs
@@ -21,11 +21,11 @@ add-t14 : tie.Need-add-t14
 add-t14 c = search needs
 
 add-t15 : tie.Need-add-t15
-add-t15 c = omega (arith, c .before .before .before .before .before .before .before .before .before .before .pre .1 .1 .2, c .before .before .before .before .before .before .before .before .before .before .pre .1 .1 .3)
+add-t15 c = omega (arith, c .before .before .before .before .before .before .before .before .before .before .pre .1 .1 .0 .2, c .before .before .before .before .before .before .before .before .before .before .pre .1 .1 .0 .3)
 
 returns : tie.Need-returns
 unfolding tracked
-returns c = ⊎-elim (λ w. room-by _ _ _ _ _ (w .2 ∙ w .1 .ensures)) (λ w. room-spare _ _ _ _ _ (w .1) (w .0 .left)) (c .before .before .before .before .before .if1 .came)
+returns c = ⊎-elim (λ w. room-by _ _ _ _ _ (w .4 ∙ w .3 .ensures)) (λ w. room-spare _ _ _ _ _ (w .1) (w .0 .left)) (c .before .before .before .before .before .if1 .came)
 
 pub need-after-spec : {M : Type 1} → statement M
 need-after-spec =

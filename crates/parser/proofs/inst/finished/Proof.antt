@@ -17,8 +17,6 @@ finished-spec =
     (λ c κs. search needs)
     (λ c κs. search needs)
     (λ c κs. search needs)
-    (λ c κs. search needs)
-    (λ c κs. search needs)
     returns
     (λ c κs. search needs)
     (λ c. ended-left _ _ _ _ _ _ _ (c .before .before .limit-reached .ensures) (c .before .if1 .left) (c .no-inst .ensures)))

@@ -20,8 +20,8 @@ same-length-2 c = search needs
 returns : tie.Need-returns
 returns c = same-read _ _ _ _ _ _ _ _ _ _ _ (kind-literal _ _ _ _ _ _ (c .before .before .before .before .before .before .before .before .if1 .taken) _ (c .before .before .before .before .before .before .before .id-of .ensures)) (c .before .before .before .before .parse-literal .ensures)
 
-id-of-requires-2 : tie.Need-id-of-requires-2
-id-of-requires-2 c κs = search needs
+selector-of-requires : tie.Need-selector-of-requires
+selector-of-requires c κs = c .before .before .before .before .before .before .before .before .before .pre .1 .0 .0 .fits
 
 parse-literal-pair-requires : tie.Need-parse-literal-pair-requires
 parse-literal-pair-requires c κs = let p = c .before .before .before .before .before .before .before .before .before .before .before .before .pre in (p .0, ((p .1 .0 .0, p .1 .0 .1), p .1 .1))
@@ -33,7 +33,7 @@ same-length-4 : tie.Need-same-length-4
 same-length-4 c = search needs
 
 returns-2 : tie.Need-returns-2
-returns-2 c = same-read _ _ _ _ _ _ _ _ _ _ _ (kind-pair _ _ _ _ _ _ (c .before .before .before .before .before .before .before .before .before .if1 .left) (c .before .before .before .before .before .before .before .before .if2 .taken) _ (c .before .before .before .before .before .before .before .id-of2 .ensures)) (c .before .before .before .before .parse-literal-pair .ensures)
+returns-2 c = same-read _ _ _ _ _ _ _ _ _ _ _ (kind-pair _ _ _ _ _ _ (c .before .before .before .before .before .before .before .before .before .if1 .left) (c .before .before .before .before .before .before .before .before .if2 .taken) _ (c .before .before .before .before .before .before .before .selector-of .ensures)) (c .before .before .before .before .parse-literal-pair .ensures)
 
 parse-spec-constant-op-requires : tie.Need-parse-spec-constant-op-requires
 parse-spec-constant-op-requires c κs = let p = c .before .before .before .before .before .before .before .before .before .before .before .before .pre in (p .0, p .1 .0 .0)
@@ -68,7 +68,7 @@ parse-kind-spec =
     same-length
     same-length-2
     returns
-    id-of-requires-2
+    selector-of-requires
     parse-literal-pair-requires
     same-length-3
     same-length-4

@@ -1,18 +1,11 @@
 -- `parser::used::push` meets its contract. Assumes nothing.
 use Rattle.operand.proofs.LogLaws.{length-record, laid-kept}
-use Rattle.parser.proofs.UsedLaws.{pushed}
 use borrow.Author.Needs.{needs}
 use Rattle.parser.proofs.used.push.Statement.{statement}
 use Rattle.parser.proofs.used.push.Tie as tie
 
 keep-record-requires : tie.Need-keep-record-requires
 keep-record-requires c κs = search needs
-
-value-if-requires : tie.Need-value-if-requires
-value-if-requires c κs = search needs
-
-value-if-requires-2 : tie.Need-value-if-requires-2
-value-if-requires-2 c κs = search needs
 
 noted-requires : tie.Need-noted-requires
 noted-requires c κs = search needs
@@ -21,15 +14,13 @@ same-length : tie.Need-same-length
 same-length c = search needs
 
 returns : tie.Need-returns
-returns c = (pushed _ _ _ _ _ _ _ (c .noted .ensures) (c .before .before .before .before .before .keep-record .ensures .0) (c .before .before .value-if .ensures) (c .before .value-if2 .ensures), laid-kept _ _ _ _ _ (length-record _) (c .before .before .before .before .before .keep-record .ensures .1))
+returns c = (c .noted .ensures, laid-kept _ _ _ _ _ (length-record _) (c .before .before .before .keep-record .ensures .1))
 
 pub push-spec : {M : Type 1} → statement M
 push-spec =
     tie.close
     (tie.spec
     keep-record-requires
-    value-if-requires
-    value-if-requires-2
     noted-requires
     same-length
     returns)

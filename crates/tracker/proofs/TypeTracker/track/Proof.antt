@@ -17,14 +17,17 @@ enum-told-2 c = search needs
 
 returns : tie.Need-returns
 returns c =
-    let h = room-before _ _ _ _ _ _ _ _ (c .before .before .before .before .pre .1) in
+    let h = room-before _ _ _ _ _ _ _ _ (c .before .before .before .before .pre .1 .0) in
     let e = result-absent _ _ _ _ _ _ _ (c .enum-told2 .given .1) in
     let n = none-defined _ _ _ _ e refl in
     let k = none-noted _ _ _ _ (none-new _ _ n) in
     (n, (none-stored _ _ _ _ e h refl, (k .0, (k .1, c .before .before .before .before .pre .0))))
 
 change-requires : tie.Need-change-requires
-change-requires c κs = (room-before _ _ _ _ _ _ _ _ (c .before .before .before .before .before .before .pre .1), c .before .before .before .before .before .before .pre .0)
+change-requires c κs = (
+  room-before _ _ _ _ _ _ _ _ (c .before .before .before .before .before .before .pre .1 .0),
+  (c .before .before .before .before .before .before .pre .0, c .before .before .before .before .before .before .pre .1 .1),
+)
 
 enum-known-change : tie.Need-enum-known-change
 enum-known-change c = search needs
@@ -40,7 +43,7 @@ same-length-2 c = search needs
 
 returns-2 : tie.Need-returns-2
 returns-2 c =
-    let h = room-before _ _ _ _ _ _ _ _ (c .before .before .before .before .before .before .before .before .before .pre .1) in
+    let h = room-before _ _ _ _ _ _ _ _ (c .before .before .before .before .before .before .before .before .before .pre .1 .0) in
     let e = c .before .before .change .ensures in
     let n = none-defined _ _ _ _ e (c .enum-told3 .given .1) in
     let k = none-noted _ _ _ _ (none-new _ _ n) in
@@ -48,10 +51,10 @@ returns-2 c =
 
 define-requires : tie.Need-define-requires
 define-requires c κs = (
-  room-before _ _ _ _ _ _ _ _ (c .before .before .before .before .before .before .before .before .before .before .before .before .pre .1),
+  room-before _ _ _ _ _ _ _ _ (c .before .before .before .before .before .before .before .before .before .before .before .before .pre .1 .0),
   (
     c .before .before .before .before .before .before .before .before .before .before .before .before .pre .0,
-    one-room _ _ _ _ (c .before .before .before .before .before .change .ensures) _ _ _ (c .before .before .before .change2 .given .1) (c .before .before .before .before .before .before .before .before .before .before .before .before .pre .1),
+    one-room _ _ _ _ (c .before .before .before .before .before .change .ensures) _ _ _ (c .before .before .before .change2 .given .1) (c .before .before .before .before .before .before .before .before .before .before .before .before .pre .1 .0),
   ),
 )
 

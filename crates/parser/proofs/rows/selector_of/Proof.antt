@@ -1,0 +1,24 @@
+-- `parser::rows::selector_of` meets its contract.
+use native.Mathlib.Omega.{arith}
+use Rattle.tracker.specs.Track.{idIs}
+use Rattle.parser.proofs.UsedLaws.{selector-none, selector-there, selector-absent, selector-small}
+use Rattle.parser.proofs.rows.selector_of.Statement.{statement}
+use Rattle.parser.proofs.rows.selector_of.Tie as tie
+
+returns : tie.Need-returns
+unfolding idIs
+returns c = selector-none _ (c .if1 .taken)
+
+cast-t4 : tie.Need-cast-t4
+cast-t4 c = omega (arith, selector-small (c .before .before .before .before .before .before .args .u) (c .before .before .before .before .if1 .left) (c .before .before .before .before .before .before .pre) (c .before .if2 .taken))
+
+returns-2 : tie.Need-returns-2
+unfolding idIs
+returns-2 c = selector-there _ (c .before .before .before .before .if1 .left) (c .before .if2 .taken)
+
+returns-3 : tie.Need-returns-3
+unfolding idIs
+returns-3 c = selector-absent _ (c .before .before .before .if1 .left) (c .if2 .left)
+
+pub selector-of-spec : {M : Type 1} → statement M
+selector-of-spec = tie.close (tie.spec returns cast-t4 returns-2 returns-3)
