@@ -9,7 +9,9 @@ mod run;
 mod step;
 
 use parts::no_instruction;
-use run::load_with;
+use run::SHORT;
+use run::load_few;
+use run::load_many;
 use spec::Loaded;
 
 // Loads a module by the bytes of a grammar.
@@ -32,7 +34,10 @@ pub fn load(
     }
     let mut index = [0u16; grammar::SIZE];
     grammar::fill_index(grammar, &mut index);
-    load_with(module, grammar, &index, instructions, log, strings, types)
+    if module.len() <= SHORT {
+        return load_few(module, grammar, &index, instructions, log, strings, types);
+    }
+    load_many(module, grammar, &index, instructions, log, strings, types)
 }
 
 // Loads a module by the built-in grammar, for which nothing is checked or indexed at run time.
@@ -51,5 +56,8 @@ pub fn load_builtin(
 {
     let table = builtin::table();
     let index = builtin::prepared();
-    load_with(module, &table, &index, instructions, log, strings, types)
+    if module.len() <= SHORT {
+        return load_few(module, &table, &index, instructions, log, strings, types);
+    }
+    load_many(module, &table, &index, instructions, log, strings, types)
 }

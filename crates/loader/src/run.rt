@@ -1,10 +1,12 @@
 // The instructions of a module, one after the other, and a load by a grammar that is indexed.
+ghost use mathlib.Core.Path.{_≡_};
 ghost use Prim.Native.Nat.{_/_, _≤_};
 ghost use lib.ListN.{length};
 ghost use Rattle.spec.specs.declared.Limit.the-variants.{Unlimited};
 ghost use Rattle.spec.specs.Reader.{readerAt};
 ghost use Rattle.spec.specs.Grammar.{grammarOf};
 ghost use Rattle.spec.specs.Load.{roomOf, emptyBook, loadFrom, loadWith};
+ghost use Rattle.reflect.specs.Column.{layoutTable, kindTable};
 ghost use Rattle.grammar.specs.Index.{Indexed};
 ghost use Rattle.loader.specs.Steps.{Leaves};
 use crate::parts::Progress;
@@ -17,10 +19,13 @@ use crate::step::take;
 use spec::Loaded;
 use spec::State;
 
-// How many ids have a hint of where their type is, and how many in a module of 16 KB or less.
-const HINTS: usize = 32768;
+// How many ids have a hint of where their type is, and how many in a short module.
+const HINTS: usize = 16384;
 
 const FEW_HINTS: usize = 2048;
+
+// A module of so many bytes or less is short.
+pub const SHORT: usize = 16384;
 
 // So long may the records of an instruction be that is read once, and so long its strings.
 const SCRATCH: usize = 576;
@@ -29,6 +34,8 @@ const SPARE: usize = 256;
 
 // The instructions after the header, to the first refusal or the end.
 fn load_from(
+    kinds: &[u8; 256],
+    table: &[[u8; 3]; 19],
     s: &[u8],
     g: &[u8],
     index: &[u16],
@@ -43,11 +50,10 @@ fn load_from(
 ) -> Loaded
     requires { ⌜ Indexed (now g) (now index) ⌝ }
     requires { ⌜ (20 ≤ length (now s)) × (length (now s) ≤ 67108864) ⌝ }
+    requires { ⌜ (now table ≡ layoutTable) × (now kinds ≡ kindTable) ⌝ }
     ensures { λ r. ⌜ Leaves (loadFrom (grammarOf (now (g .entry))) (roomOf (length (now (instructions .entry))) (length (now (log .entry))) (length (now (strings .entry))) (length (now (types .entry)))) header (length (now (s .entry)) / 4) emptyBook (readerAt (now (s .entry)) 20 Unlimited)) (now (instructions .entry)) (now (log .entry)) (now (strings .entry)) (now (types .entry)) (now (instructions .exit)) (now (log .exit)) (now (strings .exit)) (now (types .exit)) r ⌝ }
 {
     let room = room_in(instructions.len(), log.len(), strings.len(), types.len());
-    let kinds = reflect::kinds();
-    let table = reflect::table();
     let mut p = Progress {
         at: 20,
         instructions: 0,
@@ -59,8 +65,8 @@ fn load_from(
     };
     while 4 <= s.len() - p.at {
         let step = take(
-            &kinds,
-            &table,
+            kinds,
+            table,
             s,
             g,
             index,
@@ -83,8 +89,10 @@ fn load_from(
     stopped(header, p, end_number(state), p.at, 0)
 }
 
-// A load by the bytes of a grammar and its index.
-pub fn load_with(
+// A load by the bytes of a grammar and its index, with everything lent that it works with.
+fn load_with(
+    kinds: &[u8; 256],
+    table: &[[u8; 3]; 19],
     s: &[u8],
     g: &[u8],
     index: &[u16],
@@ -92,8 +100,12 @@ pub fn load_with(
     log: &mut [u8],
     strings: &mut [u8],
     types: &mut [u32],
+    hints: &mut [u32],
+    scratch: &mut [u8],
+    spare: &mut [u8],
 ) -> Loaded
     requires { ⌜ Indexed (now g) (now index) ⌝ }
+    requires { ⌜ (now table ≡ layoutTable) × (now kinds ≡ kindTable) ⌝ }
     ensures { λ r. ⌜ Leaves (loadWith (grammarOf (now (g .entry))) (roomOf (length (now (instructions .entry))) (length (now (log .entry))) (length (now (strings .entry))) (length (now (types .entry)))) (now (s .entry))) (now (instructions .entry)) (now (log .entry)) (now (strings .entry)) (now (types .entry)) (now (instructions .exit)) (now (log .exit)) (now (strings .exit)) (now (types .exit)) r ⌝ }
 {
     if 67108864 < s.len() {
@@ -105,30 +117,88 @@ pub fn load_with(
         return no_instruction(refusal.number, refusal.place);
     }
     let words = header.words;
-    let mut scratch = [0u8; SCRATCH];
-    let mut spare = [0u8; SPARE];
-    if s.len() <= 16384 {
-        let mut hints = [0u32; FEW_HINTS];
-        return load_from(
-            s,
-            g,
-            index,
-            words,
-            instructions,
-            log,
-            strings,
-            types,
-            &mut hints,
-            &mut scratch,
-            &mut spare,
-        );
-    }
-    let mut hints = [0u32; HINTS];
     load_from(
+        kinds,
+        table,
         s,
         g,
         index,
         words,
+        instructions,
+        log,
+        strings,
+        types,
+        hints,
+        scratch,
+        spare,
+    )
+}
+
+// THE STACK
+//
+// What a load works with lies in the frame of one of the next two functions, which differ in the hints alone. A frame has room for all
+// that its function declares, whichever branch is taken, so that one function for both would have a short module pay for the long
+// hints. And they stay functions: each is called from two places, and with its tables is too long to be put in line there.
+// tools/stack holds them to what include/kollafrin.h says.
+
+// A load of a short module: a long table of hints would take more time to clear than it saves.
+pub fn load_few(
+    s: &[u8],
+    g: &[u8],
+    index: &[u16],
+    instructions: &mut [u32],
+    log: &mut [u8],
+    strings: &mut [u8],
+    types: &mut [u32],
+) -> Loaded
+    requires { ⌜ Indexed (now g) (now index) ⌝ }
+    ensures { λ r. ⌜ Leaves (loadWith (grammarOf (now (g .entry))) (roomOf (length (now (instructions .entry))) (length (now (log .entry))) (length (now (strings .entry))) (length (now (types .entry)))) (now (s .entry))) (now (instructions .entry)) (now (log .entry)) (now (strings .entry)) (now (types .entry)) (now (instructions .exit)) (now (log .exit)) (now (strings .exit)) (now (types .exit)) r ⌝ }
+{
+    let kinds = reflect::kinds();
+    let table = reflect::table();
+    let mut hints = [0u32; FEW_HINTS];
+    let mut scratch = [0u8; SCRATCH];
+    let mut spare = [0u8; SPARE];
+    load_with(
+        &kinds,
+        &table,
+        s,
+        g,
+        index,
+        instructions,
+        log,
+        strings,
+        types,
+        &mut hints,
+        &mut scratch,
+        &mut spare,
+    )
+}
+
+// A load of any module.
+pub fn load_many(
+    s: &[u8],
+    g: &[u8],
+    index: &[u16],
+    instructions: &mut [u32],
+    log: &mut [u8],
+    strings: &mut [u8],
+    types: &mut [u32],
+) -> Loaded
+    requires { ⌜ Indexed (now g) (now index) ⌝ }
+    ensures { λ r. ⌜ Leaves (loadWith (grammarOf (now (g .entry))) (roomOf (length (now (instructions .entry))) (length (now (log .entry))) (length (now (strings .entry))) (length (now (types .entry)))) (now (s .entry))) (now (instructions .entry)) (now (log .entry)) (now (strings .entry)) (now (types .entry)) (now (instructions .exit)) (now (log .exit)) (now (strings .exit)) (now (types .exit)) r ⌝ }
+{
+    let kinds = reflect::kinds();
+    let table = reflect::table();
+    let mut hints = [0u32; HINTS];
+    let mut scratch = [0u8; SCRATCH];
+    let mut spare = [0u8; SPARE];
+    load_with(
+        &kinds,
+        &table,
+        s,
+        g,
+        index,
         instructions,
         log,
         strings,

@@ -21,11 +21,11 @@ slice-aggregate-fill-index c = search needs
 fill-index-requires : tie.Need-fill-index-requires
 fill-index-requires c κs = (sym (c .before .before .well-formed .ensures) ∙ not-false _ (c .before .if1 .left), search needs)
 
-slice-aggregate-load-with : tie.Need-slice-aggregate-load-with
-slice-aggregate-load-with c = search needs
+slice-aggregate-load-few : tie.Need-slice-aggregate-load-few
+slice-aggregate-load-few c = search needs
 
-load-with-requires : tie.Need-load-with-requires
-load-with-requires c κs = search needs
+load-few-requires : tie.Need-load-few-requires
+load-few-requires c κs = search needs
 
 same-length : tie.Need-same-length
 same-length c = search needs
@@ -40,7 +40,30 @@ same-length-4 : tie.Need-same-length-4
 same-length-4 c = search needs
 
 returns-2 : tie.Need-returns-2
-returns-2 c = load-formed _ _ _ _ _ _ (sym (c .before .before .before .before .before .before .before .before .before .before .before .before .before .before .before .before .before .before .well-formed .ensures) ∙ not-false _ (c .before .before .before .before .before .before .before .before .before .before .before .before .before .before .before .before .before .if1 .left)) _ _ _ _ _ (c .before .before .before .before .before .before .before .before .load-with .ensures)
+returns-2 c =
+    load-formed _ _ _ _ _ _ (sym (c .before .before .before .before .before .before .before .before .before .before .before .before .before .before .before .before .before .before .before .well-formed .ensures) ∙ not-false _ (c .before .before .before .before .before .before .before .before .before .before .before .before .before .before .before .before .before .before .if1 .left)) _ _ _ _ _ (c .before .before .before .before .before .before .before .before .load-few .ensures)
+
+slice-aggregate-load-many : tie.Need-slice-aggregate-load-many
+slice-aggregate-load-many c = search needs
+
+load-many-requires : tie.Need-load-many-requires
+load-many-requires c κs = search needs
+
+same-length-5 : tie.Need-same-length-5
+same-length-5 c = search needs
+
+same-length-6 : tie.Need-same-length-6
+same-length-6 c = search needs
+
+same-length-7 : tie.Need-same-length-7
+same-length-7 c = search needs
+
+same-length-8 : tie.Need-same-length-8
+same-length-8 c = search needs
+
+returns-3 : tie.Need-returns-3
+returns-3 c =
+    load-formed _ _ _ _ _ _ (sym (c .before .before .before .before .before .before .before .before .before .before .before .before .before .before .before .before .before .before .before .well-formed .ensures) ∙ not-false _ (c .before .before .before .before .before .before .before .before .before .before .before .before .before .before .before .before .before .before .if1 .left)) _ _ _ _ _ (c .before .before .before .before .before .before .before .before .load-many .ensures)
 
 pub load-spec : {M : Type 1} → statement M
 load-spec =
@@ -51,10 +74,17 @@ load-spec =
     returns
     slice-aggregate-fill-index
     fill-index-requires
-    slice-aggregate-load-with
-    load-with-requires
+    slice-aggregate-load-few
+    load-few-requires
     same-length
     same-length-2
     same-length-3
     same-length-4
-    returns-2)
+    returns-2
+    slice-aggregate-load-many
+    load-many-requires
+    same-length-5
+    same-length-6
+    same-length-7
+    same-length-8
+    returns-3)

@@ -10,14 +10,14 @@ table-requires c κs = search needs
 prepared-requires : tie.Need-prepared-requires
 prepared-requires c κs = search needs
 
-slice-aggregate-load-with : tie.Need-slice-aggregate-load-with
-slice-aggregate-load-with c = search needs
+slice-aggregate-load-few : tie.Need-slice-aggregate-load-few
+slice-aggregate-load-few c = search needs
 
-slice-aggregate-load-with-2 : tie.Need-slice-aggregate-load-with-2
-slice-aggregate-load-with-2 c = search needs
+slice-aggregate-load-few-2 : tie.Need-slice-aggregate-load-few-2
+slice-aggregate-load-few-2 c = search needs
 
-load-with-requires : tie.Need-load-with-requires
-load-with-requires c κs = builtin-indexed _ _ (c .before .before .before .before .before .before .before .table .ensures) (c .before .before .before .before .before .before .prepared .ensures)
+load-few-requires : tie.Need-load-few-requires
+load-few-requires c κs = builtin-indexed _ _ (c .before .before .before .before .before .before .before .before .table .ensures) (c .before .before .before .before .before .before .before .prepared .ensures)
 
 same-length : tie.Need-same-length
 same-length c = search needs
@@ -32,7 +32,31 @@ same-length-4 : tie.Need-same-length-4
 same-length-4 c = search needs
 
 returns : tie.Need-returns
-returns c = load-prepared _ _ _ _ _ _ (c .before .before .before .before .before .before .before .before .before .before .before .before .before .before .before .before .table .ensures) _ _ _ _ _ (c .before .before .before .before .before .before .before .before .load-with .ensures)
+returns c = load-prepared _ _ _ _ _ _ (c .before .before .before .before .before .before .before .before .before .before .before .before .before .before .before .before .before .table .ensures) _ _ _ _ _ (c .before .before .before .before .before .before .before .before .load-few .ensures)
+
+slice-aggregate-load-many : tie.Need-slice-aggregate-load-many
+slice-aggregate-load-many c = search needs
+
+slice-aggregate-load-many-2 : tie.Need-slice-aggregate-load-many-2
+slice-aggregate-load-many-2 c = search needs
+
+load-many-requires : tie.Need-load-many-requires
+load-many-requires c κs = builtin-indexed _ _ (c .before .before .before .before .before .before .before .before .table .ensures) (c .before .before .before .before .before .before .before .prepared .ensures)
+
+same-length-5 : tie.Need-same-length-5
+same-length-5 c = search needs
+
+same-length-6 : tie.Need-same-length-6
+same-length-6 c = search needs
+
+same-length-7 : tie.Need-same-length-7
+same-length-7 c = search needs
+
+same-length-8 : tie.Need-same-length-8
+same-length-8 c = search needs
+
+returns-2 : tie.Need-returns-2
+returns-2 c = load-prepared _ _ _ _ _ _ (c .before .before .before .before .before .before .before .before .before .before .before .before .before .before .before .before .before .table .ensures) _ _ _ _ _ (c .before .before .before .before .before .before .before .before .load-many .ensures)
 
 pub load-builtin-spec : {M : Type 1} → statement M
 load-builtin-spec =
@@ -40,11 +64,19 @@ load-builtin-spec =
     (tie.spec
     table-requires
     prepared-requires
-    slice-aggregate-load-with
-    slice-aggregate-load-with-2
-    load-with-requires
+    slice-aggregate-load-few
+    slice-aggregate-load-few-2
+    load-few-requires
     same-length
     same-length-2
     same-length-3
     same-length-4
-    returns)
+    returns
+    slice-aggregate-load-many
+    slice-aggregate-load-many-2
+    load-many-requires
+    same-length-5
+    same-length-6
+    same-length-7
+    same-length-8
+    returns-2)

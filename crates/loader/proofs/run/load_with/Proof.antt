@@ -19,17 +19,10 @@ no-instruction-requires-2 c κs = search needs
 returns-2 : tie.Need-returns-2
 returns-2 c = with-headless _ _ _ (c .before .before .before .before .before .if1 .left) _ (c .before .before .before .before .header .ensures) (c .before .if2 .taken) _ _ _ _ _ (c .no-instruction2 .ensures)
 
-slice-aggregate-load-from : tie.Need-slice-aggregate-load-from
-slice-aggregate-load-from c = search needs
-
-slice-aggregate-load-from-2 : tie.Need-slice-aggregate-load-from-2
-slice-aggregate-load-from-2 c = search needs
-
-slice-aggregate-load-from-3 : tie.Need-slice-aggregate-load-from-3
-slice-aggregate-load-from-3 c = search needs
-
 load-from-requires : tie.Need-load-from-requires
-load-from-requires c κs = (c .before .before .before .before .before .before .before .before .before .before .before .before .before .before .before .before .before .before .before .before .before .pre, (with-room _ _ (c .before .before .before .before .before .before .before .before .before .before .before .before .header .ensures) (c .before .before .before .before .before .before .before .before .before .if2 .left), c .before .before .before .before .before .before .before .before .before .before .before .before .before .if1 .left))
+load-from-requires c κs =
+    let asked = c .before .before .before .before .before .before .before .before .before .before .before .before .before .before .before .before .before .before .before .before .before .before .before .pre in
+    (asked .0, ((with-room _ _ (c .before .before .before .before .before .before .before .before .before .before .before .header .ensures) (c .before .before .before .before .before .before .before .before .if2 .left), c .before .before .before .before .before .before .before .before .before .before .before .before .if1 .left), asked .1))
 
 same-length : tie.Need-same-length
 same-length c = search needs
@@ -43,21 +36,6 @@ same-length-3 c = search needs
 same-length-4 : tie.Need-same-length-4
 same-length-4 c = search needs
 
-returns-3 : tie.Need-returns-3
-returns-3 c = with-header _ _ _ (c .before .before .before .before .before .before .before .before .before .before .before .before .before .before .before .before .before .before .before .before .before .before .before .before .before .if1 .left) _ (c .before .before .before .before .before .before .before .before .before .before .before .before .before .before .before .before .before .before .before .before .before .before .before .before .header .ensures) (c .before .before .before .before .before .before .before .before .before .before .before .before .before .before .before .before .before .before .before .before .before .if2 .left) _ _ _ _ _ _ _ _ _ (c .before .before .before .before .before .before .before .before .before .before .before .load-from .ensures)
-
-slice-aggregate-load-from-4 : tie.Need-slice-aggregate-load-from-4
-slice-aggregate-load-from-4 c = search needs
-
-slice-aggregate-load-from-5 : tie.Need-slice-aggregate-load-from-5
-slice-aggregate-load-from-5 c = search needs
-
-slice-aggregate-load-from-6 : tie.Need-slice-aggregate-load-from-6
-slice-aggregate-load-from-6 c = search needs
-
-load-from-requires-2 : tie.Need-load-from-requires-2
-load-from-requires-2 c κs = (c .before .before .before .before .before .before .before .before .before .before .before .before .before .before .before .before .before .before .before .before .before .pre, (with-room _ _ (c .before .before .before .before .before .before .before .before .before .before .before .before .header .ensures) (c .before .before .before .before .before .before .before .before .before .if2 .left), c .before .before .before .before .before .before .before .before .before .before .before .before .before .if1 .left))
-
 same-length-5 : tie.Need-same-length-5
 same-length-5 c = search needs
 
@@ -67,11 +45,9 @@ same-length-6 c = search needs
 same-length-7 : tie.Need-same-length-7
 same-length-7 c = search needs
 
-same-length-8 : tie.Need-same-length-8
-same-length-8 c = search needs
-
-returns-4 : tie.Need-returns-4
-returns-4 c = with-header _ _ _ (c .before .before .before .before .before .before .before .before .before .before .before .before .before .before .before .before .before .before .before .before .before .before .before .before .before .if1 .left) _ (c .before .before .before .before .before .before .before .before .before .before .before .before .before .before .before .before .before .before .before .before .before .before .before .before .header .ensures) (c .before .before .before .before .before .before .before .before .before .before .before .before .before .before .before .before .before .before .before .before .before .if2 .left) _ _ _ _ _ _ _ _ _ (c .before .before .before .before .before .before .before .before .before .before .before .load-from2 .ensures)
+returns-3 : tie.Need-returns-3
+returns-3 c =
+    with-header _ _ _ (c .before .before .before .before .before .before .before .before .before .before .before .before .before .before .before .before .before .before .before .before .before .before .before .before .before .before .before .if1 .left) _ (c .before .before .before .before .before .before .before .before .before .before .before .before .before .before .before .before .before .before .before .before .before .before .before .before .before .before .header .ensures) (c .before .before .before .before .before .before .before .before .before .before .before .before .before .before .before .before .before .before .before .before .before .before .before .if2 .left) _ _ _ _ _ _ _ _ _ (c .before .before .before .before .before .before .before .before .before .before .before .before .before .before .load-from .ensures)
 
 pub load-with-spec : {M : Type 1} → statement M
 load-with-spec =
@@ -82,21 +58,12 @@ load-with-spec =
     header-requires
     no-instruction-requires-2
     returns-2
-    slice-aggregate-load-from
-    slice-aggregate-load-from-2
-    slice-aggregate-load-from-3
     load-from-requires
     same-length
     same-length-2
     same-length-3
     same-length-4
-    returns-3
-    slice-aggregate-load-from-4
-    slice-aggregate-load-from-5
-    slice-aggregate-load-from-6
-    load-from-requires-2
     same-length-5
     same-length-6
     same-length-7
-    same-length-8
-    returns-4)
+    returns-3)
