@@ -27,6 +27,7 @@ def bytes_of(word):
 
 # What the table cites of other files of the definition, and of the library.
 KNOWN = {
+    "ascii": (1, lambda text: list(text.encode("ascii"))),
     "bytesOf": (1, bytes_of),
     "longBytes": (1, lambda v: list(v.to_bytes(8, "little"))),
     "joined": (2, lambda f, xs: [b for x in xs for b in apply(f, [x])]),
@@ -99,6 +100,8 @@ class Term:
             return self.record()
         if token[0].isdigit():
             return int(token, 0)
+        if token[0] == '"':
+            return token[1:-1]
         value = self.names[token]
         return value[1]() if isinstance(value, tuple) and value[0] == 0 else value
 

@@ -106,12 +106,12 @@ module _ {x : Given} {o : Order} {i : ℕ} (w : Passing x o i) where
   unfolding placedOf
   whole-more h f e =
       let s = good-at x (w .good-x) i h .said in
-      let g : Fields = fieldsAt (drop (recordSize * i) (x .instructions)) in
       let more : List Placed = drop (suc i) (scanOf x .instrs) in
       w .whole
       ∙ ap (standsAfter o) (s .here)
-      ∙ stands-more o (placedOf g (s .operands)) more
-      ∙ ap (λ (g : Fields). mayCome o (g .tag) && standsAfter (orderAfter o (g .tag)) more) (sym e)
+      ∙ stands-more o (s .next .0) more
+      ∙ ap (λ (k : ℕ). mayCome o k && standsAfter (orderAfter o k) more)
+      (ap (λ (p : Placed). p .tag) (s .said .is) ∙ ap (λ (g : Fields). g .tag) (sym e))
 
   -- a tag that may not come: no
   pub pass-stops : i < x .count → (f : Fields) → f ≡ fieldsAt (drop (recordSize * i) (x .instructions))

@@ -1,66 +1,30 @@
 -- On a standing module both orders agree after the header: where standing says yes, both writers answer alike, and their outputs
 -- differ in the twenty bytes of the header only.
-use Prim.Native.Nat.{ℕ, suc, _%_, _≤_}
+use Prim.Native.Nat.{ℕ, _≤_}
 use mathlib.Core.Path.{_≡_, refl, ap, sym, _∙_}
 use mathlib.Core.Bool.{Bool, true, false, false≢true}
-use mathlib.Core.List.{List, [], _∷_, _++_}
-use mathlib.Core.Option.{Option, none, some, Option·some-ne-none}
+use mathlib.Core.List.{List, _++_}
 use native.Mathlib.Omega.{arith}
 use borrow.Author.Tests.{ltb-false}
-use lib.Dec.{ltb, eqb}
+use lib.Dec.{ltb}
 use lib.ListN.{length, drop, length-append}
 use lib.Seq.{drop-append-le}
-use Rattle.spec.specs.declared.State.{State}
-use Rattle.spec.specs.declared.State.the-variants.{Outside}
-use Rattle.spec.specs.declared.Cell.{Cell}
-use Rattle.spec.specs.declared.Cell.the-variants.{Tagged, Refuses}
-use Rattle.spec.specs.declared.Fields.{Fields}
 use Rattle.spec.specs.Base.{if_then_else_, joined}
 use Rattle.spec.specs.Words.{bytesOf}
-use Rattle.spec.specs.Layout.{layoutOf}
 use Rattle.spec.specs.Records.{Placed}
 use Rattle.spec.specs.Load.{laidOver}
-use Rattle.spec.specs.Check.{Given, missing, recordsIn, fieldsFault, scanOf, onTag, tagsFault, faultOf, Checked, good, bad, checkedBy, check}
+use Rattle.spec.specs.Check.{Given, Checked, good, bad, check}
 use Rattle.spec.specs.Write.{bytesOfAll, parseBytes, moduleHeader, moduleOrder, moduleBytes, Writing, unwritten, put, writeParse, writeModule, isStanding, standsBy, standing}
+use Rattle.spec.proofs.Faultless.{good-told, part-faultless}
 use Rattle.demands.proofs.Leaves.{laid-over}
-use Rattle.demands.proofs.Standing.{none-lower, words-length, standing-order, orders-agree}
+use Rattle.demands.proofs.Standing.{words-length, standing-order, orders-agree}
 
 -- THE CHECK OF BOTH ORDERS
 
--- a choice between what has no fault and a fault
-none-chosen : (i : ℕ) (c : Bool) (a b : Option ℕ) → (a ≡ none → b ≡ none) → (if c then a else some i) ≡ none
-    → (if c then b else some i) ≡ none
-none-chosen i true a b h e = h e
-none-chosen i false a b h e = absurd (Option·some-ne-none i e)
-
--- a good tag, and on
-tag-part : (i tag : ℕ) (c : Cell) (more less : State → Option ℕ) → ((s : State) → more s ≡ none → less s ≡ none)
-    → onTag i tag c more ≡ none → onTag i tag c less ≡ none
-tag-part i tag (Tagged t s) more less h e = none-chosen i (eqb tag t) (more s) (less s) (h s) e
-tag-part i tag (Refuses n) more less h e = absurd (Option·some-ne-none i e)
-
--- tags that are good and end outside functions are good
-tags-part : (fs : List Fields) (i : ℕ) (s : State) → tagsFault true i s fs ≡ none → tagsFault false i s fs ≡ none
-unfolding tagsFault
-tags-part [] i s e = refl
-tags-part (f ∷ fs) i s e =
-    tag-part i (f .tag) (layoutOf (f .head % 65536) s) (λ t. tagsFault true (suc i) t fs) (λ t. tagsFault false (suc i) t fs)
-    (tags-part fs (suc i)) e
-
--- a check that is passed has no fault
-no-fault : (o : Option ℕ) (js is : List Placed) → checkedBy o js ≡ good is → (o ≡ none) × (js ≡ is)
-no-fault none js is e = (refl, (cc))
-no-fault (some i) js is e = let z : _≡_ {A = ℕ} 0 1 = cc in absurd (omega arith)
-
 -- records that pass the check of module order pass that of parse order, and say the same
 check-part : (x : Given) (is : List Placed) → check true x ≡ good is → check false x ≡ good is
-unfolding check faultOf
-check-part x is e =
-    let t = no-fault (faultOf true x) (scanOf x .instrs) is e in
-    let a = none-lower (missing (x .count) (recordsIn x)) _ (t .0) in
-    let b = none-lower (fieldsFault 1 20 (recordsIn x)) _ (a .1) in
-    let c = none-lower (scanOf x .fault) (tagsFault true 1 Outside (recordsIn x)) (b .1) in
-    rw (a .0, b .0, c .0, tags-part (recordsIn x) 1 Outside (c .1), t .1)
+unfolding check
+check-part x is e = let told = good-told true x is e in rw (part-faultless x (told .0), told .1)
 
 -- where standing says yes, the records pass the check and stand
 yes-said : (y : Checked) → standsBy y .yes ≡ true → (is : List Placed) × (y ≡ good is) × (isStanding is ≡ true)

@@ -15,7 +15,7 @@ use Rattle.spec.specs.Words.{wordsOf}
 use Rattle.spec.specs.Reader.{reader}
 use Rattle.spec.specs.Header.{magicFault, headerFrom}
 use Rattle.spec.specs.Grammar.{Grammar, grammarOf, wellFormed}
-use Rattle.spec.specs.Load.{Book, emptyBook, Outcome, loadFrom, loadWith, load}
+use Rattle.spec.specs.Load.{Book, emptyBook, Outcome, loadFrom, loadWith, load, Small}
 use Rattle.demands.proofs.Choice.{either}
 use Rattle.demands.proofs.Formed.{GrammarGood, well-formed-good}
 use Rattle.demands.proofs.Instructions.{Frames, instr-read}
@@ -47,15 +47,6 @@ module _ {g : Grammar} (good : GrammarGood g) {room : Counts} where
   run-near end w (stops n place v x) k e = let p = stop-near x in omega arith
   run-near {b = b} {at = at} {rest = rest} end w (keeps z f run) k e =
       run-near end w run (held-more good b at rest z k) (omega (arith, left-behind g good z))
-
--- an answer whose place, index and counts each fit a word of 32 bits
-pub record Small (x : Loaded) : Type 0 where
-  pub offset : x .offset < 4294967296
-  pub index : x .index < 4294967296
-  pub instructions : x .counts .instructions < 4294967296
-  pub log : x .counts .log < 4294967296
-  pub strings : x .counts .strings < 4294967296
-  pub types : x .counts .types < 4294967296
 
 -- the place of a header's refusal lies in the header
 header-near : (s : List ℕ) → headerFrom s .refusal .place ≤ 20

@@ -4,16 +4,22 @@ use mathlib.Core.Path.{_≡_, refl, ap, sym, _∙_}
 use mathlib.Core.List.{List, [], _∷_, _++_}
 use native.Mathlib.Omega.{arith}
 use native.Mathlib.Nat.{div-add-mod', div-div-eq-div-mul}
-use lib.ListN.{length, take, drop, replicate, take-append-drop}
+use mir.Syntax.{w8}
+use mir.Val.{Fits}
+use lib.ListN.{length, getD, take, drop, replicate, take-append-drop}
 use Rattle.spec.specs.Base.{joined}
-use Rattle.spec.specs.Words.{four, bytesOf, wordsOf}
+use Rattle.spec.specs.Words.{AllBytes, four, bytesOf, wordsOf}
 
 -- LISTS OF BYTES
 
--- each number is a byte
-abbrev pub AllBytes : List ℕ → Type 0
-AllBytes [] = Unit
-AllBytes (b ∷ bs) = (b < 256) × AllBytes bs
+-- the elements of a slice of bytes, as the prover knows them
+abbrev pub SliceOfBytes : List ℕ → Type 0
+SliceOfBytes s = (i : ℕ) → Fits w8 (getD s i 0)
+
+-- are bytes
+pub slice-bytes : (s : List ℕ) → SliceOfBytes s → AllBytes s
+slice-bytes [] h = tt
+slice-bytes (b ∷ s) h = (h 0 .fits, slice-bytes s (λ i. h (suc i)))
 
 -- bytes before bytes are bytes
 pub all-append : (x y : List ℕ) → AllBytes x → AllBytes y → AllBytes (x ++ y)

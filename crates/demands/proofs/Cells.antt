@@ -9,7 +9,7 @@ use Rattle.spec.specs.declared.State.the-variants.{Outside, Function, Block}
 use Rattle.spec.specs.declared.Cell.{Cell}
 use Rattle.spec.specs.declared.Cell.the-variants.{Tagged, Refuses}
 use Rattle.spec.specs.Base.{within}
-use Rattle.spec.specs.Layout.{lines, otherLine, layoutAt, opcodeKind, layoutOf}
+use Rattle.spec.specs.Layout.{Line, lines, otherLine, layoutAt, opcodeKind, layoutOf}
 use Rattle.demands.proofs.Choice.{left, right, in-range}
 use Rattle.demands.proofs.Lists.{every-at}
 
@@ -31,14 +31,14 @@ mayStand s (Tagged tag t) = leads s tag t
 mayStand s (Refuses n) = within 15 n 23
 
 -- a line whose three cells may stand
-abbrev lineStands : (State → Cell) → Bool
-lineStands l = mayStand Outside (l Outside) && mayStand Function (l Function) && mayStand Block (l Block)
+abbrev lineStands : Line → Bool
+lineStands l = mayStand Outside (l .cell Outside) && mayStand Function (l .cell Function) && mayStand Block (l .cell Block)
 
 -- the cell of a line that stands, by its state
-line-cell : (l : State → Cell) (s : State) → lineStands l ≡ true → mayStand s (l s) ≡ true
-line-cell l Outside e = left (mayStand Outside (l Outside)) (mayStand Function (l Function)) (left _ (mayStand Block (l Block)) e)
-line-cell l Function e = right (mayStand Outside (l Outside)) (mayStand Function (l Function)) (left _ (mayStand Block (l Block)) e)
-line-cell l Block e = right (mayStand Outside (l Outside) && mayStand Function (l Function)) (mayStand Block (l Block)) e
+line-cell : (l : Line) (s : State) → lineStands l ≡ true → mayStand s (l .cell s) ≡ true
+line-cell l Outside e = left (mayStand Outside (l .cell Outside)) (mayStand Function (l .cell Function)) (left _ (mayStand Block (l .cell Block)) e)
+line-cell l Function e = right (mayStand Outside (l .cell Outside)) (mayStand Function (l .cell Function)) (left _ (mayStand Block (l .cell Block)) e)
+line-cell l Block e = right (mayStand Outside (l .cell Outside) && mayStand Function (l .cell Function)) (mayStand Block (l .cell Block)) e
 
 -- every cell of the table may stand
 layout-stands : (op : ℕ) (s : State) → mayStand s (layoutOf op s) ≡ true

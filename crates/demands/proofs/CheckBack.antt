@@ -19,8 +19,8 @@ use Rattle.spec.specs.Text.{isUtf8}
 use Rattle.spec.specs.Kinds.{isLogged, isLong, isText}
 use Rattle.spec.specs.Layout.{endNumber}
 use Rattle.spec.specs.Records.{Operand, narrow, wide, text, Placed, operandSize, operandsSize, operandLog, operandString, operandsLog, operandsStrings, stringStore, logFrom, presence, fieldsOf, fieldWords, fieldsAt, recordsFrom}
-use Rattle.spec.specs.Check.{Given, recordsOf, bitsIn, fieldsGood, fieldsFault, Left, took, takeText, takeOperand, taken, takeOperands, fieldIn, placedOf, wordsGood, addScan, scanFrom, tagsFault, faultOf, missing, good, check}
-use Rattle.demands.proofs.Choice.{left, right, both}
+use Rattle.spec.specs.Check.{Given, recordsOf, bitsIn, fieldsGood, fieldsFault, Left, takeText, takeOperand, takeOperands, fieldIn, placedOf, wordsGood, takeRecord, scanFrom, tagsFault, faultOf, missing, good, check}
+use Rattle.spec.proofs.Choice.{left, right, both}
 use Rattle.demands.proofs.Bytes.{four-bytes}
 use Rattle.demands.proofs.Stores.{operands-log-length, log-length, string-short, strings-short}
 use Rattle.demands.proofs.OperandKinds.{long-logged}
@@ -101,14 +101,14 @@ has-all (b ∷ s) t = has-all s t
 
 -- a string
 text-taken : (s : List ℕ) (a b : ℕ) (log strings : List ℕ) → noZeros s ≡ true → isUtf8 s ≡ true
-    → takeText b (length s) (remains a log b (s ++ strings)) ≡ took (text s) (remains (a + 9) (drop 9 log) (b + length s) strings)
+    → takeText b (length s) (remains a log b (s ++ strings)) ≡ some (text s, remains (a + 9) (drop 9 log) (b + length s) strings)
 text-taken s a b log strings z u =
     rw (eq-eqb b b refl, has-all s strings, take-append-seam s strings, drop-append-seam s strings, z, u)
 
 -- an operand that they begin with
 one-taken : (o : Operand) (a b : ℕ) (log strings : List ℕ) → Holds o → b + 4 * operandSize o < 4294967296
     → takeOperand (remains a (operandLog b o ++ log) b (operandString o ++ strings))
-    ≡ took o (remains (a + length (operandLog 0 o)) log (b + length (operandString o)) strings)
+    ≡ some (o, remains (a + length (operandLog 0 o)) log (b + length (operandString o)) strings)
 unfolding takeOperand operandLog operandString operandSize bytesOf
 one-taken (narrow k v) a b log strings h u =
     rw (
@@ -128,7 +128,7 @@ one-taken (text s) a b log strings h u =
 -- operands that log and strings begin with
 operands-taken : (os : List Operand) (a b : ℕ) (log strings : List ℕ) → AllHold os → b + 4 * operandsSize os < 4294967296
     → takeOperands (length os) (remains a (operandsLog b os ++ log) b (operandsStrings os ++ strings))
-    ≡ taken os (remains (a + length (operandsLog 0 os)) log (b + length (operandsStrings os)) strings)
+    ≡ some (os, remains (a + length (operandsLog 0 os)) log (b + length (operandsStrings os)) strings)
 unfolding takeOperands operandsLog operandsStrings operandsSize
 operands-taken [] a b log strings h u = rw (add-zero a, add-zero b)
 operands-taken (o ∷ os) a b log strings h u =
@@ -171,6 +171,19 @@ words-good : (p : Placed) → InstrGood (p .instr) → wordsGood p ≡ true
 unfolding wordsGood
 words-good p x = eq-eqb _ _ (x .count)
 
+-- an instruction that its record, log and strings begin with
+record-taken : (p : Placed) (start b : ℕ) (log strings : List ℕ) → InstrGood (p .instr) → b + 4 * operandsSize (p .instr .operands) < 4294967296
+    → takeRecord (fieldsOf start p) (remains start (operandsLog b (p .instr .operands) ++ log) b (operandsStrings (p .instr .operands) ++ strings))
+    ≡ some (p, remains (start + length (operandsLog 0 (p .instr .operands))) log (b + length (operandsStrings (p .instr .operands))) strings)
+unfolding takeRecord fieldsOf
+record-taken p start b log strings x u =
+    rw (
+      operands-taken (p .instr .operands) start b log strings (x .operands) u,
+      eq-eqb start start refl,
+      placed-back start p (x .opcode),
+      words-good p x,
+    )
+
 -- the operands of all records, up to the counts of log and strings
 scan-back : {at : ℕ} {s e : State} {is : List Placed} → Follow at s is e → (logCount stringCount index start b : ℕ)
     → b + 4 * wordsIn is < 4294967296 → start + length (logFrom 0 is) ≡ logCount → b + length (stringStore is) ≡ stringCount
@@ -188,13 +201,9 @@ scan-back (leading {p = p} {ps = ps} x e placed more) logCount stringCount index
     let strings : b + n + length (stringStore ps) ≡ stringCount =
     omega (arith, length-append (operandsStrings os) (stringStore ps)) in
     rw (
-      eq-eqb start start refl,
-      operands-taken os start b (logFrom (b + n) ps) (stringStore ps) (x .operands) (omega arith),
-      placed-back start p (x .opcode),
-      words-good p x,
+      record-taken p start b (logFrom (b + n) ps) (stringStore ps) x (omega arith),
+      scan-back more logCount stringCount (suc index) (start + a) (b + n) (omega (arith, strings-short os)) log strings,
     )
-    (ap (addScan p)
-    (scan-back more logCount stringCount (suc index) (start + a) (b + n) (omega (arith, strings-short os)) log strings))
 
 -- 3. TAGS
 

@@ -1,5 +1,5 @@
 -- Demand 1: what every load says and leaves, whatever the grammar, the room and the module. The words of the statements: `Source`
--- (Numbers), `Covers` (Room), `KeptSays`, `endOf` and `ended` (Returns), `roomIn`, `laidOn` and `Leaves` (Leaves).
+-- and `OfLoad` (Numbers), `KeptSays`, `endOf` and `ended` (Returns), `Leaves` (Leaves).
 use Prim.Native.Nat.{ℕ, _-_, _/_, _≤_}
 use mathlib.Core.Path.{_≡_}
 use mathlib.Core.Bool.{true, false}
@@ -7,34 +7,33 @@ use mathlib.Core.List.{List, _++_}
 use lib.ListN.{length, take}
 use Rattle.spec.specs.declared.State.{State}
 use Rattle.spec.specs.declared.Counts.{Counts}
-use Rattle.spec.specs.Base.{within}
 use Rattle.spec.specs.Grammar.{wellFormed}
-use Rattle.spec.specs.Load.{enough, load, Stores, storesOf}
-use Rattle.spec.specs.Check.{good, check}
-use Rattle.demands.proofs.Bytes.{AllBytes}
+use Rattle.spec.specs.Load.{Covers, enough, lacksRoom, load, Stores, storesOf, roomIn, laidOn}
+use Rattle.spec.specs.Check.{good, check, givenBy}
+use Rattle.spec.specs.Words.{AllBytes}
 use Rattle.demands.proofs.Lists.{Begins}
-use Rattle.demands.proofs.Numbers.{OfRoom, Source, load-number, load-from}
-use Rattle.demands.proofs.Room.{Covers, load-roomy, load-low}
+use Rattle.demands.proofs.Numbers.{OfRoom, Source, OfLoad, source-number, load-from}
+use Rattle.demands.proofs.Room.{load-roomy, load-low}
 use Rattle.demands.proofs.KeptSays.{KeptSays, load-says}
-use Rattle.demands.proofs.Leaves.{roomIn, laidOn, Leaves, load-leaves, leaves-begin}
-use Rattle.demands.proofs.ReadBack.{givenBy, reads-back}
+use Rattle.demands.proofs.Leaves.{Leaves, load-leaves, leaves-begin}
+use Rattle.demands.proofs.ReadBack.{reads-back}
 use Rattle.demands.proofs.Returns.{endOf, ended, load-cut}
 use Rattle.demands.proofs.Prefix.{load-longer}
 
 module _ (grammar : List ℕ) (room : Counts) (s : List ℕ) where
   -- THE NUMBER
 
-  -- a load's number is at most 31
-  pub number-bound : load grammar room s .said .number ≤ 31
-  number-bound = load-number grammar room s
-
-  -- it comes from the grammar (24), the module's length (31), the header (1 to 3), reading an instruction (4 to 14), the layout (15
-  -- to 23), room that lacks (25 to 28), or the end (0, 16, 21)
+  -- a load's number comes from the grammar (24), the module's length (31), the header (1 to 3), reading an instruction (4 to 14), the
+  -- layout (15 to 23), room that lacks (25 to 28), or the end (0, 16, 21)
   pub number-source : Source grammar s OfRoom (load grammar room s .said .number)
   number-source = load-from grammar room s
 
+  -- so it is 0 to 28, or 31
+  pub number-bound : OfLoad (load grammar room s .said .number)
+  number-bound = source-number number-source
+
   -- "With W whole words after the header, W instruction records, 9W log bytes, 4W string bytes and W type entries always suffice"
-  pub room-suffices : Covers room (enough (length s / 4 - 5)) → within 25 (load grammar room s .said .number) 28 ≡ false
+  pub room-suffices : Covers room (enough (length s / 4 - 5)) → lacksRoom (load grammar room s .said) ≡ false
   room-suffices c = load-roomy grammar room s c
 
   -- and with a well-formed grammar and at most 67,108,864 bytes the number is 0 to 23

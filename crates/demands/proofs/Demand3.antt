@@ -1,5 +1,4 @@
--- Demand 3: from a module to records and back. The words of the statements: `written` and `wrote` (WriteBack), `BeginWith` (Stores),
--- `givenBy` (ReadBack).
+-- Demand 3: from a module to records and back. The words of the statements: `BeginWith` (Stores), and those of the definitions.
 use Prim.Native.Nat.{ℕ, _*_, _/_, _≤_}
 use mathlib.Core.Path.{_≡_, ap, ap₂, sym, _∙_, subst}
 use mathlib.Core.Bool.{true}
@@ -9,14 +8,14 @@ use lib.ListN.{length}
 use Rattle.spec.specs.declared.Counts.{Counts}
 use Rattle.spec.specs.Records.{Placed}
 use Rattle.spec.specs.Load.{load, Stores, storesOf}
-use Rattle.spec.specs.Check.{good, check}
+use Rattle.spec.specs.Check.{good, check, givenBy}
 use Rattle.spec.specs.Plain.{plainBy, isPlain}
-use Rattle.spec.specs.Write.{parseBytes, writeParse}
-use Rattle.demands.proofs.Bytes.{AllBytes}
+use Rattle.spec.specs.Write.{parseBytes, writeParse, written, wrote}
+use Rattle.spec.specs.Words.{AllBytes}
 use Rattle.demands.proofs.Stores.{BeginWith}
 use Rattle.demands.proofs.Returns.{plain-parts, Returns, load-returns}
-use Rattle.demands.proofs.ReadBack.{givenBy, reads-back-whole, stores-tell}
-use Rattle.demands.proofs.WriteBack.{written, wrote, load-written}
+use Rattle.demands.proofs.ReadBack.{reads-back-whole, stores-tell}
+use Rattle.demands.proofs.WriteBack.{load-written}
 
 -- a module s comes back from bytes bs: these load to the very same outcome (the answer with its header words, counts, offset and
 -- index, the instructions kept, the type entries) and so to the same four stores, are plain, are as long as the module's whole

@@ -18,9 +18,10 @@ use Rattle.spec.specs.declared.Fields.{Fields}
 use Rattle.spec.specs.Base.{implies, has}
 use Rattle.spec.specs.Records.{Operand, Placed, fieldsAt}
 use Rattle.spec.specs.Layout.{layoutOf, endNumber}
-use Rattle.spec.specs.Check.{Given, lower, recordsOf, missing, bitsIn, fieldsGood, fieldsFault, Left, Taken, short, taken, takeOperands, placedOf, wordsGood, Scan, addScan, endScan, onTaken, scanFrom, onTag, tagsFault, recordsIn, scanOf, faultOf, Checked, bad, good, checkedBy, check}
+use Rattle.spec.specs.Check.{Given, lower, recordsOf, missing, fieldsGood, fieldsFault, Left, placedOf, wordsGood, takeRecord, Scan, onRecord, scanFrom, onTag, tagsFault, recordsIn, scanOf, faultOf, Checked, bad, good, checkedBy, check}
 use Rattle.spec.specs.Write.{parseBytes, moduleBytes, writeParse, writeModule, Writing, writeBy, standing, standsBy}
-use Rattle.demands.proofs.Choice.{left, right, either, IfSome}
+use Rattle.spec.proofs.Choice.{either, IfSome}
+use Rattle.spec.proofs.Faultless.{fields-told, Said, record-said}
 
 -- AN INDEX OR NONE
 
@@ -90,15 +91,6 @@ words-some : (f : Fields) (os : List Operand) → wordsGood (placedOf f os) ≡ 
 unfolding wordsGood placedOf
 words-some f os e = omega (arith, eqb-true (f .words) _ e)
 
--- a good record's offset
-offset-is : (at : ℕ) (f : Fields) → fieldsGood at f ≡ true → f .offset ≡ at
-unfolding fieldsGood
-offset-is at f e =
-    let known : Bool =
-    leb (bitsIn f) 3 && implies (eqb (bitsIn f % 2) 0) (eqb (f .rtype) 0) && implies (ltb (bitsIn f) 2) (eqb (f .rid) 0) in
-    eqb-true (f .offset) at
-    (right known (eqb (f .offset) at) (left (known && eqb (f .offset) at) (leb (f .words) 65535) e))
-
 module _ (logCount stringCount : ℕ) where
   -- what fields and scan find from an index and an offset on
   abbrev SoonFrom : List Fields → ℕ → ℕ → Left → Type 0
@@ -111,18 +103,15 @@ module _ (logCount stringCount : ℕ) where
     abbrev Later : Scan → Type 0
     Later s = Soon (fieldsFault (suc index) (at + 4 * f .words) fs) (s .fault) (index + length (f ∷ fs))
 
-    -- by its operands
-    taken-soon : fieldsGood at f ≡ true → (t : Taken)
-        → Later (onTaken index f t (λ m. scanFrom logCount stringCount (suc index) m fs))
-    taken-soon g short = badScan here
-    taken-soon g (taken os m) =
-        either Later (wordsGood (placedOf f os)) (addScan (placedOf f os) (scanFrom logCount stringCount (suc index) m fs))
-        (endScan (some index))
-        (λ w. let is = offset-is at f g in
-        let one = words-some f os w in
+    -- by what it says
+    said-soon : (l : Left) → fieldsGood at f ≡ true → (o : Option (Placed × Left)) → IfSome (Said f l) o
+        → Later (onRecord index o (λ m. scanFrom logCount stringCount (suc index) m fs))
+    said-soon l g none p = badScan here
+    said-soon l g (some x) p =
+        let is = fields-told at f g .0 in
+        let one = words-some f (p .operands) (p .words) in
         let same : suc index + length fs ≡ index + length (f ∷ fs) = omega arith in
-        rw same at (on (omega arith) (omega arith) m))
-        (λ w. badScan here)
+        rw same at (on (omega arith) (omega arith) (x .1))
 
     -- by its fields
     record-soon : (l : Left) → SoonFrom (f ∷ fs) index at l
@@ -131,9 +120,7 @@ module _ (logCount stringCount : ℕ) where
         either
         (λ (o : Option ℕ). Soon o (scanFrom logCount stringCount index l (f ∷ fs) .fault) (index + length (f ∷ fs)))
         (fieldsGood at f) (fieldsFault (suc index) (at + 4 * f .words) fs) (some index)
-        (λ g. either Later (eqb (f .start) (l .logAt))
-        (onTaken index f (takeOperands (f .count) l) (λ m. scanFrom logCount stringCount (suc index) m fs))
-        (endScan (some index)) (λ t. taken-soon g (takeOperands (f .count) l)) (λ t. badScan here))
+        (λ g. said-soon l g (takeRecord f l) (record-said f l))
         (λ g. badFields here)
 
   -- the records from an index and an offset on

@@ -13,14 +13,14 @@ use lib.ListN.{length, length-append}
 use lib.Seq.{drop-append-add, drop-drop}
 use Rattle.spec.specs.declared.Limit.the-variants.{Unlimited, Words}
 use Rattle.spec.specs.Base.{joined}
-use Rattle.spec.specs.Words.{four, bytesOf, frontOf}
+use Rattle.spec.specs.Words.{four, bytesOf, frontOf, AllBytes}
 use Rattle.spec.specs.Reader.{Reader, reader, Read, got, refused, Parse, after, refuse, wordAt}
 use Rattle.spec.specs.Grammar.{Slot, Grammar, rowOf}
 use Rattle.spec.specs.Records.{Operand, Instr, Entry, operandSize, operandsSize, idSize, operandBytes, idBytes, instrBytes}
 use Rattle.spec.specs.Match.{Seen, nothingSeen, readRow, instrOf, allRead, readBody, readInstr}
 use Rattle.spec.specs.Plain.{plainOperand, plainOperands, plainInstr}
 use Rattle.demands.proofs.Choice.{either, IfSome}
-use Rattle.demands.proofs.Bytes.{AllBytes, all-append, all-left, all-right, four-word}
+use Rattle.demands.proofs.Bytes.{all-append, all-left, all-right, four-word}
 use Rattle.demands.proofs.Reading.{RefusedBy, Again, Taken, Comes}
 use Rattle.demands.proofs.Formed.{RowFrom, GrammarGood}
 use Rattle.demands.proofs.Told.{AllHold, AllSure, along-long, along-sure}

@@ -22,9 +22,10 @@ use Rattle.spec.specs.Records.{Placed, instrBytes}
 use Rattle.spec.specs.Load.{Book, Outcome, stop}
 use Rattle.spec.specs.Plain.{plainInstr}
 use Rattle.spec.specs.Write.{bytesOfAll}
+use Rattle.spec.specs.Words.{AllBytes}
 use Rattle.demands.proofs.Choice.{left, right, both}
 use Rattle.demands.proofs.Lists.{has-leb}
-use Rattle.demands.proofs.Bytes.{AllBytes, all-append, all-left, all-right}
+use Rattle.demands.proofs.Bytes.{all-append, all-left, all-right}
 use Rattle.demands.proofs.Cells.{layout-refuses}
 use Rattle.demands.proofs.Formed.{GrammarGood}
 use Rattle.demands.proofs.Instructions.{InstrGood, ReadFrom, InstrSure, InstrRead, Frames, instr-read}

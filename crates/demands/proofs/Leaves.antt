@@ -9,24 +9,10 @@ use lib.Seq.{sets-eq}
 use Rattle.spec.specs.declared.Counts.{Counts}
 use Rattle.spec.specs.Base.{joined}
 use Rattle.spec.specs.Records.{entryWords, recordsFrom, logFrom, stringStore}
-use Rattle.spec.specs.Load.{roomOf, Outcome, load, Stores, storesOf, laidOver}
+use Rattle.spec.specs.Load.{roomOf, Outcome, load, Stores, storesOf, laidOver, Covers, roomIn, laidOn}
 use Rattle.demands.proofs.Stores.{records-length, entries-length, BeginWith}
 use Rattle.demands.proofs.KeptSays.{takenBy, load-says}
-use Rattle.demands.proofs.Room.{Covers, load-covered}
-
--- the room in stores
-unfoldable pub roomIn : Stores → Counts
-roomIn t = roomOf (length (t .instructions)) (length (t .log)) (length (t .strings)) (length (t .types))
-
--- stores after records were laid over them
-unfoldable pub laidOn : Stores → Stores → Stores
-laidOn t u =
-    record {
-      instructions = laidOver (t .instructions) (u .instructions);
-      log = laidOver (t .log) (u .log);
-      strings = laidOver (t .strings) (u .strings);
-      types = laidOver (t .types) (u .types);
-    }
+use Rattle.demands.proofs.Room.{load-covered}
 
 -- the stores t after a load of which x became: up to its counts the records of what it keeps, past them what was there
 pub record Leaves (t : Stores) (x : Outcome) (after : Stores) : Type 0 where

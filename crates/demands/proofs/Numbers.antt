@@ -4,6 +4,7 @@ use native.Mathlib.Omega.{arith}
 use mathlib.Core.Path.{_≡_, refl, sym, subst}
 use mathlib.Core.Bool.{Bool, true, false, false≢true}
 use mathlib.Core.List.{List}
+use mathlib.Core.Logic.{_⊎_, inl, inr}
 use lib.Dec.{ltb, eqb}
 use lib.ListN.{length}
 use Rattle.spec.specs.declared.State.{State}
@@ -107,12 +108,13 @@ run-bound (reading d e) h f = omega arith
 run-bound (layout d e) h f = omega arith
 run-bound (room r) h f = f r
 
--- every load's number is in 0 to 31
-pub load-number : (grammar : List ℕ) (c : Counts) (s : List ℕ) → load grammar c s .said .number ≤ 31
-load-number grammar c s = by (load-from grammar c s)
-  where
-    by : {n : ℕ} → Source grammar s OfRoom n → n ≤ 31
-    by (theGrammar e f) = omega arith
-    by (theLength e f) = omega arith
-    by (theHeader e f) = omega arith
-    by (instructions z) = run-bound z (omega arith) (λ h. omega arith)
+-- the numbers of a load: 0 to 28, and 31
+abbrev pub OfLoad : ℕ → Type 0
+OfLoad n = (n ≤ 28) ⊎ (n ≡ 31)
+
+-- a number that comes from a load is one of them
+pub source-number : {grammar s : List ℕ} {n : ℕ} → Source grammar s OfRoom n → OfLoad n
+source-number (theGrammar e f) = inl (omega arith)
+source-number (theLength e f) = inr f
+source-number (theHeader e f) = inl (omega arith)
+source-number (instructions z) = inl (run-bound z (omega arith) (λ h. omega arith))

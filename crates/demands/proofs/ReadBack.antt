@@ -13,8 +13,8 @@ use Rattle.spec.specs.Base.{joined, implies}
 use Rattle.spec.specs.Layout.{endNumber}
 use Rattle.spec.specs.Records.{Placed, Entry, entry, entryWords, stringStore, logFrom}
 use Rattle.spec.specs.Load.{Outcome, nothing, load, Stores, storesOf}
-use Rattle.spec.specs.Check.{Given, good, check}
-use Rattle.demands.proofs.Bytes.{AllBytes}
+use Rattle.spec.specs.Check.{Given, good, check, givenBy}
+use Rattle.spec.specs.Words.{AllBytes}
 use Rattle.demands.proofs.Stores.{BeginWith, records-length, entries-length}
 use Rattle.demands.proofs.Starts.{Loads, unformed, overlong, headless, opens, load-is}
 use Rattle.demands.proofs.Kept.{Follow, last, wordsIn}
@@ -56,18 +56,6 @@ load-kept g room s by = of (load-is g room s)
         }
 
 -- READ BACK
-
--- stores and counts, as they are given to a call over records
-unfoldable pub givenBy : Stores → Counts → Given
-givenBy t n =
-    record {
-      instructions = t .instructions;
-      log = t .log;
-      strings = t .strings;
-      count = n .instructions;
-      logCount = n .log;
-      stringCount = n .strings;
-    }
 
 -- what is kept, in stores that begin with its records
 kept-back : (whole : Bool) (x : Outcome) (k : Kept x) → implies whole (eqb (endNumber (k .state)) 0) ≡ true

@@ -13,8 +13,9 @@ use Rattle.spec.specs.declared.Limit.the-variants.{Words}
 use Rattle.spec.specs.declared.Refusal.{Refusal}
 use Rattle.spec.specs.Base.{if_then_else_}
 use Rattle.spec.specs.Reader.{Reader, reader, Read, got, refused, Parse, after, _>>=_, _into_, give, refuse, here, spent}
+use Rattle.spec.specs.Words.{AllBytes}
 use Rattle.demands.proofs.Choice.{either}
-use Rattle.demands.proofs.Bytes.{AllBytes, all-left, all-right}
+use Rattle.demands.proofs.Bytes.{all-left, all-right}
 
 -- THE PROPERTY
 

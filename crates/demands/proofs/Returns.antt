@@ -12,7 +12,7 @@ use lib.Seq.{take-add, take-at, length-take-le}
 use Rattle.spec.specs.declared.State.{State}
 use Rattle.spec.specs.declared.Counts.{Counts}
 use Rattle.spec.specs.Base.{joined}
-use Rattle.spec.specs.Words.{bytesOf}
+use Rattle.spec.specs.Words.{bytesOf, AllBytes}
 use Rattle.spec.specs.Records.{Placed}
 use Rattle.spec.specs.Header.{headerFrom}
 use Rattle.spec.specs.Grammar.{grammarOf}
@@ -21,7 +21,7 @@ use Rattle.spec.specs.Load.{emptyBook, Outcome, load}
 use Rattle.spec.specs.Plain.{plainBy}
 use Rattle.spec.specs.Write.{bytesOfAll, parseBytes}
 use Rattle.demands.proofs.Choice.{left, right}
-use Rattle.demands.proofs.Bytes.{AllBytes, all-append, all-left, all-take, all-drop, bytes-words}
+use Rattle.demands.proofs.Bytes.{all-append, all-left, all-take, all-drop, bytes-words}
 use Rattle.demands.proofs.Lists.{nil-of}
 use Rattle.demands.proofs.Runs.{Run}
 use Rattle.demands.proofs.Starts.{header-is, Opens, opens-good, ModuleRun, Loads, unformed, overlong, headless, opens, load-is, load-after}

@@ -16,7 +16,7 @@ use Rattle.spec.specs.Records.{Operand, narrow, wide, text, Instr, Entry, entry
 use Rattle.spec.specs.Grammar.{Grammar, wellFormed}
 use Rattle.spec.specs.Layout.{isType}
 use Rattle.spec.specs.Types.{define, entryOf, literalInt, defineInt, defineFloat, trackInt, trackFloat, inherit, trackValue, trackResult, track}
-use Rattle.spec.specs.Load.{enough, roomFault, Book, emptyBook, Outcome, load}
+use Rattle.spec.specs.Load.{enough, roomFault, Book, emptyBook, Outcome, load, Covers, lacksRoom}
 use Rattle.demands.proofs.Choice.{either}
 use Rattle.demands.proofs.Stores.{strings-short}
 use Rattle.demands.proofs.Formed.{GrammarGood}
@@ -26,14 +26,7 @@ use Rattle.demands.proofs.Numbers.{Source, theGrammar, theLength, theHe
 
 -- ROOM
 
--- each store of the one is at least that of the other
-pub record Covers (room need : Counts) : Type 0 where
-  pub instructions : need .instructions ≤ room .instructions
-  pub log : need .log ≤ room .log
-  pub strings : need .strings ≤ room .strings
-  pub types : need .types ≤ room .types
-
--- then no store lacks room
+-- no store lacks room where it covers what is needed
 covers-fits : (room need : Counts) → Covers room need → roomFault room need ≡ 0
 unfolding roomFault
 covers-fits room need c =
@@ -232,7 +225,7 @@ module _ (grammar : List ℕ) (room : Counts) (s : List ℕ) (c : Covers room (e
       (load-is grammar room s)
 
   -- the number is never 25, 26, 27 or 28
-  pub load-roomy : within 25 (load grammar room s .said .number) 28 ≡ false
+  pub load-roomy : lacksRoom (load grammar room s .said) ≡ false
   load-roomy = by roomy-source
     where
       below : (n : ℕ) → n ≤ 24 → within 25 n 28 ≡ false

@@ -13,18 +13,18 @@ use Rattle.spec.specs.declared.Cell.the-variants.{Tagged, Refuses}
 use Rattle.spec.specs.declared.Counts.{Counts}
 use Rattle.spec.specs.Base.{if_then_else_, has, within}
 use Rattle.spec.specs.Records.{Instr}
-use Rattle.spec.specs.Reader.{Reader, reader, Read, got, refused}
+use Rattle.spec.specs.Reader.{Reader, reader, Read, got, refused, Parse, after, _>>=_}
 use Rattle.spec.specs.Header.{headerFrom}
 use Rattle.spec.specs.Grammar.{Grammar, grammarOf, wellFormed}
 use Rattle.spec.specs.Layout.{layoutOf}
 use Rattle.spec.specs.Match.{readInstr}
-use Rattle.spec.specs.Load.{roomFault, Book, emptyBook, entered, Outcome, onInstr, onCell, onRoom, loadFrom, loadWith, load}
+use Rattle.spec.specs.Load.{roomFault, Book, emptyBook, entered, Outcome, lacksRoom, placed, roomed, onBook, loadFrom, loadWith, load}
 use Rattle.demands.proofs.Choice.{both, cases}
 use Rattle.demands.proofs.Numbers.{room-number}
 
 -- a load is not refused for room
 abbrev pub Roomy : Outcome → Type 0
-Roomy o = within 25 (o .said .number) 28 ≡ false
+Roomy o = lacksRoom (o .said) ≡ false
 
 -- two loads are the same, where neither is refused for room
 abbrev pub Alike : Outcome → Outcome → Type 0
@@ -45,37 +45,39 @@ room-refused room need e f =
     let n = room-number room need e in
     true≢false (sym (both (le-leb 25 (roomFault room need) (n .0)) (le-leb (roomFault room need) 28 (n .1))) ∙ f)
 
-module _ (g : Grammar) (room other : Counts) (h : List ℕ) where
+module _ (g : Grammar) (room other : Counts) (h : List ℕ) (b : Book) {x y : Book → Reader → Outcome}
+    (alike : (c : Book) (t : Reader) → Alike (x c t) (y c t)) where
   -- by room
-  alike-room : (b : Book) (i : Instr) (need : Counts) {x y : Outcome} → Alike x y
-      → Alike (onRoom h b i (roomFault room need) x) (onRoom h b i (roomFault other need) y)
-  alike-room b i need p =
+  alike-room : (i : Instr) (c : Book) (t : Reader) → Alike (onBook h b (roomed room i c t) x) (onBook h b (roomed other i c t) y)
+  alike-room i c t =
+      let need = c .used in
       cases (eqb (roomFault room need) 0)
-      (λ d. cases (eqb (roomFault other need) 0) (λ e. rw (d, e) p) (λ e. rw e (λ f k. absurd (room-refused other need e k))))
+      (λ d. cases (eqb (roomFault other need) 0) (λ e. rw (d, e) (alike c t))
+      (λ e. rw e (λ f k. absurd (room-refused other need e k))))
       (λ d. rw d (λ f k. absurd (room-refused room need d f)))
 
   -- by layout
-  alike-cell : (b : Book) (i : Instr) (c : Cell) {x y : ℕ → State → Outcome} → ((tag : ℕ) (s : State) → Alike (x tag s) (y tag s))
-      → Alike (onCell h b i c x) (onCell h b i c y)
-  alike-cell b i (Tagged tag s) p = p tag s
-  alike-cell b i (Refuses n) p = itself
+  alike-cell : (i : Instr) (c : Cell) (t : Reader)
+      → Alike (onBook h b ((placed b i c >>= roomed room i) t) x) (onBook h b ((placed b i c >>= roomed other i) t) y)
+  alike-cell i (Tagged tag s) t = alike-room i (entered b i tag s) t
+  alike-cell i (Refuses n) t = itself
+
+  -- what follows decoding, in a room
+  abbrev admitted : Counts → Instr → Parse Book
+  admitted c i = placed b i (layoutOf (i .opcode) (b .state)) >>= roomed c i
 
   -- by reading
-  alike-instr : (b : Book) (y : Read Instr) {u v : Instr → Reader → Outcome} → ((i : Instr) (t : Reader) → Alike (u i t) (v i t))
-      → Alike (onInstr h b y u) (onInstr h b y v)
-  alike-instr b (got i t) p = p i t
-  alike-instr b (refused x t) p = itself
+  alike-instr : (z : Read Instr) → Alike (onBook h b (after z (admitted room)) x) (onBook h b (after z (admitted other)) y)
+  alike-instr (got i t) = alike-cell i (layoutOf (i .opcode) (b .state)) t
+  alike-instr (refused x t) = itself
 
-  -- the instructions
-  alike-from : (n : ℕ) (b : Book) (r : Reader) → Alike (loadFrom g room h n b r) (loadFrom g other h n b r)
-  unfolding loadFrom
-  alike-from zero b r = itself
-  alike-from (suc n) b r =
-      alike-if (has 4 (r .rest))
-      (alike-instr b (readInstr g (b .types) r)
-      (λ i t. alike-cell b i (layoutOf (i .opcode) (b .state))
-      (λ tag s. alike-room b i (entered b i tag s .used) (alike-from n (entered b i tag s) t))))
-      itself
+-- the instructions
+alike-from : (g : Grammar) (room other : Counts) (h : List ℕ) (n : ℕ) (b : Book) (r : Reader)
+    → Alike (loadFrom g room h n b r) (loadFrom g other h n b r)
+unfolding loadFrom
+alike-from g room other h zero b r = itself
+alike-from g room other h (suc n) b r =
+    alike-if (has 4 (r .rest)) (alike-instr g room other h b (alike-from g room other h n) (readInstr g (b .types) r)) itself
 
 -- a module loads to the same in any two rooms, where neither load is refused for room
 pub any-room : (grammar : List ℕ) (room other : Counts) (s : List ℕ) → Alike (load grammar room s) (load grammar other s)

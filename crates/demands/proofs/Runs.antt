@@ -16,11 +16,11 @@ use Rattle.spec.specs.declared.Cell.the-variants.{Tagged, Refuses}
 use Rattle.spec.specs.declared.Counts.{Counts}
 use Rattle.spec.specs.Base.{if_then_else_, has}
 use Rattle.spec.specs.Records.{Instr, Placed}
-use Rattle.spec.specs.Reader.{Reader, reader, Read, got, refused}
+use Rattle.spec.specs.Reader.{Reader, reader, Read, got, refused, after, _>>=_, give, refuse}
 use Rattle.spec.specs.Grammar.{Grammar}
 use Rattle.spec.specs.Layout.{layoutOf, endNumber}
 use Rattle.spec.specs.Match.{readInstr}
-use Rattle.spec.specs.Load.{roomFault, Book, entered, Outcome, stop, onInstr, onCell, onRoom, finish, loadFrom}
+use Rattle.spec.specs.Load.{roomFault, Book, entered, Outcome, stop, placed, roomed, takeInstr, onBook, finish, loadFrom}
 use Rattle.demands.proofs.Lists.{has-leb}
 use Rattle.demands.proofs.Formed.{GrammarGood}
 use Rattle.demands.proofs.Instructions.{Frames, InstrRead, instr-read}
@@ -93,19 +93,15 @@ module _ (g : Grammar) (good : GrammarGood g) where
         (on : (b : Book) (at : ℕ) (rest : List ℕ) → length rest / 4 ≤ n
         → Run g room h b at rest (loadFrom g room h n b (reader at Unlimited rest)))
         (b : Book) (at : ℕ) (rest : List ℕ) (few : length rest / 4 ≤ suc n) where
-      -- a step of `loadFrom`, after the layout
-      abbrev afterCell : Instr → Reader → ℕ → State → Outcome
-      afterCell i t tag s = onRoom h b i (roomFault room (entered b i tag s .used)) (loadFrom g room h n (entered b i tag s) t)
-
-      -- a step, after reading
-      abbrev afterInstr : Instr → Reader → Outcome
-      afterInstr i t = onCell h b i (layoutOf (i .opcode) (b .state)) (afterCell i t)
+      -- a step of `loadFrom`, by what became of the next book
+      abbrev goesOn : Read Book → Outcome
+      goesOn y = onBook h b y (loadFrom g room h n)
 
       -- by room
       room-runs : (z : Enters g b at rest) (c : Bool) → Fits room z c
           → Run g room h b at rest
-          (if c then loadFrom g room h n (with z) (reader (next z) Unlimited (z .behind))
-          else stop h b (roomFault room (with z .used)) (z .instr .offset) 0)
+          (goesOn ((if c then give (with z) else refuse (roomFault room (with z .used)) (z .instr .offset))
+          (reader (next z) Unlimited (z .behind))))
       room-runs z true e = keeps z e (on (with z) (next z) (z .behind) (omega (arith, fewer z)))
       room-runs z false e = stops _ _ _ (crowded z e)
 
@@ -113,7 +109,7 @@ module _ (g : Grammar) (good : GrammarGood g) where
       cell-runs : has 4 rest ≡ true → (i : Instr) (behind : List ℕ)
           → readInstr g (b .types) (reader at Unlimited rest) ≡ got i (reader (at + 4 * i .words) Unlimited behind) → (c : Cell)
           → layoutOf (i .opcode) (b .state) ≡ c
-          → Run g room h b at rest (onCell h b i c (afterCell i (reader (at + 4 * i .words) Unlimited behind)))
+          → Run g room h b at rest (goesOn ((placed b i c >>= roomed room i) (reader (at + 4 * i .words) Unlimited behind)))
       cell-runs p i behind e (Tagged tag s) f =
           room-runs (record { instr = i; behind = behind; tag = tag; state = s; whole = p; read = e; placed = f }) _ refl
       cell-runs p i behind e (Refuses m) f = stops _ _ _ (misplaced i _ m p e f)
@@ -121,17 +117,16 @@ module _ (g : Grammar) (good : GrammarGood g) where
       -- by reading
       instr-runs : has 4 rest ≡ true → (y : Read Instr) → readInstr g (b .types) (reader at Unlimited rest) ≡ y
           → Frames g (b .types) at rest y
-          → Run g room h b at rest (onInstr h b y afterInstr)
+          → Run g room h b at rest (goesOn (after y (λ i. placed b i (layoutOf (i .opcode) (b .state)) >>= roomed room i)))
       instr-runs p (got i t) e x =
-          subst (λ (u : Reader). Run g room h b at rest (afterInstr i u)) (sym (x .to))
-          (cell-runs p i (x .behind) (e ∙ ap (got i) (x .to)) (layoutOf (i .opcode) (b .state)) refl)
+          subst (λ (u : Reader). Run g room h b at rest (goesOn ((placed b i (layoutOf (i .opcode) (b .state)) >>= roomed room i) u)))
+          (sym (x .to)) (cell-runs p i (x .behind) (e ∙ ap (got i) (x .to)) (layoutOf (i .opcode) (b .state)) refl)
       instr-runs p (refused x t) e y = stops _ _ _ (unread x t p e)
 
       -- by whether a word is left
       step-runs : (c : Bool) → has 4 rest ≡ c
           → Run g room h b at rest
-          (if c then onInstr h b (readInstr g (b .types) (reader at Unlimited rest)) afterInstr
-          else finish h b (reader at Unlimited rest))
+          (if c then goesOn (takeInstr g room b (reader at Unlimited rest)) else finish h b (reader at Unlimited rest))
       step-runs true p =
           instr-runs p (readInstr g (b .types) (reader at Unlimited rest)) refl (instr-read g good (b .types) at rest)
       step-runs false p = stops _ _ _ (ends p)

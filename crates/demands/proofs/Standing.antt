@@ -3,7 +3,7 @@ use Prim.Native.Nat.{ℕ, zero, suc, _+_, _*_, _%_, _<_, _≤_}
 use mathlib.Core.Path.{_≡_, refl, ap, sym, _∙_, subst}
 use mathlib.Core.Bool.{Bool, true, false, not, _&&_, _||_, false≢true}
 use mathlib.Core.List.{List, [], _∷_, _++_, reverse}
-use mathlib.Core.Option.{Option, none, some, Option·some-ne-none}
+use mathlib.Core.Option.{none}
 use native.Mathlib.Omega.{arith}
 use borrow.Author.Tests.{eqb-true, eqb-false, leb-true, le-leb, lt-leb, ne-eqb}
 use lib.Dec.{leb, eqb}
@@ -11,16 +11,15 @@ use lib.ListN.{length, take, drop}
 use lib.Seq.{drop-at}
 use Rattle.spec.specs.declared.State.{State}
 use Rattle.spec.specs.declared.State.the-variants.{Outside, Function, Block}
-use Rattle.spec.specs.declared.Cell.{Cell}
-use Rattle.spec.specs.declared.Cell.the-variants.{Tagged, Refuses}
 use Rattle.spec.specs.declared.Fields.{Fields}
 use Rattle.spec.specs.Base.{if_then_else_, within, joined, only}
 use Rattle.spec.specs.Words.{bytesOf}
 use Rattle.spec.specs.Layout.{layoutOf}
-use Rattle.spec.specs.Records.{Operand, Placed}
-use Rattle.spec.specs.Check.{Given, lower, missing, recordsIn, fieldsFault, Left, Taken, short, taken, takeOperands, placedOf, wordsGood, Scan, endScan, addScan, onTaken, scanFrom, scanOf, onTag, tagsFault, faultOf, good, checkedBy, check}
+use Rattle.spec.specs.Records.{Placed}
+use Rattle.spec.specs.Check.{Given, Left, placedOf, tagsFault, recordsIn, good, check}
 use Rattle.spec.specs.Write.{hasTag, sectionOf, sections, parametersIn, functions, moduleOrder, neverFalls, parametersFirst, isStanding, bytesOfAll, parseBytes, moduleHeader, moduleBytes}
-use Rattle.demands.proofs.Choice.{left, right, both, other, fails, cases, either, in-range}
+use Rattle.spec.proofs.Choice.{left, right, both, other, fails, cases, either, in-range}
+use Rattle.spec.proofs.Faultless.{no-faults, good-told, Scans, ends, says, scans, tag-told}
 use Rattle.demands.proofs.Lists.{joined-same}
 use Rattle.demands.proofs.Cells.{leads, tag-leads}
 
@@ -31,73 +30,24 @@ data Walks : State → List Placed → Type 0 where
   stops : {s : State} → Walks s []
   goes : {s t : State} {p : Placed} {ps : List Placed} → leads s (p .tag) t ≡ true → Walks t ps → Walks s (p ∷ ps)
 
--- the lower of two faults is none where both are
-pub none-lower : (a b : Option ℕ) → lower a b ≡ none → (a ≡ none) × (b ≡ none)
-none-lower none b e = (refl, e)
-none-lower (some i) none e = absurd (Option·some-ne-none i e)
-none-lower (some i) (some j) e =
-    absurd
-    (either (λ (o : Option ℕ). o ≡ none → ⊥) (leb i j) (some i) (some j) (λ c. Option·some-ne-none i)
-    (λ c. Option·some-ne-none j) e)
-
--- a record whose tag is the one that the table gives
-tag-walks : (index tag op : ℕ) (s : State) (z : Cell) (more : State → Option ℕ) → layoutOf op s ≡ z → onTag index tag z more ≡ none
-    → (t : State) × (leads s tag t ≡ true) × (more t ≡ none)
-tag-walks index tag op s (Refuses n) more e f = absurd (Option·some-ne-none _ f)
-tag-walks index tag op s (Tagged k t) more e f =
-    either (λ (o : Option ℕ). o ≡ none → (t : State) × (leads s tag t ≡ true) × (more t ≡ none)) (eqb tag k) (more t) (some index)
-    (λ same f. (t, rw (eqb-true tag k same) (tag-leads op s t k e), f)) (λ same f. absurd (Option·some-ne-none _ f)) f
-
-module _ (i j : ℕ) (r : Fields) (l : Left) (s : State) (more : Left → Scan) (later : State → Option ℕ)
-    (walks : (m : Left) (t : State) → more m .fault ≡ none → later t ≡ none → Walks t (more m .instrs))
-    (f : onTag j (r .tag) (layoutOf (r .head % 65536) s) later ≡ none) where
-  -- a record whose operands are taken, by its word count
-  counted-walks : (os : List Operand) (m : Left) (c : Bool)
-      → (if c then addScan (placedOf r os) (more m) else endScan (some i)) .fault ≡ none
-      → Walks s ((if c then addScan (placedOf r os) (more m) else endScan (some i)) .instrs)
-  unfolding placedOf
-  counted-walks os m true e =
-      let next = tag-walks j (r .tag) (r .head % 65536) s (layoutOf (r .head % 65536) s) later refl f in
-      goes (next .1) (walks m (next .0) e (next .2))
-  counted-walks os m false e = absurd (Option·some-ne-none _ e)
-
-  -- a record by whether its operands are good
-  taken-walks : (y : Taken) → onTaken i r y more .fault ≡ none → Walks s (onTaken i r y more .instrs)
-  taken-walks short e = absurd (Option·some-ne-none _ e)
-  taken-walks (taken os m) e = counted-walks os m (wordsGood (placedOf r os)) e
-
-  -- a record by whether its log follows on
-  record-walks : (c : Bool) → (if c then onTaken i r (takeOperands (r .count) l) more else endScan (some i)) .fault ≡ none
-      → Walks s ((if c then onTaken i r (takeOperands (r .count) l) more else endScan (some i)) .instrs)
-  record-walks true e = taken-walks (takeOperands (r .count) l) e
-  record-walks false e = absurd (Option·some-ne-none _ e)
-
--- records whose operands and tags are good walk the table
-scan-walks : (logCount stringCount : ℕ) (whole : Bool) (fs : List Fields) (i j : ℕ) (l : Left) (s : State)
-    → scanFrom logCount stringCount i l fs .fault ≡ none → tagsFault whole j s fs ≡ none
-    → Walks s (scanFrom logCount stringCount i l fs .instrs)
-unfolding scanFrom tagsFault
-scan-walks logCount stringCount whole [] i j l s e f = stops
-scan-walks logCount stringCount whole (r ∷ fs) i j l s e f =
-    record-walks i j r l s (λ m. scanFrom logCount stringCount (suc i) m fs) (λ t. tagsFault whole (suc j) t fs)
-    (λ m t. scan-walks logCount stringCount whole fs (suc i) (suc j) m t) f (eqb (r .start) (l .logAt)) e
-
--- records by whether the check finds a fault
-checked-walks : (whole : Bool) (x : Given) (is : List Placed) (o : Option ℕ) → faultOf whole x ≡ o
-    → checkedBy o (scanOf x .instrs) ≡ good is → Walks Outside is
-unfolding faultOf
-checked-walks whole x is (some i) e f = let z : _≡_ {A = ℕ} 0 1 = cc in absurd (omega arith)
-checked-walks whole x is none e f =
-    let same : scanOf x .instrs ≡ is = cc in
-    let fields = none-lower (missing (x .count) (recordsIn x)) _ e .1 in
-    let scan = none-lower (fieldsFault 1 20 (recordsIn x)) _ fields .1 in
-    let tags = none-lower (scanOf x .fault) _ scan in
-    subst (Walks Outside) same (scan-walks (x .logCount) (x .stringCount) whole (recordsIn x) 1 1 _ Outside (tags .0) (tags .1))
+-- records that were taken and whose tags are good walk the table
+scans-walk : {logCount stringCount : ℕ} {l : Left} {fs : List Fields} {is : List Placed} → Scans logCount stringCount l fs is
+    → (whole : Bool) (index : ℕ) (s : State) → tagsFault whole index s fs ≡ none → Walks s is
+unfolding tagsFault placedOf
+scans-walk (ends d e) whole index s f = stops
+scans-walk (says {f = r} {x = x} said more) whole index s f =
+    let next = tag-told index (r .tag) (layoutOf (r .head % 65536) s) _ f in
+    let tag : x .0 .tag ≡ r .tag = ap (λ (p : Placed). p .tag) (said .is) in
+    let on : leads s (x .0 .tag) (next .0) ≡ true = rw tag (tag-leads (r .head % 65536) s (next .0) (r .tag) (next .1)) in
+    goes on (scans-walk more whole (suc index) (next .0) (next .2))
 
 -- records that pass the check walk the table
 check-walks : (whole : Bool) (x : Given) (is : List Placed) → check whole x ≡ good is → Walks Outside is
-unfolding check
-check-walks whole x is e = checked-walks whole x is (faultOf whole x) refl e
+check-walks whole x is e =
+    let told = good-told whole x is e in
+    let free = no-faults whole x (told .0) in
+    subst (Walks Outside) (told .1)
+    (scans-walk (scans (x .logCount) (x .stringCount) (recordsIn x) 1 _ (free .scan)) whole 1 Outside (free .tags))
 
 -- FUNCTIONS STAY AS THEY ARE
 

@@ -1,6 +1,6 @@
 -- A load from its start: what can become of it, one case each.
 use Prim.Native.Nat.{ℕ, _+_, _/_, _≤_, _<_}
-use mathlib.Core.Path.{_≡_, refl}
+use mathlib.Core.Path.{_≡_, refl, ap, _∙_}
 use mathlib.Core.Bool.{true, false}
 use mathlib.Core.List.{List, [], _∷_, _++_}
 use native.Mathlib.Omega.{arith}
@@ -12,12 +12,12 @@ use Rattle.spec.specs.declared.HeaderRead.{HeaderRead}
 use Rattle.spec.specs.declared.Counts.{Counts}
 use Rattle.spec.specs.Words.{wordsOf}
 use Rattle.spec.specs.Header.{magicFault, noHeader, headerFrom}
-use Rattle.spec.specs.Grammar.{grammarOf, wellFormed}
+use Rattle.spec.specs.Grammar.{Grammar, grammarOf, wellFormed}
 use Rattle.spec.specs.Reader.{refusal}
-use Rattle.spec.specs.Load.{emptyBook, Outcome, nothing, afterHeader, loadWith, load}
+use Rattle.spec.specs.Load.{Book, emptyBook, Outcome, nothing, afterHeader, loadWith, load}
 use Rattle.demands.proofs.Choice.{either}
 use Rattle.demands.proofs.Formed.{GrammarGood, well-formed-good}
-use Rattle.demands.proofs.Runs.{Run, runs, loads}
+use Rattle.demands.proofs.Runs.{Run, stops, keeps, runs, loads}
 
 -- THE HEADER
 
@@ -73,6 +73,34 @@ pub data Loads (grammar : List ℕ) (room : Counts) (s : List ℕ) : Outcome →
   overlong : 67108864 < length s → Loads grammar room s (nothing 31 0)
   headless : (n at : ℕ) → 1 ≤ n → n ≤ 3 → Loads grammar room s (nothing n at)
   opens : {o : Outcome} → Opens grammar s → ModuleRun grammar room s o → Loads grammar room s o
+
+-- THE HEADER WORDS OF AN ANSWER
+
+-- a run answers with the header words that it was given
+run-header : {grammar : Grammar} {room : Counts} {h : List ℕ} {b : Book} {at : ℕ} {rest : List ℕ} {o : Outcome}
+    → Run grammar room h b at rest o → o .said .header ≡ h
+run-header (stops n place v x) = refl
+run-header (keeps z e run) = run-header run
+
+-- bytes have a word for every four
+words-count : (l : List ℕ) → length (wordsOf l) ≡ length l / 4
+unfolding wordsOf
+words-count [] = refl
+words-count (a ∷ []) = refl
+words-count (a ∷ b ∷ []) = refl
+words-count (a ∷ b ∷ c ∷ []) = refl
+words-count (a ∷ b ∷ c ∷ d ∷ r) = omega (arith, words-count r)
+
+-- a load answers with five header words
+pub header-five : {grammar : List ℕ} {room : Counts} {s : List ℕ} {o : Outcome} → Loads grammar room s o → length (o .said .header) ≡ 5
+header-five (unformed e) = refl
+header-five (overlong e) = refl
+header-five (headless n at e f) = refl
+header-five {s = s} (opens b run) =
+    let head = header-is s .there (b .header) in
+    ap length (run-header run ∙ head .1) ∙ omega (arith, words-count (take 20 s), length-take-le 20 s (head .0))
+
+-- THE INSTRUCTIONS
 
 -- the words of a module are fuel enough for its instructions
 module-fuel : (s : List ℕ) → length (drop 20 s) / 4 ≤ length s / 4

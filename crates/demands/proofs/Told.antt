@@ -10,13 +10,13 @@ use lib.Dec.{eqb}
 use lib.ListN.{length, drop, replicate, length-append}
 use lib.Seq.{take-at, drop-at, drop-append-seam}
 use Rattle.spec.specs.Base.{joined}
-use Rattle.spec.specs.Words.{bytesOf}
+use Rattle.spec.specs.Words.{bytesOf, AllBytes}
 use Rattle.spec.specs.Text.{textWords, padded, isUtf8}
 use Rattle.spec.specs.Kinds.{isLong}
 use Rattle.spec.specs.Records.{Operand, narrow, wide, text, operandSize, operandsSize, longBytes, operandBytes}
 use Rattle.spec.specs.Plain.{zeros, plainOperand, plainOperands}
 use Rattle.demands.proofs.Choice.{left, right}
-use Rattle.demands.proofs.Bytes.{AllBytes, all-append, all-left, all-right, all-zeros, word-bytes}
+use Rattle.demands.proofs.Bytes.{all-append, all-left, all-right, all-zeros, word-bytes}
 use Rattle.demands.proofs.OperandKinds.{isNarrow, isWhole}
 use Rattle.demands.proofs.Words.{Word, Opcode}
 use Rattle.demands.proofs.Strings.{noZeros, Text, padded-length}

@@ -7,11 +7,11 @@ use native.Mathlib.Omega.{arith}
 use lib.Dec.{eqb·suc-zero}
 use lib.ListN.{length}
 use Rattle.spec.specs.declared.Limit.the-variants.{Words}
-use Rattle.spec.specs.Words.{four, bytesOf, front, frontOf}
+use Rattle.spec.specs.Words.{four, bytesOf, front, frontOf, AllBytes}
 use Rattle.spec.specs.Reader.{reader, got, Parse, _into_, wordAt, readWord}
 use Rattle.spec.specs.Grammar.{Grammar, parametersFor}
 use Rattle.spec.specs.Match.{Known, known, knownOr, readEnumerant}
-use Rattle.demands.proofs.Bytes.{AllBytes, four-bytes, four-word}
+use Rattle.demands.proofs.Bytes.{four-bytes, four-word}
 use Rattle.demands.proofs.Reading.{Relation, Taken, Comes, Reads}
 
 -- the word in front of a word's bytes is the word

@@ -6,19 +6,12 @@ use borrow.Author.Tests.{le-ltb}
 use lib.ListN.{length, drop}
 use Rattle.spec.specs.declared.Counts.{Counts}
 use Rattle.spec.specs.Load.{Outcome, load, Stores, storesOf}
-use Rattle.spec.specs.Write.{parseBytes, Writing, writeParse}
-use Rattle.demands.proofs.Bytes.{AllBytes}
+use Rattle.spec.specs.Write.{parseBytes, Writing, writeParse, written, wrote}
+use Rattle.spec.specs.Words.{AllBytes}
+use Rattle.spec.specs.Check.{givenBy}
 use Rattle.demands.proofs.Stores.{BeginWith}
-use Rattle.demands.proofs.ReadBack.{givenBy, reads-back}
+use Rattle.demands.proofs.ReadBack.{reads-back}
 use Rattle.demands.proofs.Leaves.{laid-over}
-
--- the bytes written in parse order for what a load came to: its header words and the instructions that it kept
-abbrev pub written : Outcome → List ℕ
-written x = parseBytes (x .said .header) (x .kept)
-
--- bytes were written into an output: the number is 0, and past them stands what was there
-abbrev pub wrote : List ℕ → List ℕ → Writing
-wrote bs out = record { said = record { number = 0; index = 0; bytes = length bs }; output = bs ++ drop (length bs) out }
 
 -- the records of a load, accepted or refused, wherever stores begin with them, are written so, where the output has room
 pub load-written : (g : List ℕ) (room : Counts) (s : List ℕ) → AllBytes s → (t : Stores) → BeginWith t (storesOf (load g room s))

@@ -11,11 +11,11 @@ use Rattle.spec.specs.declared.Loaded.{Loaded}
 use Rattle.spec.specs.Base.{every}
 use Rattle.spec.specs.Words.{bytesOf}
 use Rattle.spec.specs.Builtin.{builtin}
-use Rattle.spec.specs.Load.{Outcome, enough, roomOf, load, storesOf, laidOver}
+use Rattle.spec.specs.Load.{Outcome, enough, roomOf, load, storesOf, laidOver, Covers}
 use Rattle.spec.specs.Fittings.{Shown, Fitting, fitting, shown, roomFor, found, claimed, fittings, fittings-hold}
 use Rattle.loader.specs.Loading.{loading}
 use Rattle.demands.proofs.Choice.{left, right}
-use Rattle.demands.proofs.Room.{Covers, load-roomy}
+use Rattle.demands.proofs.Room.{load-roomy}
 use Rattle.demands.proofs.Rooms.{any-room}
 use Rattle.fittings.specs.Told.{Told, Shows}
 
@@ -40,13 +40,13 @@ module _ (m g i l s t : List ℕ) (b : g ≡ builtin)
       ∙ any-room builtin room (roomFor m) m (load-roomy builtin room m c) (load-roomy builtin (roomFor m) m (omega arith))
 
   -- what a load with the built-in grammar answers and leaves, by its contract, is what the table says of the module
-  pub told : (r : Loaded) (i₁ l₁ s₁ t₁ : List ℕ)
+  pub told : {P : Type 0} (r : Loaded) (i₁ l₁ s₁ t₁ : List ℕ)
       → (r ≡ loading m g i l s t .said) × ((i₁ ≡ laidOver i (storesOf (loading m g i l s t) .instructions))
       × ((l₁ ≡ laidOver l (storesOf (loading m g i l s t) .log)) × ((s₁ ≡ laidOver s (storesOf (loading m g i l s t) .strings))
-      × (t₁ ≡ laidOver t (storesOf (loading m g i l s t) .types)))))
+      × ((t₁ ≡ laidOver t (storesOf (loading m g i l s t) .types)) × P))))
       → Told fittings m (λ x. Shows x r i l s t i₁ l₁ s₁ t₁)
   unfolding shown
-  told r i₁ l₁ s₁ t₁ (e, (ei, (el, (es, et)))) =
+  told r i₁ l₁ s₁ t₁ (e, (ei, (el, (es, (et, bytes))))) =
       tells fittings (λ n. load builtin (roomFor n) n) fittings-hold m (λ x. Shows x r i l s t i₁ l₁ s₁ t₁)
       (record {
         said = e ∙ ap (λ (o : Outcome). o .said) roomy;

@@ -3,9 +3,8 @@
 // counts. Where the two loads differ, the line says so.
 ghost use Prim.Native.Nat.{_+_, _≤_};
 ghost use lib.ListN.{length};
-ghost use Rattle.spec.specs.Load.{roomOf};
+ghost use Rattle.spec.specs.Load.{roomOf, Covers};
 ghost use Rattle.spec.specs.Fittings.{fittings, roomFor};
-ghost use Rattle.demands.proofs.Room.{Covers};
 ghost use Rattle.fittings.specs.Told.{Told, Shows};
 use libc::STDIN_FILENO;
 use libc::STDOUT_FILENO;

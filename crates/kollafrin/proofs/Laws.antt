@@ -9,11 +9,11 @@ use Rattle.spec.specs.declared.Loaded.{Loaded}
 use Rattle.spec.specs.declared.Written.{Written}
 use Rattle.spec.specs.declared.Stands.{Stands}
 use Rattle.spec.specs.Base.{if_then_else_}
-use Rattle.spec.specs.Load.{roomOf, laidOver}
+use Rattle.spec.specs.Load.{roomOf, laidOver, Small}
 use Rattle.spec.specs.Check.{Given}
 use Rattle.spec.specs.Write.{writeParse, writeModule, standing}
 use Rattle.loader.specs.Loading.{loading}
-use Rattle.demands.proofs.Bounds.{Small, load-small}
+use Rattle.demands.proofs.Bounds.{load-small}
 use Rattle.demands.proofs.Indices.{WordsFit, parse-index, module-index, standing-index}
 use Rattle.kollafrin.specs.Answers.{loadAnswer, writeAnswer, standAnswer, laidIn}
 

@@ -9,12 +9,12 @@ ghost use mathlib.Core.Path.{_≡_};
 ghost use Prim.Native.Nat.{_<_};
 ghost use lib.ListN.{length};
 ghost use Rattle.spec.specs.Base.{if_then_else_};
+ghost use Rattle.spec.specs.Words.{AllBytes};
 ghost use Rattle.spec.specs.Builtin.{builtin};
-ghost use Rattle.spec.specs.Load.{storesOf, laidOver};
+ghost use Rattle.spec.specs.Load.{storesOf, laidOver, Small};
 ghost use Rattle.spec.specs.Write.{writeParse, writeModule, standing as standingOf};
 ghost use Rattle.records.specs.Steps.{given};
 ghost use Rattle.loader.specs.Loading.{loading};
-ghost use Rattle.demands.proofs.Bounds.{Small};
 ghost use Rattle.kollafrin.specs.Answers.{version, loadAnswer, writeAnswer, standAnswer, laidIn};
 use spec::Loaded;
 use spec::Stands;
@@ -131,6 +131,7 @@ pub extern "C" fn kollafrin_load(
     ensures { λ _. ⌜ now (log .exit) ≡ laidOver (now (log .entry)) (storesOf (loading (now («module» .entry)) (now (grammar .entry)) (now (instructions .entry)) (now (log .entry)) (now (strings .entry)) (now (types .entry))) .log) ⌝ }
     ensures { λ _. ⌜ now (strings .exit) ≡ laidOver (now (strings .entry)) (storesOf (loading (now («module» .entry)) (now (grammar .entry)) (now (instructions .entry)) (now (log .entry)) (now (strings .entry)) (now (types .entry))) .strings) ⌝ }
     ensures { λ _. ⌜ now (types .exit) ≡ laidOver (now (types .entry)) (storesOf (loading (now («module» .entry)) (now (grammar .entry)) (now (instructions .entry)) (now (log .entry)) (now (strings .entry)) (now (types .entry))) .types) ⌝ }
+    ensures { λ _. ⌜ AllBytes (now («module» .entry)) ⌝ }
 {
     let x = loader::load(module, grammar, instructions, log, strings, types);
     say_loaded(x, answer)
@@ -152,6 +153,7 @@ pub extern "C" fn kollafrin_load_builtin(
     ensures { λ _. ⌜ now (log .exit) ≡ laidOver (now (log .entry)) (storesOf (loading (now («module» .entry)) builtin (now (instructions .entry)) (now (log .entry)) (now (strings .entry)) (now (types .entry))) .log) ⌝ }
     ensures { λ _. ⌜ now (strings .exit) ≡ laidOver (now (strings .entry)) (storesOf (loading (now («module» .entry)) builtin (now (instructions .entry)) (now (log .entry)) (now (strings .entry)) (now (types .entry))) .strings) ⌝ }
     ensures { λ _. ⌜ now (types .exit) ≡ laidOver (now (types .entry)) (storesOf (loading (now («module» .entry)) builtin (now (instructions .entry)) (now (log .entry)) (now (strings .entry)) (now (types .entry))) .types) ⌝ }
+    ensures { λ _. ⌜ AllBytes (now («module» .entry)) ⌝ }
 {
     let x = loader::load_builtin(module, instructions, log, strings, types);
     say_loaded(x, answer)

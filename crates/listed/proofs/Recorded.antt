@@ -6,16 +6,17 @@ use native.Mathlib.Omega.{arith}
 use native.Mathlib.Nat.{zero-add}
 use borrow.Author.Tests.{lt-ltb, le-ltb}
 use lib.Dec.{ltb}
-use lib.ListN.{length, getD, drop, length-append}
+use lib.ListN.{length, drop, length-append}
 use lib.Seq.{sets-eq}
 use Rattle.spec.specs.declared.State.{State}
 use Rattle.spec.specs.declared.Counts.{Counts}
 use Rattle.spec.specs.declared.Loaded.{Loaded}
+use Rattle.spec.specs.Base.{ascii}
 use Rattle.spec.specs.Builtin.{builtin}
 use Rattle.spec.specs.Records.{Placed, presence, fieldsOf, fieldWords, fieldsAt, recordsFrom, operandsLog}
 use Rattle.spec.specs.Load.{Outcome, enough, roomOf, load, storesOf, laidOver}
 use Rattle.spec.specs.Listing.{numbersLine, moduleLine, recordLines, lastLine, outcomeText, listing}
-use Rattle.demands.proofs.Bytes.{AllBytes}
+use Rattle.spec.specs.Words.{AllBytes}
 use Rattle.demands.proofs.Stores.{records-length}
 use Rattle.demands.proofs.Starts.{Loads, unformed, overlong, headless, opens, load-is}
 use Rattle.demands.proofs.Kept.{Follow, last, leading}
@@ -52,11 +53,6 @@ load-short g room s by = of (load-is g room s)
         let r = module-read g room s b run in
         rw (kept-is g room s b o r) (follow-short (sure g room s b o r by .follow))
 
--- the elements of a slice of bytes are bytes
-bytes-all : (l : List ℕ) → ((i : ℕ) → getD l i 0 < 256) → AllBytes l
-bytes-all [] h = tt
-bytes-all (b ∷ l) h = (h 0, bytes-all l (λ i. h (suc i)))
-
 -- LINES
 
 -- an opcode below the presence bits
@@ -88,7 +84,7 @@ from-start {text = text} w = (w .ends ∙ zero-add (length text), w .is)
 
 -- a module that is too long
 pub listing-long : {a b : List ℕ} {r : ℕ} (s : List ℕ) → 4096 < length s
-    → Wrote a b 0 r (116 ∷ 111 ∷ 111 ∷ 32 ∷ 108 ∷ 111 ∷ 110 ∷ 103 ∷ 10 ∷ [])
+    → Wrote a b 0 r (ascii "too long\n")
     → (r ≡ length (listing s)) × (b ≡ laidOver a (listing s))
 unfolding listing
 listing-long s h w = from-start (rw (lt-ltb 4096 (length s) h) w)
@@ -108,7 +104,7 @@ module _ (s i l t u : List ℕ) (hi : length i ≡ 8152) (hl : length l ≡ 9171
 
     -- the listing, by the load's answer and its instruction records
     pub listing-is : {a b : List ℕ} {r : ℕ} (j : List ℕ) → j ≡ laidOver i (storesOf (loading s builtin i l t u) .instructions)
-        → ((k : ℕ) → getD s k 0 < 256) → length s ≤ 4096
+        → AllBytes s → length s ≤ 4096
         → Wrote a b 0 r (moduleLine (x .header) ++ linesOf 1 (x .counts .instructions) j ++ lastLine x)
         → (r ≡ length (listing s)) × (b ≡ laidOver a (listing s))
     unfolding listing outcomeText storesOf takenBy
@@ -122,7 +118,7 @@ module _ (s i l t u : List ℕ) (hi : length i ≡ 8152) (hl : length l ≡ 9171
         f ∙ ap (λ (y : Outcome). laidOver i (recordsFrom 0 (y .kept))) roomy ∙ laid-front i (recordsFrom 0 (o .kept)) fits in
         let lines : linesOf 1 (x .counts .instructions) j ≡ recordLines 1 (o .kept) =
         ap₂ (linesOf 1) count stored
-        ∙ lines-back 1 0 (o .kept) (drop (length (recordsFrom 0 (o .kept))) i) (load-short builtin (enough 1019) s (bytes-all s by)) in
+        ∙ lines-back 1 0 (o .kept) (drop (length (recordsFrom 0 (o .kept))) i) (load-short builtin (enough 1019) s by) in
         from-start (rw (le-ltb 4096 (length s) h, ← lines, ← said) w)
 
 -- a listing has at most 107,142 bytes

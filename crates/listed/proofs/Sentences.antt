@@ -15,8 +15,8 @@ use Rattle.spec.specs.declared.Loaded.{Loaded}
 use Rattle.spec.specs.Base.{if_then_else_, every}
 use Rattle.spec.specs.Words.{major, minor}
 use Rattle.spec.specs.Records.{Placed, recordSize, fieldsAt}
-use Rattle.spec.specs.Listing.{decimal, numbersLine, moduleLine, recordLines, lastLine}
-use Rattle.listed.specs.Lines.{Wrote, numberThen, versionLine, acceptedLine, refusedLine, recordLine, linesOf}
+use Rattle.spec.specs.Listing.{numbersLine, versionLine, moduleLine, recordLines, acceptedLine, refusedLine, lastLine}
+use Rattle.listed.specs.Lines.{Wrote, numberThen, recordLine, linesOf}
 use Rattle.listed.proofs.Writing.{Reach, reach, wrote-none, wrote-then, decimal-few}
 
 -- A LINE OF NUMBERS
@@ -31,7 +31,7 @@ pub line-more : {a b c : List ℕ} {i j k : ℕ} (v w : ℕ) (vs : List ℕ) →
     → Wrote b c j k (numbersLine (w ∷ vs))
     → Wrote a c i k (numbersLine (v ∷ w ∷ vs))
 unfolding numbersLine numberThen
-line-more v w vs p q = rw append-assoc at (wrote-then p q)
+line-more v w vs p q = wrote-then p q
 
 -- THE MODULE LINE
 
@@ -54,24 +54,6 @@ zero-all (a ∷ b ∷ c ∷ []) n = absurd (omega arith)
 zero-all (a ∷ b ∷ c ∷ d ∷ []) n = absurd (omega arith)
 zero-all (a ∷ b ∷ c ∷ d ∷ e ∷ f ∷ h) n = absurd (omega arith)
 
--- pieces, regrouped
-regroup : (s d e t n : List ℕ) (k : ℕ) → s ++ ((d ++ (k ∷ [])) ++ (e ++ (t ++ n))) ≡ ((s ++ d) ++ (k ∷ e)) ++ (t ++ n)
-regroup s d e t n k = simp append-assoc
-
--- the module line of a version and a bound
-pub version-is : {a b c d e f : List ℕ} {i j k l m n : ℕ} (version bound : ℕ)
-    → Wrote a b i j (109 ∷ 111 ∷ 100 ∷ 117 ∷ 108 ∷ 101 ∷ 32 ∷ [])
-    → Wrote b c j k (numberThen (major version) 46)
-    → Wrote c d k l (decimal (minor version))
-    → Wrote d e l m (32 ∷ 98 ∷ 111 ∷ 117 ∷ 110 ∷ 100 ∷ 32 ∷ [])
-    → Wrote e f m n (numberThen bound 10)
-    → Wrote a f i n (versionLine version bound)
-unfolding versionLine numberThen numbersLine
-version-is version bound p q r s t =
-    rw (regroup (109 ∷ 111 ∷ 100 ∷ 117 ∷ 108 ∷ 101 ∷ 32 ∷ []) (decimal (major version)) (decimal (minor version))
-    (32 ∷ 98 ∷ 111 ∷ 117 ∷ 110 ∷ 100 ∷ 32 ∷ []) (decimal bound ++ (10 ∷ [])) 46)
-    at (wrote-then p (wrote-then q (wrote-then r (wrote-then s t))))
-
 -- no line where the header words are 0
 pub module-none : (l h : List ℕ) (at : ℕ) → every (λ w. eqb w 0) h ≡ true → Wrote l l at at (moduleLine h)
 unfolding moduleLine
@@ -81,7 +63,7 @@ module-none l h at e = rw e (wrote-none l at)
 pub module-some : {a b : List ℕ} {i j : ℕ} (h : List ℕ) → every (λ w. eqb w 0) h ≡ false
     → Wrote a b i j (versionLine (getD h 1 0) (getD h 3 0))
     → Wrote a b i j (moduleLine h)
-unfolding moduleLine versionLine
+unfolding moduleLine
 module-some h e w = rw e w
 
 -- at most 76 bytes
@@ -97,7 +79,7 @@ few-both false n r s g h = h
 
 -- the module line too
 pub module-few : (h : List ℕ) → length (moduleLine h) ≤ 76
-unfolding moduleLine versionLine
+unfolding moduleLine
 module-few h = few-both (every (λ w. eqb w 0) h) 76 [] _ (omega arith) (version-few (getD h 1 0) (getD h 3 0))
 
 -- so it reaches at most 76 bytes on
@@ -210,7 +192,7 @@ record-lines-few index (p ∷ ps) =
 
 -- at most 71 bytes
 pub last-few : (x : Loaded) → length (lastLine x) ≤ 71
-unfolding lastLine numbersLine
+unfolding lastLine acceptedLine refusedLine numbersLine
 last-few x =
     few-both (eqb (x .number) 0) 71 _ _ (simp length-append (omega (arith, decimal-few (x .counts .instructions))))
     (simp length-append (omega (arith, decimal-few (x .number), decimal-few (x .offset), decimal-few (x .index))))
@@ -218,12 +200,12 @@ last-few x =
 -- a load that is accepted
 pub last-accepted : {a b : List ℕ} {i j : ℕ} (x : Loaded) → x .number ≡ 0 → Wrote a b i j (acceptedLine (x .counts .instructions))
     → Wrote a b i j (lastLine x)
-unfolding lastLine acceptedLine
+unfolding lastLine
 last-accepted x e w = rw (eq-eqb (x .number) 0 e) w
 
 -- a load that is refused
 pub last-refused : {a b : List ℕ} {i j : ℕ} (x : Loaded) → (x .number ≡ 0 → ⊥)
     → Wrote a b i j (refusedLine (x .number) (x .offset) (x .index))
     → Wrote a b i j (lastLine x)
-unfolding lastLine refusedLine
+unfolding lastLine
 last-refused x e w = rw (ne-eqb (x .number) 0 e) w

@@ -5,7 +5,6 @@ use mathlib.Core.List.{List, [], _∷_, _++_}
 use lib.ListN.{length, drop}
 use lib.Seq.{sets}
 use Rattle.spec.specs.declared.Fields.{Fields}
-use Rattle.spec.specs.Words.{major, minor}
 use Rattle.spec.specs.Records.{recordSize, fieldsAt}
 use Rattle.spec.specs.Listing.{decimal, numbersLine}
 
@@ -17,22 +16,6 @@ pub record Wrote (before after : List ℕ) (at end : ℕ) (text : List ℕ) : Ty
 -- a number in decimal, and a byte
 unfoldable pub numberThen : ℕ → ℕ → List ℕ
 numberThen v b = decimal v ++ (b ∷ [])
-
--- "module M.m bound B" of a version and a bound
-unfoldable pub versionLine : ℕ → ℕ → List ℕ
-versionLine version bound =
-    109 ∷ 111 ∷ 100 ∷ 117 ∷ 108 ∷ 101 ∷ 32
-    ∷ decimal (major version) ++ (46 ∷ decimal (minor version))
-    ++ (32 ∷ 98 ∷ 111 ∷ 117 ∷ 110 ∷ 100 ∷ 32 ∷ numbersLine (bound ∷ []))
-
--- "accepted N"
-unfoldable pub acceptedLine : ℕ → List ℕ
-acceptedLine n = 97 ∷ 99 ∷ 99 ∷ 101 ∷ 112 ∷ 116 ∷ 101 ∷ 100 ∷ 32 ∷ numbersLine (n ∷ [])
-
--- "`refused`, number, offset, index"
-unfoldable pub refusedLine : ℕ → ℕ → ℕ → List ℕ
-refusedLine n offset index =
-    114 ∷ 101 ∷ 102 ∷ 117 ∷ 115 ∷ 101 ∷ 100 ∷ 32 ∷ numbersLine (n ∷ offset ∷ index ∷ [])
 
 -- "index, offset, tag, opcode, words" of a record's fields
 unfoldable pub recordLine : ℕ → Fields → List ℕ

@@ -7,9 +7,9 @@ ghost use lib.Dec.{eqb};
 ghost use Rattle.spec.specs.Base.{every};
 ghost use Rattle.spec.specs.Records.{recordSize};
 ghost use Rattle.spec.specs.Load.{laidOver};
-ghost use Rattle.spec.specs.Listing.{digitsFrom, moduleLine, lastLine};
+ghost use Rattle.spec.specs.Listing.{digitsFrom, versionLine, moduleLine, acceptedLine, refusedLine, lastLine};
 ghost use Rattle.spec.specs.Listing.{decimal as decimalOf, listing as listingOf};
-ghost use Rattle.listed.specs.Lines.{Wrote, numberThen, versionLine, acceptedLine, refusedLine, recordLine, linesOf};
+ghost use Rattle.listed.specs.Lines.{Wrote, numberThen, recordLine, linesOf};
 use spec::Fields;
 use spec::Loaded;
 

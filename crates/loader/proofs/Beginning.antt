@@ -10,11 +10,13 @@ use Rattle.spec.specs.declared.HeaderRead.{HeaderRead}
 use Rattle.spec.specs.declared.Counts.{Counts}
 use Rattle.spec.specs.declared.Loaded.{Loaded}
 use Rattle.spec.specs.Records.{recordsFrom, logFrom, stringStore}
+use Rattle.spec.specs.Words.{AllBytes}
 use Rattle.spec.specs.Reader.{readerAt}
 use Rattle.spec.specs.Header.{headerFrom}
 use Rattle.spec.specs.Grammar.{Grammar, grammarOf, wellFormed}
 use Rattle.spec.specs.Builtin.{builtin, builtin-well-formed}
 use Rattle.spec.specs.Load.{roomOf, emptyBook, Outcome, nothing, afterHeader, loadFrom, loadWith, load, storesOf, laidOver}
+use Rattle.demands.proofs.Bytes.{SliceOfBytes, slice-bytes}
 use Rattle.demands.proofs.Starts.{header-is}
 use Rattle.grammar.specs.Index.{Indexed}
 use Rattle.loader.specs.Loading.{loading}
@@ -61,29 +63,30 @@ module _ (g : Grammar) (room : Counts) (s : List ℕ) where
 
 -- THE GRAMMAR
 
--- what a load leaves, as the contract of a load says it: the answer, and each store
-abbrev pub Says : Outcome → List ℕ → List ℕ → List ℕ → List ℕ → List ℕ → List ℕ → List ℕ → List ℕ → Loaded → Type 0
-Says x i l w t i₁ l₁ w₁ t₁ a =
+-- what a load of a module leaves, as the contract of a load says it: the answer, and each store; and that the module is bytes
+abbrev pub Says : List ℕ → Outcome → List ℕ → List ℕ → List ℕ → List ℕ → List ℕ → List ℕ → List ℕ → List ℕ → Loaded → Type 0
+Says s x i l w t i₁ l₁ w₁ t₁ a =
     (a ≡ x .said) × ((i₁ ≡ laidOver i (storesOf x .instructions)) × ((l₁ ≡ laidOver l (storesOf x .log))
-    × ((w₁ ≡ laidOver w (storesOf x .strings)) × (t₁ ≡ laidOver t (storesOf x .types)))))
+    × ((w₁ ≡ laidOver w (storesOf x .strings)) × ((t₁ ≡ laidOver t (storesOf x .types)) × AllBytes s))))
 
 -- it says so
-says : (x : Outcome) (i l w t i₁ l₁ w₁ t₁ : List ℕ) (a : Loaded) → Leaves x i l w t i₁ l₁ w₁ t₁ a → Says x i l w t i₁ l₁ w₁ t₁ a
-says x i l w t i₁ l₁ w₁ t₁ a k = (k .said, (k .instructions-are, (k .log-is, (k .strings-are, k .types-are))))
+says : (s : List ℕ) → SliceOfBytes s → (x : Outcome) (i l w t i₁ l₁ w₁ t₁ : List ℕ) (a : Loaded)
+    → Leaves x i l w t i₁ l₁ w₁ t₁ a → Says s x i l w t i₁ l₁ w₁ t₁ a
+says s by x i l w t i₁ l₁ w₁ t₁ a k =
+    (k .said, (k .instructions-are, (k .log-is, (k .strings-are, (k .types-are, slice-bytes s by)))))
 
-module _ (g s i l w t : List ℕ) where
+module _ (g s i l w t : List ℕ) (by : SliceOfBytes s) where
   -- a grammar that is not well-formed
-  pub load-unformed : wellFormed g ≡ false → (a : Loaded) → a ≡ nothing 24 0 .said → Says (loading s g i l w t) i l w t i l w t a
+  pub load-unformed : wellFormed g ≡ false → (a : Loaded) → a ≡ nothing 24 0 .said → Says s (loading s g i l w t) i l w t i l w t a
   unfolding loading load
-  load-unformed e a q = says _ i l w t i l w t a (leaves-nothing _ i l w t a 24 0 (rw e) q)
+  load-unformed e a q = says s by _ i l w t i l w t a (leaves-nothing _ i l w t a 24 0 (rw e) q)
 
   -- one that is
   pub load-formed : wellFormed g ≡ true → (i₁ l₁ w₁ t₁ : List ℕ) (a : Loaded)
       → Leaves (loadWith (grammarOf g) (roomOf (length i) (length l) (length w) (length t)) s) i l w t i₁ l₁ w₁ t₁ a
-      → Says (loading s g i l w t) i l w t i₁ l₁ w₁ t₁ a
+      → Says s (loading s g i l w t) i l w t i₁ l₁ w₁ t₁ a
   unfolding loading load
-  load-formed e i₁ l₁ w₁ t₁ a k =
-      says _ i l w t i₁ l₁ w₁ t₁ a (rw e k)
+  load-formed e i₁ l₁ w₁ t₁ a k = says s by _ i l w t i₁ l₁ w₁ t₁ a (rw e k)
 
 -- THE BUILT-IN GRAMMAR
 
@@ -92,9 +95,9 @@ pub builtin-indexed : (g index : List ℕ) → g ≡ builtin → Indexed builtin
 builtin-indexed g index e h = rw e h
 
 -- it is well-formed, so nothing is checked
-pub load-prepared : (g s i l w t : List ℕ) → g ≡ builtin → (i₁ l₁ w₁ t₁ : List ℕ) (a : Loaded)
+pub load-prepared : (g s i l w t : List ℕ) → SliceOfBytes s → g ≡ builtin → (i₁ l₁ w₁ t₁ : List ℕ) (a : Loaded)
     → Leaves (loadWith (grammarOf g) (roomOf (length i) (length l) (length w) (length t)) s) i l w t i₁ l₁ w₁ t₁ a
-    → Says (loading s builtin i l w t) i l w t i₁ l₁ w₁ t₁ a
-load-prepared g s i l w t e i₁ l₁ w₁ t₁ a k =
-    load-formed builtin s i l w t builtin-well-formed i₁ l₁ w₁ t₁ a
+    → Says s (loading s builtin i l w t) i l w t i₁ l₁ w₁ t₁ a
+load-prepared g s i l w t by e i₁ l₁ w₁ t₁ a k =
+    load-formed builtin s i l w t by builtin-well-formed i₁ l₁ w₁ t₁ a
     (subst (λ (x : List ℕ). Leaves (loadWith (grammarOf x) (roomOf (length i) (length l) (length w) (length t)) s) i l w t i₁ l₁ w₁ t₁ a) e k)

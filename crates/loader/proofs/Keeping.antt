@@ -14,9 +14,9 @@ use Rattle.spec.specs.declared.Counts.{Counts}
 use Rattle.spec.specs.Records.{Instr, Entry, fieldWords, operandsLog, operandsStrings}
 use Rattle.spec.specs.Reader.{Reader, Read, got, refused, readerAt}
 use Rattle.spec.specs.Grammar.{grammarOf}
-use Rattle.spec.specs.Load.{counts, roomOf, roomFault}
+use Rattle.spec.specs.Load.{counts, roomOf, roomFault, Covers}
 use Rattle.spec.specs.Match.{readInstr}
-use Rattle.demands.proofs.Room.{Covers, log-some, fits-covers}
+use Rattle.demands.proofs.Room.{log-some, fits-covers}
 use Rattle.demands.proofs.Formed.{well-formed-good}
 use Rattle.demands.proofs.Instructions.{Frames, instr-read}
 use Rattle.grammar.specs.Index.{Indexed}

@@ -21,7 +21,7 @@ use Rattle.spec.specs.Grammar.{Grammar, grammarOf}
 use Rattle.spec.specs.Layout.{endNumber}
 use Rattle.spec.specs.Types.{track}
 use Rattle.spec.specs.Match.{readInstr}
-use Rattle.spec.specs.Load.{roomOf, roomFault, Book, emptyBook, Outcome, stop, loadFrom, storesOf, laidOver}
+use Rattle.spec.specs.Load.{roomOf, roomFault, Book, emptyBook, Outcome, stop, loadFrom, storesOf, laidOver, roomed, onBook}
 use Rattle.demands.proofs.Lists.{has-leb}
 use Rattle.demands.proofs.Room.{fits-covers}
 use Rattle.demands.proofs.Stores.{operands-log-length, records-length, strings-more, log-more}
@@ -77,11 +77,8 @@ module _ (g : Grammar) (room : Counts) (h : List ℕ) (s : List ℕ) (ks : List 
       rw (word-left s (p .at) w, k .read, k .placed)
       (ap
       (λ (u : Counts).
-      if eqb (roomFault room u) 0
-      then loadFrom g room h n
-      (record { kept = ks ++ (placedAs (k .instr) (k .tag) ∷ []); types = track (k .instr) es; used = u; state = r .state })
-      (readerAt s (r .at) Unlimited)
-      else stop h (bookOf ks es p) (roomFault room u) (k .instr .offset) 0)
+      let b : Book = record { kept = ks ++ (placedAs (k .instr) (k .tag) ∷ []); types = track (k .instr) es; used = u; state = r .state } in
+      onBook h (bookOf ks es p) (roomed room (k .instr) b (readerAt s (r .at) Unlimited)) (loadFrom g room h n))
       used
       ∙ rw (k .fits))
 

@@ -1,5 +1,6 @@
 // Loading: a module's instructions into lent stores, each decoded, placed in the layout and given room, or the first fault.
 ghost use mathlib.Core.Path.{_≡_};
+ghost use Rattle.spec.specs.Words.{AllBytes};
 ghost use Rattle.spec.specs.Builtin.{builtin};
 ghost use Rattle.spec.specs.Load.{storesOf, laidOver};
 ghost use Rattle.loader.specs.Loading.{loading};
@@ -28,6 +29,7 @@ pub fn load(
     ensures { λ _. ⌜ now (log .exit) ≡ laidOver (now (log .entry)) (storesOf (loading (now («module» .entry)) (now (grammar .entry)) (now (instructions .entry)) (now (log .entry)) (now (strings .entry)) (now (types .entry))) .log) ⌝ }
     ensures { λ _. ⌜ now (strings .exit) ≡ laidOver (now (strings .entry)) (storesOf (loading (now («module» .entry)) (now (grammar .entry)) (now (instructions .entry)) (now (log .entry)) (now (strings .entry)) (now (types .entry))) .strings) ⌝ }
     ensures { λ _. ⌜ now (types .exit) ≡ laidOver (now (types .entry)) (storesOf (loading (now («module» .entry)) (now (grammar .entry)) (now (instructions .entry)) (now (log .entry)) (now (strings .entry)) (now (types .entry))) .types) ⌝ }
+    ensures { λ _. ⌜ AllBytes (now («module» .entry)) ⌝ }
 {
     if !grammar::well_formed(grammar) {
         return no_instruction(24, 0);
@@ -53,6 +55,7 @@ pub fn load_builtin(
     ensures { λ _. ⌜ now (log .exit) ≡ laidOver (now (log .entry)) (storesOf (loading (now («module» .entry)) builtin (now (instructions .entry)) (now (log .entry)) (now (strings .entry)) (now (types .entry))) .log) ⌝ }
     ensures { λ _. ⌜ now (strings .exit) ≡ laidOver (now (strings .entry)) (storesOf (loading (now («module» .entry)) builtin (now (instructions .entry)) (now (log .entry)) (now (strings .entry)) (now (types .entry))) .strings) ⌝ }
     ensures { λ _. ⌜ now (types .exit) ≡ laidOver (now (types .entry)) (storesOf (loading (now («module» .entry)) builtin (now (instructions .entry)) (now (log .entry)) (now (strings .entry)) (now (types .entry))) .types) ⌝ }
+    ensures { λ _. ⌜ AllBytes (now («module» .entry)) ⌝ }
 {
     let table = builtin::table();
     let index = builtin::prepared();

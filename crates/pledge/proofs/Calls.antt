@@ -1,26 +1,32 @@
--- Calls of the functions that load and write, as their callers see them.
-use Prim.Native.Nat.{ℕ, _*_}
+-- Calls of the functions that load and write, as their callers see them: those of the library, and those at the door, whose answers
+-- are words.
+use Prim.Native.Nat.{ℕ, _+_, _*_}
 use mathlib.Core.Path.{_≡_}
 use mathlib.Core.List.{List}
-use lib.ListN.{take}
+use lib.ListN.{getD, take, drop}
 use contract.Lifetimes.{Lfts}
 use denote.Ref.{now}
 use denote.Triple.Clauses.{Lasts, atExit}
 use borrow.Fn.Kinds.{PK, RK, Out, Dens, resT, endedOf}
 use Rattle.spec.specs.declared.Loaded.{Loaded}
 use Rattle.spec.specs.declared.Written.{Written}
-use Rattle.spec.specs.Load.{Outcome, load, Stores, storesOf}
+use Rattle.spec.specs.Words.{AllBytes}
+use Rattle.spec.specs.Records.{recordSize, entrySize}
+use Rattle.spec.specs.Load.{counts, Outcome, load, Stores, storesOf, roomIn, laidOn}
 use Rattle.spec.specs.Check.{Given}
 use Rattle.spec.specs.Write.{Writing}
 use Rattle.spec.specs.Builtin.{builtin}
 use Rattle.records.specs.Steps.{given as records-given}
-use Rattle.demands.proofs.Leaves.{roomIn, laidOn}
 use Rattle.round_trip.specs.Trip.{lent}
 use Rattle.loader.proofs.load as load-fn
 use Rattle.loader.proofs.load_builtin as load-builtin-fn
 use Rattle.assemble.proofs.write_parse_order as write-parse-fn
 use Rattle.assemble.proofs.write_module_order as write-module-fn
 use Rattle.round_trip.proofs.round_trip as round-trip-fn
+use Rattle.kollafrin.proofs.kollafrin_load as door-load-fn
+use Rattle.kollafrin.proofs.kollafrin_load_builtin as door-load-builtin-fn
+use Rattle.kollafrin.proofs.kollafrin_write_parse_order as door-write-parse-fn
+use Rattle.kollafrin.proofs.kollafrin_write_module_order as door-write-module-fn
 
 -- a call that returned: its arguments, its answer, and what is left in all that was lent to be changed, such as the contract tells
 -- a caller
@@ -49,13 +55,15 @@ outcome v = load (v .grammar) (roomIn (v .before)) (v .bytes)
 abbrev pub records : Load → Stores
 records v =
     let n = v .answer .counts in
-    lent (take (8 * n .instructions) (v .after .instructions)) (take (n .log) (v .after .log))
-    (take (n .strings) (v .after .strings)) (take (3 * n .types) (v .after .types))
+    lent (take (recordSize * n .instructions) (v .after .instructions)) (take (n .log) (v .after .log))
+    (take (n .strings) (v .after .strings)) (take (entrySize * n .types) (v .after .types))
 
--- it is as the definition says: the answer; and in each store the records of what is kept, laid over what was there
+-- it is as the definition says: the answer; and in each store the records of what is kept, laid over what was there. The module is
+-- bytes
 pub record Loads (v : Load) : Type 0 where
   pub said : v .answer ≡ outcome v .said
   pub stores : v .after ≡ laidOn (v .before) (storesOf (outcome v))
+  pub bytes : AllBytes (v .bytes)
 
 -- a call of `load`
 abbrev pub LoadCall : Type 0
@@ -88,6 +96,64 @@ load-builtin-seen c =
       answer = c .answer;
       after = lent (z .0) (z .1 .0) (z .1 .1 .0) (z .1 .1 .1 .0);
     }
+
+-- the answer that the sixteen words of a load at the door say
+abbrev pub loadedBy : List ℕ → Loaded
+loadedBy ws =
+    record {
+      number = getD ws 0 0;
+      offset = getD ws 1 0;
+      index = getD ws 2 0;
+      value = getD ws 3 0;
+      header = take 5 (drop 8 ws);
+      counts = counts (getD ws 4 0) (getD ws 5 0) (getD ws 6 0) (getD ws 7 0);
+    }
+
+-- a call of `kollafrin_load`
+abbrev pub DoorLoadCall : Type 0
+DoorLoadCall = Call door-load-fn.Kinds.ps door-load-fn.Kinds.r door-load-fn.Reads.Learnt
+
+abbrev pub door-load-seen : DoorLoadCall → Load
+door-load-seen c =
+    let a = c .given .1 .1 in
+    let z = c .left .1 .1 in
+    record {
+      grammar = now (c .given .1 .0);
+      bytes = now (c .given .0);
+      before = lent (now (a .0)) (now (a .1 .0)) (now (a .1 .1 .0)) (now (a .1 .1 .1 .0));
+      answer = loadedBy (z .1 .1 .1 .1 .0);
+      after = lent (z .0) (z .1 .0) (z .1 .1 .0) (z .1 .1 .1 .0);
+    }
+
+-- a call of `kollafrin_load_builtin`
+abbrev pub DoorLoadBuiltinCall : Type 0
+DoorLoadBuiltinCall = Call door-load-builtin-fn.Kinds.ps door-load-builtin-fn.Kinds.r door-load-builtin-fn.Reads.Learnt
+
+abbrev pub door-load-builtin-seen : DoorLoadBuiltinCall → Load
+door-load-builtin-seen c =
+    let a = c .given .1 in
+    let z = c .left .1 in
+    record {
+      grammar = builtin;
+      bytes = now (c .given .0);
+      before = lent (now (a .0)) (now (a .1 .0)) (now (a .1 .1 .0)) (now (a .1 .1 .1 .0));
+      answer = loadedBy (z .1 .1 .1 .1 .0);
+      after = lent (z .0) (z .1 .0) (z .1 .1 .0) (z .1 .1 .1 .0);
+    }
+
+-- a call of any of the four
+pub data Loading : Type 0 where
+  by-load : LoadCall → Loading
+  by-load-builtin : LoadBuiltinCall → Loading
+  by-door : DoorLoadCall → Loading
+  by-door-builtin : DoorLoadBuiltinCall → Loading
+
+-- the load that it is
+abbrev pub seen : Loading → Load
+seen (by-load c) = load-seen c
+seen (by-load-builtin c) = load-builtin-seen c
+seen (by-door c) = door-load-seen c
+seen (by-door-builtin c) = door-load-builtin-seen c
 
 -- WRITES
 
@@ -135,6 +201,66 @@ write-module-seen c =
       answer = c .answer;
       after = c .left .1 .1 .1 .1 .1 .1 .1 .0;
     }
+
+-- the answer that the four words of a writer at the door say
+abbrev pub writtenBy : List ℕ → Written
+writtenBy ws = record { number = getD ws 0 0; index = getD ws 1 0; bytes = getD ws 2 0 + 4294967296 * getD ws 3 0 }
+
+-- a call of `kollafrin_write_parse_order`
+abbrev pub DoorWriteParseCall : Type 0
+DoorWriteParseCall = Call door-write-parse-fn.Kinds.ps door-write-parse-fn.Kinds.r door-write-parse-fn.Reads.Learnt
+
+abbrev pub door-write-parse-seen : DoorWriteParseCall → Write
+door-write-parse-seen c =
+    let a = c .given .1 in
+    let n = a .1 .1 .1 in
+    let z = c .left .1 .1 .1 .1 .1 .1 .1 in
+    record {
+      header = now (c .given .0);
+      records = records-given (now (a .0)) (now (a .1 .0)) (now (a .1 .1 .0)) (n .0) (n .1 .0) (n .1 .1 .0);
+      before = now (n .1 .1 .1 .0);
+      answer = writtenBy (z .1 .0);
+      after = z .0;
+    }
+
+-- a call of `kollafrin_write_module_order`
+abbrev pub DoorWriteModuleCall : Type 0
+DoorWriteModuleCall = Call door-write-module-fn.Kinds.ps door-write-module-fn.Kinds.r door-write-module-fn.Reads.Learnt
+
+abbrev pub door-write-module-seen : DoorWriteModuleCall → Write
+door-write-module-seen c =
+    let a = c .given .1 in
+    let n = a .1 .1 .1 in
+    let z = c .left .1 .1 .1 .1 .1 .1 .1 in
+    record {
+      header = now (c .given .0);
+      records = records-given (now (a .0)) (now (a .1 .0)) (now (a .1 .1 .0)) (n .0) (n .1 .0) (n .1 .1 .0);
+      before = now (n .1 .1 .1 .0);
+      answer = writtenBy (z .1 .0);
+      after = z .0;
+    }
+
+-- a call of either that writes in the order read
+pub data ParseWriting : Type 0 where
+  by-write-parse : WriteParseCall → ParseWriting
+  by-door-parse : DoorWriteParseCall → ParseWriting
+
+-- the write that it is
+abbrev pub parse-seen : ParseWriting → Write
+parse-seen (by-write-parse c) = write-parse-seen c
+parse-seen (by-door-parse c) = door-write-parse-seen c
+
+-- a call of either that writes in module order
+pub data ModuleWriting : Type 0 where
+  by-write-module : WriteModuleCall → ModuleWriting
+  by-door-module : DoorWriteModuleCall → ModuleWriting
+
+-- the write that it is
+abbrev pub module-seen : ModuleWriting → Write
+module-seen (by-write-module c) = write-module-seen c
+module-seen (by-door-module c) = door-write-module-seen c
+
+-- THE ROUND TRIP
 
 -- a call of `round_trip`
 abbrev pub RoundTripCall : Type 0

@@ -1,21 +1,63 @@
 -- What follows from what the contracts of loading and writing tell.
-use Prim.Native.Nat.{ℕ, _*_}
+use Prim.Native.Nat.{ℕ, _+_, _*_, _/_, _%_}
 use mathlib.Core.Path.{_≡_, refl, ap, _∙_}
-use mathlib.Core.List.{List}
+use mathlib.Core.List.{List, [], _∷_}
+use native.Mathlib.Omega.{arith}
 use lib.Dec.{ltb}
-use lib.ListN.{length}
+use lib.ListN.{length, getD}
 use lib.Seq.{take-at}
+use Rattle.spec.specs.declared.Counts.{Counts}
 use Rattle.spec.specs.declared.Loaded.{Loaded}
+use Rattle.spec.specs.declared.Written.{Written}
 use Rattle.spec.specs.Base.{joined}
-use Rattle.spec.specs.Records.{Placed, entryWords, recordsFrom, logFrom, stringStore}
-use Rattle.spec.specs.Load.{Outcome, storesOf}
+use Rattle.spec.specs.Records.{Placed, recordSize, recordsFrom, logFrom, stringStore, entrySize, entryWords}
+use Rattle.spec.specs.Load.{Outcome, load, storesOf, roomIn}
 use Rattle.spec.specs.Check.{Checked, bad, good}
 use Rattle.spec.specs.Write.{writeBy}
 use Rattle.demands.proofs.Choice.{cases}
+use Rattle.demands.proofs.Starts.{header-five, load-is}
 use Rattle.demands.proofs.Stores.{records-length, entries-length}
 use Rattle.demands.proofs.KeptSays.{takenBy, load-says}
-use Rattle.demands.proofs.Leaves.{roomIn, Leaves, load-leaves}
-use Rattle.pledge.proofs.Calls.{Load, outcome, records, Loads}
+use Rattle.demands.proofs.Leaves.{Leaves, load-leaves}
+use Rattle.kollafrin.specs.Answers.{loadAnswer, writeAnswer}
+use Rattle.pledge.proofs.Calls.{Load, outcome, records, Loads, loadedBy, writtenBy}
+
+-- THE ANSWERS AT THE DOOR
+
+-- five words are what stands at their places
+five-words : (h : List ℕ) → length h ≡ 5 → getD h 0 0 ∷ getD h 1 0 ∷ getD h 2 0 ∷ getD h 3 0 ∷ getD h 4 0 ∷ [] ≡ h
+five-words (a ∷ b ∷ c ∷ d ∷ e ∷ []) n = refl
+five-words [] n = absurd (omega arith)
+five-words (a ∷ []) n = absurd (omega arith)
+five-words (a ∷ b ∷ []) n = absurd (omega arith)
+five-words (a ∷ b ∷ c ∷ []) n = absurd (omega arith)
+five-words (a ∷ b ∷ c ∷ d ∷ []) n = absurd (omega arith)
+five-words (a ∷ b ∷ c ∷ d ∷ e ∷ f ∷ h) n = absurd (omega arith)
+
+-- the words of a load's answer say it
+pub loaded-by : (g : List ℕ) (room : Counts) (s ws : List ℕ)
+    → let x = load g room s .said in ws ≡ loadAnswer x → loadedBy ws ≡ x
+unfolding loadAnswer
+loaded-by g room s ws e =
+    let x : Loaded = load g room s .said in
+    ap loadedBy e
+    ∙ ap (λ (h : List ℕ). record {
+      number = x .number;
+      offset = x .offset;
+      index = x .index;
+      value = x .value;
+      header = h;
+      counts = x .counts;
+    }) (five-words (x .header) (header-five (load-is g room s)))
+
+-- the words of a writer's answer say it
+pub written-by : (x : Written) (ws : List ℕ) → ws ≡ writeAnswer x → writtenBy ws ≡ x
+unfolding writeAnswer
+written-by x ws e =
+    let whole : x .bytes % 4294967296 + 4294967296 * (x .bytes / 4294967296) ≡ x .bytes = omega arith in
+    ap writtenBy e ∙ ap (λ (n : ℕ). record { number = x .number; index = x .index; bytes = n }) whole
+
+-- WHAT FOLLOWS
 
 -- a write that is refused leaves the output as it was
 pub refused-by : (c : Checked) (f : List Placed → List ℕ) (out : List ℕ) → (writeBy c f out .said .number ≡ 0 → ⊥)
@@ -42,8 +84,8 @@ module _ (v : Load) (l : Loads v) where
         leaves-so .log,
         leaves-so .strings,
         leaves-so .types,
-        take-at (recordsFrom 0 (x .kept)) _ (8 * length (x .kept)) (records-length 0 (x .kept)),
+        take-at (recordsFrom 0 (x .kept)) _ (recordSize * length (x .kept)) (records-length 0 (x .kept)),
         take-at (logFrom 0 (x .kept)) _ (length (logFrom 0 (x .kept))) refl,
         take-at (stringStore (x .kept)) _ (length (stringStore (x .kept))) refl,
-        take-at (joined entryWords (x .types)) _ (3 * length (x .types)) (entries-length (x .types)),
+        take-at (joined entryWords (x .types)) _ (entrySize * length (x .types)) (entries-length (x .types)),
       )

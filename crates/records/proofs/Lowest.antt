@@ -15,7 +15,8 @@ use Rattle.spec.specs.declared.Cell.the-variants.{Tagged, Refuses}
 use Rattle.spec.specs.declared.Fields.{Fields}
 use Rattle.spec.specs.Base.{if_then_else_, implies}
 use Rattle.spec.specs.Layout.{layoutOf, endNumber}
-use Rattle.spec.specs.Check.{lower, fieldsGood, fieldsFault, Left, Taken, short, taken, takeOperands, placedOf, wordsGood, Scan, endScan, addScan, onTaken, scanFrom, onTag, tagsFault}
+use Rattle.spec.specs.Records.{Placed}
+use Rattle.spec.specs.Check.{lower, fieldsGood, fieldsFault, Left, takeRecord, Scan, onRecord, scanFrom, onTag, tagsFault}
 use Rattle.records.specs.Steps.{missingFrom}
 
 -- no fault, or one at an index or later
@@ -112,26 +113,20 @@ fields-late i at (f ∷ fs) =
     late-if i (fieldsGood at f) (fieldsFault (suc i) (at + 4 * f .words) fs) (some i)
     (earlier i (fieldsFault (suc i) (at + 4 * f .words) fs) (fields-late (suc i) (at + 4 * f .words) fs)) (omega arith)
 
--- the scans
-late-scan : (i : ℕ) (t : Bool) (x y : Scan) → AtLeast i (x .fault) → AtLeast i (y .fault) → AtLeast i ((if t then x else y) .fault)
-late-scan i true x y h g = h
-late-scan i false x y h g = g
-
--- after the operands of a record
-late-taken : (i : ℕ) (f : Fields) (y : Taken) (more : Left → Scan) → ((m : Left) → AtLeast i (more m .fault)) → AtLeast i (onTaken i f y more .fault)
+-- after a record's operands
+late-record : (i : ℕ) (o : Option (Placed × Left)) (more : Left → Scan) → ((m : Left) → AtLeast i (more m .fault))
+    → AtLeast i (onRecord i o more .fault)
 unfolding AtLeast
-late-taken i f short more h = omega arith
-late-taken i f (taken os m) more h =
-    late-scan i (wordsGood (placedOf f os)) (addScan (placedOf f os) (more m)) (endScan (some i)) (h m) (omega arith)
+late-record i none more h = omega arith
+late-record i (some x) more h = h (x .1)
 
 -- log and strings
 pub scan-late : (lc sc i : ℕ) (l : Left) (fs : List Fields) → AtLeast i (scanFrom lc sc i l fs .fault)
 unfolding AtLeast scanFrom
 scan-late lc sc i l [] = late-if i (eqb (l .logAt) lc && eqb (l .stringsAt) sc) none (some i) tt (omega arith)
 scan-late lc sc i l (f ∷ fs) =
-    late-scan i (eqb (f .start) (l .logAt)) (onTaken i f (takeOperands (f .count) l) (λ m. scanFrom lc sc (suc i) m fs)) (endScan (some i))
-    (late-taken i f (takeOperands (f .count) l) (λ m. scanFrom lc sc (suc i) m fs) (λ m. earlier i (scanFrom lc sc (suc i) m fs .fault) (scan-late lc sc (suc i) m fs)))
-    (omega arith)
+    late-record i (takeRecord f l) (λ m. scanFrom lc sc (suc i) m fs)
+    (λ m. earlier i (scanFrom lc sc (suc i) m fs .fault) (scan-late lc sc (suc i) m fs))
 
 -- after the tag of a record
 late-tag : (i tag : ℕ) (c : Cell) (more : State → Option ℕ) → ((s : State) → AtLeast i (more s)) → AtLeast i (onTag i tag c more)

@@ -16,9 +16,9 @@ use Rattle.spec.specs.declared.Cell.{Cell}
 use Rattle.spec.specs.declared.Cell.the-variants.{Tagged, Refuses}
 use Rattle.spec.specs.declared.Fields.{Fields}
 use Rattle.spec.specs.Base.{if_then_else_}
-use Rattle.spec.specs.Records.{Operand, Placed, operandsSize, recordSize, fieldsAt}
+use Rattle.spec.specs.Records.{Placed, recordSize, fieldsAt}
 use Rattle.spec.specs.Layout.{layoutOf, endNumber}
-use Rattle.spec.specs.Check.{lower, recordsOf, missing, fieldsGood, fieldsFault, Left, Taken, short, taken, takeOperands, placedOf, wordsGood, Scan, endScan, addScan, onTaken, scanFrom, onTag, tagsFault, faultOf}
+use Rattle.spec.specs.Check.{lower, recordsOf, missing, fieldsGood, fieldsFault, Left, takeRecord, onRecord, scanFrom, onTag, tagsFault, faultOf}
 use Rattle.records.specs.declared.Checked.{Checked}
 use Rattle.records.specs.declared.Checked.the-variants.{Good, Bad}
 use Rattle.records.specs.declared.Offset.{Offset}
@@ -27,9 +27,9 @@ use Rattle.records.specs.declared.Passed.{Passed}
 use Rattle.records.specs.declared.Passed.the-variants.{Broken as NotPassed, Past}
 use Rattle.records.specs.declared.Tagging.{Tagging}
 use Rattle.records.specs.declared.Tagging.the-variants.{Broken as NoTag, Next as NextState}
-use Rattle.records.specs.Steps.{given, checkedIs, endAnswer, atMost, leftAt, offsetAfter, passedRecord, operandsAfter, tagBy, tagAfter, isOutside, missingFrom, faultsFrom, isFree}
+use Rattle.records.specs.Steps.{given, checkedIs, endAnswer, atMost, leftAt, offsetAfter, operandsAfter, tagBy, tagAfter, isOutside, missingFrom, faultsFrom, isFree}
 use Rattle.records.proofs.Fields.{take-most}
-use Rattle.records.proofs.Operands.{has-yes, has-no, Within, Reached, past-same, past-not, all-within}
+use Rattle.records.proofs.Operands.{has-yes, has-no, passes-none, record-passes}
 use Rattle.records.proofs.Lowest.{lowest-1, lowest-2, lowest-3, lowest-4, both-ends, missing-late, fields-late, scan-late, tags-late}
 
 -- THE RECORDS
@@ -98,65 +98,6 @@ unfolding tagBy
 tag-told i tag s more (Tagged t u) x e = tag-if i s more (eqb tag t) u x e
 tag-told i tag s more (Refuses n) x e = (λ g. let z : _≡_ {A = ℕ} 0 1 = cc in absurd (omega arith), λ g. refl)
 
--- operands
-module _ (log strings : List ℕ) (i a b a' b' w : ℕ) (more : Left → Scan) where
-  -- by the word count
-  scan-words : (g : Bool) (p : Placed) (os : List Operand) (m : Left) → Reached log strings a b os m
-      → Past a' b' w ≡ (if g then Past (m .logAt) (m .stringsAt) (operandsSize os) else NotPassed)
-      → (if g then addScan p (more m) else endScan (some i)) .fault ≡ more (leftAt log strings a' b') .fault
-  scan-words true p os m r e =
-      let q = past-same a' b' w (m .logAt) (m .stringsAt) (operandsSize os) e in
-      ap (λ (l : Left). more l .fault)
-      (r .left ∙ ap (λ (k : ℕ). leftAt log strings k (m .stringsAt)) (sym (q .0)) ∙ ap (leftAt log strings a') (sym (q .1)))
-  scan-words false p os m r e = past-not a' b' w e
-
-  -- by where they start and whether they are good
-  scan-by : (f : Fields) (t : Bool) (y : Taken) → Within log strings a b y → Past a' b' w ≡ (if t then passedRecord f y else NotPassed)
-      → (if t then onTaken i f y more else endScan (some i)) .fault ≡ more (leftAt log strings a' b') .fault
-  unfolding Within passedRecord
-  scan-by f true short r e = past-not a' b' w e
-  scan-by f true (taken os m) r e = scan-words (wordsGood (placedOf f os)) (placedOf f os) os m r e
-  scan-by f false y r e = past-not a' b' w e
-
--- a word count that is wrong
-words-bad : (i : ℕ) (g : Bool) (p : Placed) (x : Scan) (a b w : ℕ) → NotPassed ≡ (if g then Past a b w else NotPassed)
-    → (if g then addScan p x else endScan (some i)) .fault ≡ some i
-words-bad i true p x a b w e = past-not a b w (sym e)
-words-bad i false p x a b w e = refl
-
--- operands that are bad
-bad-by : (i : ℕ) (f : Fields) (more : Left → Scan) (t : Bool) (y : Taken) → NotPassed ≡ (if t then passedRecord f y else NotPassed)
-    → (if t then onTaken i f y more else endScan (some i)) .fault ≡ some i
-unfolding passedRecord
-bad-by i f more true short e = refl
-bad-by i f more true (taken os m) e =
-    words-bad i (wordsGood (placedOf f os)) (placedOf f os) (more m) (m .logAt) (m .stringsAt) (operandsSize os) e
-bad-by i f more false y e = refl
-
--- operands that were passed end in log and strings
-in-words : (log strings : List ℕ) (a b a' b' w : ℕ) (g : Bool) (os : List Operand) (m : Left) → Reached log strings a b os m
-    → Past a' b' w ≡ (if g then Past (m .logAt) (m .stringsAt) (operandsSize os) else NotPassed) → (a' ≤ length log) × (b' ≤ length strings)
-in-words log strings a b a' b' w true os m r e =
-    let q = past-same a' b' w (m .logAt) (m .stringsAt) (operandsSize os) e in
-    (omega (arith, q .0, r .inLog), omega (arith, q .1, r .inStrings))
-in-words log strings a b a' b' w false os m r e = past-not a' b' w e
-
--- by where they start and whether they are good
-in-by : (log strings : List ℕ) (a b a' b' w : ℕ) (f : Fields) (t : Bool) (y : Taken) → Within log strings a b y
-    → Past a' b' w ≡ (if t then passedRecord f y else NotPassed) → (a' ≤ length log) × (b' ≤ length strings)
-unfolding Within passedRecord
-in-by log strings a b a' b' w f true short r e = past-not a' b' w e
-in-by log strings a b a' b' w f true (taken os m) r e = in-words log strings a b a' b' w (wordsGood (placedOf f os)) os m r e
-in-by log strings a b a' b' w f false y r e = past-not a' b' w e
-
--- that is so of the operands of a record
-operands-in : (log strings : List ℕ) (a b : ℕ) (f : Fields) → a ≤ length log → b ≤ length strings
-    → (y : Passed) (a' b' w : ℕ) → y ≡ operandsAfter f (leftAt log strings a b) → y ≡ Past a' b' w → (a' ≤ length log) × (b' ≤ length strings)
-unfolding operandsAfter
-operands-in log strings a b f h g y a' b' w e q =
-    in-by log strings a b a' b' w f (eqb (f .start) (leftAt log strings a b .logAt)) (takeOperands (f .count) (leftAt log strings a b))
-    (all-within log strings (f .count) a b h g) (sym q ∙ e)
-
 -- THE PASS
 
 -- four folds that go on
@@ -184,7 +125,7 @@ module _ (whole : Bool) (log strings : List ℕ) (lc sc i at a b : ℕ) (s : Sta
   faults-operands x e g =
       lowest-3 i (missingFrom i (suc n) (f ∷ fs)) (fieldsFault i at (f ∷ fs)) (scanFrom lc sc i (leftAt log strings a b) (f ∷ fs) .fault) (tagsFault whole i s (f ∷ fs))
       (missing-late i (suc n) (f ∷ fs)) (fields-late i at (f ∷ fs)) (scan-late lc sc i (leftAt log strings a b) (f ∷ fs)) (tags-late whole i s (f ∷ fs))
-      (bad-by i f (λ m. scanFrom lc sc (suc i) m fs) (eqb (f .start) (leftAt log strings a b .logAt)) (takeOperands (f .count) (leftAt log strings a b)) (sym g ∙ e))
+      (ap (λ (o : Option (Placed × Left)). onRecord i o (λ m. scanFrom lc sc (suc i) m fs) .fault) (passes-none _ _ x e g))
 
   -- one whose tag is bad
   faults-tag : (x : Tagging) → x ≡ tagAfter s f → x ≡ NoTag
@@ -196,20 +137,18 @@ module _ (whole : Bool) (log strings : List ℕ) (lc sc i at a b : ℕ) (s : Sta
       (tag-told i (f .tag) s (λ t. tagsFault whole (suc i) t fs) (layoutOf (f .head % 65536) s) x e .1 g)
 
   -- one that is good in each fold
-  faults-next : a ≤ length log → b ≤ length strings
-      → (x : Offset) (at' : ℕ) → x ≡ offsetAfter at f → x ≡ NextOffset at'
-      → (y : Passed) (a' b' w : ℕ) → y ≡ operandsAfter f (leftAt log strings a b) → y ≡ Past a' b' w
+  faults-next : (x : Offset) (at' : ℕ) → x ≡ offsetAfter at f → x ≡ NextOffset at'
+      → (y : Placed) (a' b' : ℕ) → takeRecord f (leftAt log strings a b) ≡ some (y, leftAt log strings a' b')
       → (z : Tagging) (s' : State) → z ≡ tagAfter s f → z ≡ NextState s'
       → faultsFrom whole lc sc i (suc n) at (leftAt log strings a b) s (f ∷ fs)
       ≡ faultsFrom whole lc sc (suc i) n at' (leftAt log strings a' b') s' fs
-  unfolding faultsFrom offsetAfter fieldsFault operandsAfter scanFrom tagAfter tagsFault
-  faults-next hl hs x at' ex gx y a' b' w ey gy z s' ez gz =
+  unfolding faultsFrom offsetAfter fieldsFault scanFrom tagAfter tagsFault
+  faults-next x at' ex gx y a' b' ey z s' ez gz =
       lower-same (missingFrom i (suc n) (f ∷ fs)) (fieldsFault i at (f ∷ fs)) (scanFrom lc sc i (leftAt log strings a b) (f ∷ fs) .fault) (tagsFault whole i s (f ∷ fs))
       (missingFrom (suc i) n fs) (fieldsFault (suc i) at' fs) (scanFrom lc sc (suc i) (leftAt log strings a' b') fs .fault) (tagsFault whole (suc i) s' fs)
       (missing-next i n f fs)
       (offset-told i at' (at + 4 * f .words) fs (fieldsGood at f) x ex .0 gx)
-      (scan-by log strings i a b a' b' w (λ m. scanFrom lc sc (suc i) m fs) f (eqb (f .start) (leftAt log strings a b .logAt)) (takeOperands (f .count) (leftAt log strings a b))
-      (all-within log strings (f .count) a b hl hs) (sym gy ∙ ey))
+      (ap (λ (o : Option (Placed × Left)). onRecord i o (λ m. scanFrom lc sc (suc i) m fs) .fault) ey)
       (tag-told i (f .tag) s' (λ t. tagsFault whole (suc i) t fs) (layoutOf (f .head % 65536) s) z ez .0 gz)
 
 module _ (whole : Bool) (log strings : List ℕ) (lc sc i at a b : ℕ) (s : State) where
@@ -324,17 +263,17 @@ module _ {whole : Bool} {ws log strings : List ℕ} {count lc sc i at a b : ℕ}
         → Checking whole ws log strings count lc sc (i + 1) at' a' b' s'
     check-goes-on x at' ex gx y a' b' w ey gy z s' ez gz =
         let k : suc i ≡ i + 1 = omega arith in
-        let p = operands-in log strings a b f (r .inLog) (r .inStrings) y a' b' w ey gy in
+        let p = record-passes log strings a b f (r .inLog) (r .inStrings) y a' b' w ey gy in
         record {
           fault =
               r .fault ∙ first
               ∙ faults-next whole log strings lc sc (suc i) at a b s f (recordsOf (count - (i + 1)) (drop (recordSize * (i + 1)) ws)) (count - (i + 1))
-              (r .inLog) (r .inStrings) x at' ex gx y a' b' w ey gy z s' ez gz
+              x at' ex gx (p .value) a' b' (p .is) z s' ez gz
               ∙ ap (λ (n : ℕ). faultsFrom whole lc sc (suc n) (count - (i + 1)) at' (leftAt log strings a' b') s' (recordsOf (count - (i + 1)) (drop (recordSize * (i + 1)) ws))) k;
           within = omega arith;
           few = omega arith;
-          inLog = p .0;
-          inStrings = p .1;
+          inLog = p .inLog;
+          inStrings = p .inStrings;
         }
 
   -- all are passed: log, strings and state decide

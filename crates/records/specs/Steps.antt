@@ -11,9 +11,9 @@ use Rattle.spec.specs.declared.Cell.the-variants.{Tagged, Refuses}
 use Rattle.spec.specs.declared.Fields.{Fields}
 use Rattle.spec.specs.Base.{if_then_else_, implies, has, every}
 use Rattle.spec.specs.Text.{isUtf8, textWords}
-use Rattle.spec.specs.Records.{operandSize, operandsSize}
+use Rattle.spec.specs.Records.{Operand, operandSize, operandsSize}
 use Rattle.spec.specs.Layout.{layoutOf, endNumber}
-use Rattle.spec.specs.Check.{Given, lower, bitsIn, fieldsGood, fieldsFault, Left, Took, broken, took, Taken, short, taken, takeOperands, placedOf, wordsGood, scanFrom, tagsFault}
+use Rattle.spec.specs.Check.{Given, lower, bitsIn, fieldsGood, fieldsFault, Left, takeRecord, scanFrom, tagsFault}
 use Rattle.records.specs.declared.Checked.{Checked}
 use Rattle.records.specs.declared.Checked.the-variants.{Good, Bad}
 use Rattle.records.specs.declared.Offset.{Offset}
@@ -78,15 +78,18 @@ textGood strings b start n = eqb start b && has n (drop b strings) && isString (
 unfoldable pub textPassed : List ℕ → ℕ → ℕ → ℕ → ℕ → Passed
 textPassed strings a b start n = if textGood strings b start n then Past (a + 9) (b + n) (textWords n) else NotPassed
 
--- past an operand, and its words
-unfoldable pub passedOne : Took → Passed
-passedOne broken = NotPassed
-passedOne (took o l) = Past (l .logAt) (l .stringsAt) (operandSize o)
+-- past what was taken, with its words
+unfoldable pub passedBy : {A : Type 0} → (A → ℕ) → Option (A × Left) → Passed
+passedBy size none = NotPassed
+passedBy size (some x) = Past (x .1 .logAt) (x .1 .stringsAt) (size (x .0))
+
+-- past an operand
+unfoldable pub passedOne : Option (Operand × Left) → Passed
+passedOne x = passedBy operandSize x
 
 -- past some operands, with the words of those before them
-unfoldable pub passedAll : ℕ → Taken → Passed
-passedAll w short = NotPassed
-passedAll w (taken os l) = Past (l .logAt) (l .stringsAt) (w + operandsSize os)
+unfoldable pub passedAll : ℕ → Option (List Operand × Left) → Passed
+passedAll w x = passedBy (λ os. w + operandsSize os) x
 
 -- one word for what is there
 unfoldable pub wordIf : Bool → ℕ
@@ -97,15 +100,9 @@ wordIf false = 0
 unfoldable pub resultWords : Fields → ℕ
 resultWords f = wordIf (eqb (bitsIn f % 2) 1) + wordIf (leb 2 (bitsIn f))
 
--- past a record's operands, where its word count is right
-unfoldable pub passedRecord : Fields → Taken → Passed
-passedRecord f short = NotPassed
-passedRecord f (taken os l) =
-    if wordsGood (placedOf f os) then Past (l .logAt) (l .stringsAt) (operandsSize os) else NotPassed
-
--- past a record's operands, which start where the log goes on
+-- past a record's operands
 unfoldable pub operandsAfter : Fields → Left → Passed
-operandsAfter f l = if eqb (f .start) (l .logAt) then passedRecord f (takeOperands (f .count) l) else NotPassed
+operandsAfter f l = passedBy (λ p. operandsSize (p .instr .operands)) (takeRecord f l)
 
 -- 3. TAGS
 

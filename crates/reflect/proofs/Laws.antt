@@ -13,7 +13,7 @@ use Rattle.spec.specs.declared.State.{State}
 use Rattle.spec.specs.declared.State.the-variants.{Outside, Function, Block}
 use Rattle.spec.specs.declared.Cell.{Cell}
 use Rattle.spec.specs.declared.Cell.the-variants.{Tagged, Refuses}
-use Rattle.spec.specs.Layout.{opcodesByKind, opcodeKind, kindFrom, layoutAt, layoutOf}
+use Rattle.spec.specs.Layout.{Line, lines, opcodeKind, kindFrom, layoutAt, layoutOf}
 use Rattle.reflect.specs.Column.{columnOf, codeOf, lineOf, listed, layoutTable, kindTable}
 use Rattle.reflect.proofs.Arms.{NoneOf, pass, passed, clear, absent}
 
@@ -29,40 +29,44 @@ listed-at f d (suc n) a (suc i) h = listed-at f d n (suc a) i (omega arith) ∙ 
 pub kind-of : {x y : ℕ} → x ≡ y → opcodeKind y ≡ opcodeKind x
 kind-of e = sym (ap opcodeKind e)
 
+-- is each of some lines clear: none of its opcodes lies from a up to b, but for the keys
+abbrev pub allClear : List (List ℕ) → ℕ → ℕ → List Line → Bool
+allClear arms a b ls = every (λ l. clear arms a b (l .opcodes)) ls
+
 module _ (arms : List (List ℕ)) {a b x : ℕ} (none : NoneOf arms x) (low : a ≤ x) (high : x < b) where
   -- an opcode of a range whose opcodes, but for the keys, are all of one kind
   pub run-kind : {k : ℕ} → T (pass arms a b (λ y. eqb k (opcodeKind y))) → k ≡ opcodeKind x
   run-kind {k} t = eqb→eq k (opcodeKind x) (passed arms none low high (λ y. eqb k (opcodeKind y)) t)
 
-  -- an opcode that is in none of the lists is of the kind after them
-  past : (n : ℕ) (ls : List (List ℕ)) → T (every (clear arms a b) ls) → kindFrom x n ls ≡ n + length ls
+  -- an opcode that no line has is of the kind after them
+  past : (n : ℕ) (ls : List Line) → T (allClear arms a b ls) → kindFrom x n ls ≡ n + length ls
   unfolding kindFrom
   past n [] t = sym (add-zero n)
   past n (l ∷ ls) t =
-      let u = and-yes (clear arms a b l) (every (clear arms a b) ls) t in
-      rw (absent arms none low high l (u .0)) (past (suc n) ls (u .1) ∙ suc-add n (length ls) ∙ sym (add-suc n (length ls)))
+      let u = and-yes (clear arms a b (l .opcodes)) (allClear arms a b ls) t in
+      rw (absent arms none low high (l .opcodes) (u .0)) (past (suc n) ls (u .1) ∙ suc-add n (length ls) ∙ sym (add-suc n (length ls)))
 
-  -- "every other opcode is of kind 19"
-  pub other-kind : T (every (clear arms a b) opcodesByKind) → 19 ≡ opcodeKind x
+  -- kind 19 has "every opcode of no line above"
+  pub other-kind : T (allClear arms a b lines) → 19 ≡ opcodeKind x
   unfolding opcodeKind
-  other-kind t = sym (past 1 opcodesByKind t)
+  other-kind t = sym (past 1 lines t)
 
 -- of a number and one after it, either keeps the bounds
 either : (t : Bool) (n later most : ℕ) → suc n ≤ later → later ≤ most → (n ≤ (if t then n else later)) × ((if t then n else later) ≤ most)
 either true n later most h g = ((omega arith), (omega arith))
 either false n later most h g = ((omega arith), g)
 
--- a kind that is counted from n is n at least, and at most the one after the lists
-kind-counted : (x n : ℕ) (ls : List (List ℕ)) → (n ≤ kindFrom x n ls) × (kindFrom x n ls ≤ n + length ls)
+-- a kind that is counted from n is n at least, and at most the one after the lines
+kind-counted : (x n : ℕ) (ls : List Line) → (n ≤ kindFrom x n ls) × (kindFrom x n ls ≤ n + length ls)
 unfolding kindFrom
 kind-counted x n [] = ((omega arith), (omega arith))
 kind-counted x n (l ∷ ls) =
-    let c = kind-counted x (suc n) ls in either (isIn x l) n (kindFrom x (suc n) ls) (n + suc (length ls)) (c .0) (omega (arith, c .1))
+    let c = kind-counted x (suc n) ls in either (isIn x (l .opcodes)) n (kindFrom x (suc n) ls) (n + suc (length ls)) (c .0) (omega (arith, c .1))
 
 -- "the kind of an opcode, 1 to 19"
 pub kind-within : (opcode : ℕ) → (1 ≤ opcodeKind opcode) × (opcodeKind opcode ≤ 19)
 unfolding opcodeKind
-kind-within opcode = kind-counted opcode 1 opcodesByKind
+kind-within opcode = kind-counted opcode 1 lines
 
 -- so is what a call answers for it
 pub kind-given : (opcode kind : ℕ) → kind ≡ opcodeKind opcode → (1 ≤ kind) × (kind ≤ 19)

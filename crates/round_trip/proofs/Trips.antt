@@ -1,41 +1,30 @@
 -- What a round trip comes to.
-use Prim.Native.Nat.{ℕ, suc, _/_, _≤_, _<_}
-use mathlib.Core.Path.{_≡_, ap, ap₂, sym, _∙_}
+use Prim.Native.Nat.{ℕ, _≤_, _<_}
+use mathlib.Core.Path.{_≡_, ap, ap₂, sym, _∙_, subst}
 use mathlib.Core.Bool.{Bool, true, false, _&&_}
-use mathlib.Core.List.{List, [], _∷_}
+use mathlib.Core.List.{List}
 use native.Mathlib.Omega.{arith}
-use mir.Syntax.{w8}
-use mir.Val.{Fits}
 use borrow.Author.Tests.{eqb-true, eq-eqb, ltb-true, ltb-false, lt-ltb}
 use lib.Dec.{ltb, eqb}
-use lib.ListN.{length, take, getD}
+use lib.ListN.{length, take}
 use lib.Seq.{take-append-seam, length-take-le, length-sets}
 use Rattle.spec.specs.declared.Loaded.{Loaded}
 use Rattle.spec.specs.declared.Written.{Written}
 use Rattle.spec.specs.Records.{Placed}
-use Rattle.spec.specs.Load.{Outcome, load, Stores, storesOf, laidOver}
+use Rattle.spec.specs.Load.{Outcome, load, Stores, storesOf, laidOver, roomIn, laidOn}
 use Rattle.spec.specs.Plain.{plainBy, isPlain}
-use Rattle.spec.specs.Check.{Given, Checked, bad, good, check}
-use Rattle.spec.specs.Write.{parseBytes, Writing, unwritten, writeBy, writeParse}
+use Rattle.spec.specs.Check.{Given, Checked, bad, good, check, givenBy}
+use Rattle.spec.specs.Write.{parseBytes, Writing, unwritten, writeBy, writeParse, written, wrote}
+use Rattle.spec.specs.Words.{AllBytes}
 use Rattle.loader.specs.Loading.{loading}
 use Rattle.records.specs.Steps.{given}
-use Rattle.demands.proofs.Bytes.{AllBytes}
 use Rattle.demands.proofs.Choice.{left, right, both, cases}
 use Rattle.demands.proofs.Stores.{BeginWith}
-use Rattle.demands.proofs.Leaves.{roomIn, laidOn, load-leaves, leaves-begin}
-use Rattle.demands.proofs.ReadBack.{givenBy, reads-back}
-use Rattle.demands.proofs.Room.{load-roomy}
+use Rattle.demands.proofs.Leaves.{load-leaves, leaves-begin}
+use Rattle.demands.proofs.ReadBack.{reads-back}
 use Rattle.demands.proofs.Rooms.{Roomy, any-room}
-use Rattle.demands.proofs.WriteBack.{written, wrote}
 use Rattle.demands.proofs.Demand3.{ComesBack, comes-back, writes, plain-is-written}
 use Rattle.round_trip.specs.Trip.{lent, first, back, second, CameBack, Suited, RoundTrip}
-
--- BYTES
-
--- the elements of a slice of bytes
-all-bytes : (s : List ℕ) → ((i : ℕ) → Fits w8 (getD s i 0)) → AllBytes s
-all-bytes [] h = tt
-all-bytes (b ∷ s) h = (h 0 .fits, all-bytes s (λ i. h (suc i)))
 
 -- THE OUTPUT
 
@@ -125,8 +114,7 @@ module _ (g s : List ℕ) (by : AllBytes s) (t : Stores) (out : List ℕ) (u : S
   suited q =
       let long = comes-back g (roomIn t) s by (q .accepted) .long in
       let fits : length (written X) ≤ length out = omega (arith, long, q .output) in
-      let words : length (written X) / 4 ≡ length s / 4 = omega (arith, long) in
-      returned (q .accepted) fits (load-roomy g (roomIn u) (written X) (rw words (q .room)))
+      returned (q .accepted) fits (subst Roomy (second-fits fits) (q .room))
 
   -- and its three numbers are 0
   zeros : CameBack g s t out u
@@ -178,17 +166,17 @@ pub laid-each : (t v : Stores) {i' l' s' t' : List ℕ} → i' ≡ laidOver (t .
 unfolding laidOn
 laid-each t v p q r x = rw (p, q, r, x)
 
--- what a load tells of its answer and of four stores after it
+-- what a load tells of its answer and of four stores after it, and of the module
 abbrev LoadTells : (s g i l st ty : List ℕ) (a : Loaded) (i' l' st' ty' : List ℕ) → Type 0
 LoadTells s g i l st ty a i' l' st' ty' =
     (a ≡ loading s g i l st ty .said) × ((i' ≡ laidOver i (storesOf (loading s g i l st ty) .instructions))
     × ((l' ≡ laidOver l (storesOf (loading s g i l st ty) .log))
     × ((st' ≡ laidOver st (storesOf (loading s g i l st ty) .strings))
-    × (ty' ≡ laidOver ty (storesOf (loading s g i l st ty) .types)))))
+    × ((ty' ≡ laidOver ty (storesOf (loading s g i l st ty) .types)) × AllBytes s))))
 
 -- the three calls, and the test of their numbers
 pub trips : {g s i l st ty out j m r q i' l' st' ty' out' j' m' r' q' : List ℕ} {a b : Loaded} {w : Written} {yes : Bool}
-    → ((n : ℕ) → Fits w8 (getD s n 0)) → LoadTells s g i l st ty a i' l' st' ty'
+    → LoadTells s g i l st ty a i' l' st' ty'
     → let x : Writing =
     writeParse (a .header) (given i' l' st' (a .counts .instructions) (a .counts .log) (a .counts .strings)) out in
     (w ≡ x .said) × (out' ≡ x .output)
@@ -196,21 +184,21 @@ pub trips : {g s i l st ty out j m r q i' l' st' ty' out' j' m' r' q' : List ℕ
     → yes ≡ (eqb (a .number) 0 && eqb (w .number) 0 && eqb (b .number) 0)
     → RoundTrip g s (lent i l st ty) out (lent j m r q) yes (lent i' l' st' ty') out' (lent j' m' r' q')
 unfolding loading first back second givenBy roomIn
-trips {g} {s} {i} {l} {st} {ty} {out} {j} {m} {r} {q} {out' = out'} {b = b} {w = w} bytes p e f y =
+trips {g} {s} {i} {l} {st} {ty} {out} {j} {m} {r} {q} {out' = out'} {b = b} {w = w} p e f y =
     let t : Stores = lent i l st ty in
     let u : Stores = lent j m r q in
-    let loaded = laid-each t (storesOf (first g s t out u)) (p .1 .0) (p .1 .1 .0) (p .1 .1 .1 .0) (p .1 .1 .1 .1) in
+    let loaded = laid-each t (storesOf (first g s t out u)) (p .1 .0) (p .1 .1 .0) (p .1 .1 .1 .0) (p .1 .1 .1 .1 .0) in
     let x =
     ap₂ (λ (a : Loaded) (t' : Stores). writeParse (a .header) (givenBy t' (a .counts)) out) (p .0) loaded in
     let said = e .0 ∙ ap (λ (w : Writing). w .said) x in
     let output = e .1 ∙ ap (λ (w : Writing). w .output) x in
     let z =
     ap₂ (λ (n : ℕ) (o : List ℕ). load g (roomIn u) (take n o)) (ap (λ (w : Written). w .bytes) said) output in
-    closes g s (all-bytes s bytes) t out u
+    closes g s (p .1 .1 .1 .1 .1) t out u
     (y ∙ ap₂ (λ (a : Loaded) (w : Written). eqb (a .number) 0 && eqb (w .number) 0 && eqb (b .number) 0) (p .0) said
     ∙ ap (λ (n : ℕ). eqb (first g s t out u .said .number) 0 && eqb (back g s t out u .said .number) 0 && eqb n 0)
     (ap (λ (b : Loaded). b .number) (f .0) ∙ ap (λ (o : Outcome). o .said .number) z))
     loaded
     output
-    (laid-each u (storesOf (loading (take (w .bytes) out') g j m r q)) (f .1 .0) (f .1 .1 .0) (f .1 .1 .1 .0) (f .1 .1 .1 .1)
+    (laid-each u (storesOf (loading (take (w .bytes) out') g j m r q)) (f .1 .0) (f .1 .1 .0) (f .1 .1 .1 .0) (f .1 .1 .1 .1 .0)
     ∙ ap (λ (o : Outcome). laidOn u (storesOf o)) z)

@@ -1,16 +1,13 @@
 -- A round trip: a module is loaded, its records are written in the order read, and what was written is loaded into other stores.
-use Prim.Native.Nat.{ℕ, _-_, _*_, _/_, _≤_}
+use Prim.Native.Nat.{ℕ, _*_, _/_, _≤_}
 use mathlib.Core.Path.{_≡_}
-use mathlib.Core.Bool.{Bool, true}
+use mathlib.Core.Bool.{Bool, true, false}
 use mathlib.Core.List.{List}
 use lib.ListN.{length, take}
-use Rattle.spec.specs.Load.{enough, Outcome, load, Stores, storesOf}
+use Rattle.spec.specs.Load.{Outcome, lacksRoom, load, Stores, storesOf, roomIn, laidOn}
 use Rattle.spec.specs.Plain.{isPlain}
-use Rattle.spec.specs.Write.{Writing, writeParse}
-use Rattle.demands.proofs.Room.{Covers}
-use Rattle.demands.proofs.Leaves.{roomIn, laidOn}
-use Rattle.demands.proofs.ReadBack.{givenBy}
-use Rattle.demands.proofs.WriteBack.{written, wrote}
+use Rattle.spec.specs.Write.{Writing, writeParse, written, wrote}
+use Rattle.spec.specs.Check.{givenBy}
 
 -- stores that are lent
 abbrev pub lent : List ℕ → List ℕ → List ℕ → List ℕ → Stores
@@ -40,12 +37,12 @@ module _ (grammar s : List ℕ) (t : Stores) (out : List ℕ) (u : Stores) where
     pub same : second ≡ first
     pub stores : storesOf second ≡ storesOf first
 
-  -- what is asked for that: the module is accepted, its whole words fit the output, and the other stores have the room that always
-  -- suffices
+  -- what is asked for that: the module is accepted, its whole words fit the output, and the other stores have room, so that the
+  -- second load is not refused for room
   pub record Suited : Type 0 where
     pub accepted : first .said .number ≡ 0
     pub output : 4 * (length s / 4) ≤ length out
-    pub room : Covers (roomIn u) (enough (length s / 4 - 5))
+    pub room : lacksRoom (second .said) ≡ false
 
   -- what a round trip answers, and leaves in the stores, the output and the other stores: yes exactly when the module came back;
   -- and it comes back where that is suited

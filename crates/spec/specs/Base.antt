@@ -1,5 +1,7 @@
--- Choices, tests and lists: what the other definitions are written with.
+-- Choices, tests, lists and texts: what the other definitions are written with.
 use Prim.Native.Nat.{ℕ, zero, suc}
+use Prim.Native.Char.{code}
+use Prim.Native.String.{String, [] as []ˢ, _∷_ as _∷ˢ_}
 use mathlib.Core.Bool.{Bool, true, false, not, _&&_, _||_}
 use mathlib.Core.List.{List, [], _∷_, _++_}
 use mathlib.Core.Option.{Option, none, some}
@@ -35,6 +37,11 @@ abbrev pub orZero : Option ℕ → ℕ
 orZero none = 0
 orZero (some n) = n
 
+-- go on with what is there
+abbrev pub andThen : {A B : Type 0} → Option A → (A → Option B) → Option B
+andThen none f = none
+andThen (some a) f = f a
+
 -- each element's list, one after the other
 abbrev pub joined : {A B : Type 0} → (A → List B) → List A → List B
 joined f [] = []
@@ -49,3 +56,8 @@ every f (x ∷ xs) = f x && every f xs
 abbrev pub only : {A : Type 0} → (A → Bool) → List A → List A
 only f [] = []
 only f (x ∷ xs) = let more = only f xs in if f x then x ∷ more else more
+
+-- the bytes of a text of ASCII
+abbrev pub ascii : String → List ℕ
+ascii []ˢ = []
+ascii (c ∷ˢ s) = code c ∷ ascii s

@@ -1,5 +1,7 @@
--- Records given as stores: the instructions that they say, or the first record that breaks the store layout (refusal 30). Three folds
--- over the records, each with its own running state, name the first record that each finds bad; the lowest counts.
+-- Records given as stores: the instructions that they say, or the first record that breaks the store layout (refusal 30).
+--
+-- Three folds over the records, each with its own running state, name the first record that each finds bad. A record is bad when one
+-- of them finds it so, and each judges it by itself and the records before it: so the first bad record is the lowest that they name.
 use Prim.Native.Nat.{ℕ, zero, suc, _+_, _*_, _/_, _%_}
 use mathlib.Core.Bool.{Bool, true, false, not, _&&_, _||_}
 use mathlib.Core.List.{List, [], _∷_}
@@ -11,12 +13,14 @@ use Rattle.spec.specs.declared.State.the-variants.{Outside}
 use Rattle.spec.specs.declared.Cell.{Cell}
 use Rattle.spec.specs.declared.Cell.the-variants.{Tagged, Refuses}
 use Rattle.spec.specs.declared.Fields.{Fields}
-use Rattle.spec.specs.Base.{if_then_else_, implies, has, every}
+use Rattle.spec.specs.declared.Counts.{Counts}
+use Rattle.spec.specs.Base.{if_then_else_, implies, has, every, andThen as _>>=_}
 use Rattle.spec.specs.Words.{fourAt, long}
 use Rattle.spec.specs.Text.{isUtf8}
 use Rattle.spec.specs.Kinds.{isLogged, isLong, isText}
 use Rattle.spec.specs.Records.{Operand, narrow, wide, text, Placed, operandsSize, idSize, recordSize, fieldsAt}
 use Rattle.spec.specs.Layout.{layoutOf, endNumber}
+use Rattle.spec.specs.Load.{Stores}
 
 -- three stores and their counts: records, log bytes, string bytes
 pub record Given : Type 0 where
@@ -26,6 +30,18 @@ pub record Given : Type 0 where
   pub count : ℕ
   pub logCount : ℕ
   pub stringCount : ℕ
+
+-- stores and counts, as a load leaves and answers them
+unfoldable pub givenBy : Stores → Counts → Given
+givenBy t n =
+    record {
+      instructions = t .instructions;
+      log = t .log;
+      strings = t .strings;
+      count = n .instructions;
+      logCount = n .log;
+      stringCount = n .strings;
+    }
 
 -- the lower of two indices, where one is there
 abbrev pub lower : Option ℕ → Option ℕ → Option ℕ
@@ -81,50 +97,34 @@ abbrev pub past : ℕ → ℕ → Left → Left
 past n m l =
     record { logAt = l .logAt + n; log = drop n (l .log); stringsAt = l .stringsAt + m; strings = drop m (l .strings) }
 
--- an operand of the log and what is left, or none that is good
-pub data Took : Type 0 where
-  broken : Took
-  took : Operand → Left → Took
-
--- a string of so many bytes that starts there: it follows on, lies in the store, has no zero byte, is UTF-8
-abbrev pub takeText : ℕ → ℕ → Left → Took
+-- a string of so many bytes that starts there, and what is left, where it follows on, lies in the store, has no zero byte and is
+-- UTF-8
+abbrev pub takeText : ℕ → ℕ → Left → Option (Operand × Left)
 takeText start n l =
-    if eqb start (l .stringsAt) && has n (l .strings) && every (λ b. not (eqb b 0)) (take n (l .strings)) && isUtf8 (take n (l .strings))
-    then took (text (take n (l .strings))) (past 9 n l)
-    else broken
+    let s = take n (l .strings) in
+    if eqb start (l .stringsAt) && has n (l .strings) && every (λ b. not (eqb b 0)) s && isUtf8 s then some (text s, past 9 n l)
+    else none
 
 -- an operand of a kind, with its first number
-abbrev pub takeKind : ℕ → ℕ → Left → Took
+abbrev pub takeKind : ℕ → ℕ → Left → Option (Operand × Left)
 takeKind k v l =
-    if not (isLong k || isText k) then took (narrow k v) (past 5 0 l)
-    else if not (has 9 (l .log)) then broken
-    else if isLong k then took (wide k (long v (fourAt 5 (l .log)))) (past 9 0 l)
+    if not (isLong k || isText k) then some (narrow k v, past 5 0 l)
+    else if not (has 9 (l .log)) then none
+    else if isLong k then some (wide k (long v (fourAt 5 (l .log))), past 9 0 l)
     else takeText v (fourAt 5 (l .log)) l
 
--- the operand that the log begins with
-unfoldable pub takeOperand : Left → Took
+-- the operand that the log begins with, and what is left, where it is good
+unfoldable pub takeOperand : Left → Option (Operand × Left)
 takeOperand l =
-    if has 5 (l .log) && isLogged (getD (l .log) 0 0) then takeKind (getD (l .log) 0 0) (fourAt 1 (l .log)) l else broken
+    if has 5 (l .log) && isLogged (getD (l .log) 0 0) then takeKind (getD (l .log) 0 0) (fourAt 1 (l .log)) l else none
 
--- some operands and what is left, or not all of them good
-pub data Taken : Type 0 where
-  short : Taken
-  taken : List Operand → Left → Taken
-
--- one operand before others
-abbrev pub addTaken : Operand → Taken → Taken
-addTaken o short = short
-addTaken o (taken os l) = taken (o ∷ os) l
-
--- go on after an operand
-abbrev pub onTook : Took → (Operand → Left → Taken) → Taken
-onTook broken f = short
-onTook (took o l) f = f o l
-
--- so many operands
-unfoldable pub takeOperands : ℕ → Left → Taken
-takeOperands zero l = taken [] l
-takeOperands (suc n) l = onTook (takeOperand l) (λ o m. addTaken o (takeOperands n m))
+-- so many operands, and what is left, where all are good
+unfoldable pub takeOperands : ℕ → Left → Option (List Operand × Left)
+takeOperands zero l = some ([], l)
+takeOperands (suc n) l = do
+  x ← takeOperand l
+  xs ← takeOperands n (x .1)
+  some (x .0 ∷ xs .0, xs .1)
 
 -- a result field that is there
 abbrev pub fieldIn : Bool → ℕ → Option ℕ
@@ -153,34 +153,29 @@ wordsGood p =
     eqb (p .instr .words)
     (1 + idSize (p .instr .resultType) + idSize (p .instr .resultId) + operandsSize (p .instr .operands))
 
+-- the instruction that a record says, and what is left, where its operands start where the log goes on ("an instruction without
+-- operands starts at the log count so far"), are good, and its word count is right
+unfoldable pub takeRecord : Fields → Left → Option (Placed × Left)
+takeRecord f l = do
+  x ← takeOperands (f .count) l
+  if eqb (f .start) (l .logAt) && wordsGood (placedOf f (x .0)) then some (placedOf f (x .0), x .1) else none
+
 -- the instructions before the first record whose operands are bad, and its index
 pub record Scan : Type 0 where
   pub instrs : List Placed
   pub fault : Option ℕ
 
--- the end of a scan
-abbrev pub endScan : Option ℕ → Scan
-endScan x = record { instrs = []; fault = x }
+-- a record's instruction before those of the records after it, or the fault there
+abbrev pub onRecord : ℕ → Option (Placed × Left) → (Left → Scan) → Scan
+onRecord index none more = record { instrs = []; fault = some index }
+onRecord index (some x) more = let later = more (x .1) in record { instrs = x .0 ∷ later .instrs; fault = later .fault }
 
--- one instruction before others
-abbrev pub addScan : Placed → Scan → Scan
-addScan p x = record { instrs = p ∷ x .instrs; fault = x .fault }
-
--- a record's operands, and on to the next record
-abbrev pub onTaken : ℕ → Fields → Taken → (Left → Scan) → Scan
-onTaken index f short more = endScan (some index)
-onTaken index f (taken os l) more =
-    if wordsGood (placedOf f os) then addScan (placedOf f os) (more l) else endScan (some index)
-
--- the operands of records, the first of them at an index; all of both counts is taken in the end. "an instruction without operands
--- starts at the log count so far"
+-- the operands of records, the first of them at an index; all of both counts is taken in the end
 unfoldable pub scanFrom : ℕ → ℕ → ℕ → Left → List Fields → Scan
 scanFrom logCount stringCount index l [] =
-    endScan (if eqb (l .logAt) logCount && eqb (l .stringsAt) stringCount then none else some index)
+    record { instrs = []; fault = if eqb (l .logAt) logCount && eqb (l .stringsAt) stringCount then none else some index }
 scanFrom logCount stringCount index l (f ∷ fs) =
-    if eqb (f .start) (l .logAt)
-    then onTaken index f (takeOperands (f .count) l) (λ m. scanFrom logCount stringCount (suc index) m fs)
-    else endScan (some index)
+    onRecord index (takeRecord f l) (λ m. scanFrom logCount stringCount (suc index) m fs)
 
 -- 3. TAGS: "tags that the table cannot give, and in module order records that end inside a function"
 

@@ -6,7 +6,7 @@ use mathlib.Core.List.{List, [], _∷_, _++_}
 use lib.ListN.{length, take}
 use Rattle.spec.specs.declared.Counts.{Counts}
 use Rattle.spec.specs.declared.Loaded.{Loaded}
-use Rattle.spec.specs.Base.{if_then_else_, joined}
+use Rattle.spec.specs.Base.{if_then_else_, joined, ascii}
 use Rattle.spec.specs.Words
 use Rattle.spec.specs.Words.{bytesOf}
 use Rattle.spec.specs.Text
@@ -89,7 +89,7 @@ ab w plain =
     fitting (module-of (H ++ (0x00030007 ∷ 1 ∷ w ∷ [])))
     (record {
       said = answer 0 32 2 0 H (counts 1 9 2 0);
-      stores = stores (0x20007 ∷ 7 ∷ 20 ∷ 0 ∷ 1 ∷ 0 ∷ 1 ∷ 3 ∷ []) (40 ∷ bytesOf 0 ++ bytesOf 2) (97 ∷ 98 ∷ []) [];
+      stores = stores (0x20007 ∷ 7 ∷ 20 ∷ 0 ∷ 1 ∷ 0 ∷ 1 ∷ 3 ∷ []) (40 ∷ bytesOf 0 ++ bytesOf 2) (ascii "ab") [];
       plain = plain;
     })
 
@@ -155,14 +155,10 @@ fittings-hold = by-items fittings ∙ computed
 
 -- "Fitting 6 prints, as index, offset, tag, opcode, words", these lines
 unfoldable pub sixListed : List ℕ
-sixListed =
-    109 ∷ 111 ∷ 100 ∷ 117 ∷ 108 ∷ 101 ∷ 32 ∷ 49 ∷ 46 ∷ 48 ∷ 32 ∷ 98 ∷ 111 ∷ 117 ∷ 110 ∷ 100 ∷ 32 ∷ 48 ∷ 10  -- module 1.0 bound 0
-    ∷ 49 ∷ 32 ∷ 50 ∷ 48 ∷ 32 ∷ 52 ∷ 32 ∷ 49 ∷ 52 ∷ 32 ∷ 51 ∷ 10  -- 1 20 4 14 3
-    ∷ 97 ∷ 99 ∷ 99 ∷ 101 ∷ 112 ∷ 116 ∷ 101 ∷ 100 ∷ 32 ∷ 49 ∷ 10  -- accepted 1
-    ∷ []
+sixListed = ascii "module 1.0 bound 0\n1 20 4 14 3\naccepted 1\n"
 
 six-computed : outcomeText (loadWith (grammarBy table) (enough 1019) six) ≡ sixListed
-unfolding sixListed outcomeText Listing.digitsFrom Listing.decimal Listing.numbersLine Listing.moduleLine Listing.recordLines Listing.lastLine table bytesOf Words.frontOf Words.wordsOf Words.bitsFrom Words.bitsOf Reader.wordAt Header.headerFrom grammarBy Grammar.slotsOf Grammar.parametersOf Grammar.rowsOf Grammar.enumerantsOf Grammar.rowOf Grammar.listed Grammar.bitsListed Grammar.parametersFor Records.operandLog Records.operandString Records.operandsLog Records.operandsStrings Layout.kindFrom Layout.opcodeKind Layout.layoutAt Layout.layoutOf Types.entryOf Types.define Types.track Match.readEnumerant Match.readOne Match.readEach Match.readOperand Match.readKind Match.readSlot Match.readRow Match.allRead Match.readInstr enough Load.roomFault Load.loadFrom loadWith
+unfolding sixListed outcomeText Listing.digitsFrom Listing.decimal Listing.numbersLine Listing.versionLine Listing.moduleLine Listing.recordLines Listing.acceptedLine Listing.lastLine table bytesOf Words.frontOf Words.wordsOf Words.bitsFrom Words.bitsOf Reader.wordAt Header.headerFrom grammarBy Grammar.slotsOf Grammar.parametersOf Grammar.rowsOf Grammar.enumerantsOf Grammar.rowOf Grammar.listed Grammar.bitsListed Grammar.parametersFor Records.operandLog Records.operandString Records.operandsLog Records.operandsStrings Layout.kindFrom Layout.opcodeKind Layout.layoutAt Layout.layoutOf Types.entryOf Types.define Types.track Match.readEnumerant Match.readOne Match.readEach Match.readOperand Match.readKind Match.readSlot Match.readRow Match.allRead Match.readInstr enough Load.roomFault Load.loadFrom loadWith
 six-computed = refl
 
 -- the listing of fitting 6

@@ -4,7 +4,7 @@ use mathlib.Core.List.{List, [], _∷_, _++_}
 use lib.Dec.{ltb, eqb}
 use lib.ListN.{length, getD}
 use Rattle.spec.specs.declared.Loaded.{Loaded}
-use Rattle.spec.specs.Base.{if_then_else_, every}
+use Rattle.spec.specs.Base.{if_then_else_, every, ascii}
 use Rattle.spec.specs.Words.{major, minor}
 use Rattle.spec.specs.Records.{Placed}
 use Rattle.spec.specs.Load.{Outcome, enough, load}
@@ -21,18 +21,18 @@ decimal v = digitsFrom 20 v
 
 -- numbers in decimal, a blank between them, and the end of the line
 unfoldable pub numbersLine : List ℕ → List ℕ
-numbersLine [] = 10 ∷ []
-numbersLine (v ∷ []) = decimal v ++ (10 ∷ [])
-numbersLine (v ∷ w ∷ vs) = decimal v ++ (32 ∷ numbersLine (w ∷ vs))
+numbersLine [] = ascii "\n"
+numbersLine (v ∷ []) = decimal v ++ ascii "\n"
+numbersLine (v ∷ w ∷ vs) = decimal v ++ ascii " " ++ numbersLine (w ∷ vs)
 
--- "module M.m bound B", left out "when the header words are 0"
+-- "module M.m bound B"
+unfoldable pub versionLine : ℕ → ℕ → List ℕ
+versionLine version bound =
+    ascii "module " ++ decimal (major version) ++ ascii "." ++ decimal (minor version) ++ ascii " bound " ++ numbersLine (bound ∷ [])
+
+-- the module line, left out "when the header words are 0"
 unfoldable pub moduleLine : List ℕ → List ℕ
-moduleLine h =
-    if every (λ w. eqb w 0) h then []
-    else
-    109 ∷ 111 ∷ 100 ∷ 117 ∷ 108 ∷ 101 ∷ 32  -- "module "
-    ∷ decimal (major (getD h 1 0)) ++ (46 ∷ decimal (minor (getD h 1 0)))
-    ++ (32 ∷ 98 ∷ 111 ∷ 117 ∷ 110 ∷ 100 ∷ 32 ∷ numbersLine (getD h 3 0 ∷ []))  -- " bound "
+moduleLine h = if every (λ w. eqb w 0) h then [] else versionLine (getD h 1 0) (getD h 3 0)
 
 -- a line for each record, the first of them at an index
 unfoldable pub recordLines : ℕ → List Placed → List ℕ
@@ -40,12 +40,18 @@ recordLines index [] = []
 recordLines index (p ∷ ps) =
     numbersLine (index ∷ p .instr .offset ∷ p .tag ∷ p .instr .opcode ∷ p .instr .words ∷ []) ++ recordLines (suc index) ps
 
--- "accepted N", or "`refused`, number, offset, index"
+-- "accepted N"
+unfoldable pub acceptedLine : ℕ → List ℕ
+acceptedLine n = ascii "accepted " ++ numbersLine (n ∷ [])
+
+-- "`refused`, number, offset, index"
+unfoldable pub refusedLine : ℕ → ℕ → ℕ → List ℕ
+refusedLine n offset index = ascii "refused " ++ numbersLine (n ∷ offset ∷ index ∷ [])
+
+-- how the load ended
 unfoldable pub lastLine : Loaded → List ℕ
 lastLine x =
-    if eqb (x .number) 0
-    then 97 ∷ 99 ∷ 99 ∷ 101 ∷ 112 ∷ 116 ∷ 101 ∷ 100 ∷ 32 ∷ numbersLine (x .counts .instructions ∷ [])  -- "accepted "
-    else 114 ∷ 101 ∷ 102 ∷ 117 ∷ 115 ∷ 101 ∷ 100 ∷ 32 ∷ numbersLine (x .number ∷ x .offset ∷ x .index ∷ [])  -- "refused "
+    if eqb (x .number) 0 then acceptedLine (x .counts .instructions) else refusedLine (x .number) (x .offset) (x .index)
 
 -- the text of a load
 unfoldable pub outcomeText : Outcome → List ℕ
@@ -55,5 +61,5 @@ outcomeText x = moduleLine (x .said .header) ++ recordLines 1 (x .kept) ++ lastL
 -- header of so many bytes
 unfoldable pub listing : List ℕ → List ℕ
 listing s =
-    if ltb 4096 (length s) then 116 ∷ 111 ∷ 111 ∷ 32 ∷ 108 ∷ 111 ∷ 110 ∷ 103 ∷ 10 ∷ []  -- "too long"
+    if ltb 4096 (length s) then ascii "too long\n"
     else outcomeText (load builtin (enough 1019) s)

@@ -1,5 +1,6 @@
 -- Loading a module: the first refusals, the header, the instructions, the end, and the stores afterwards.
-use Prim.Native.Nat.{ℕ, zero, suc, _+_, _*_, _/_}
+use Prim.Native.Nat.{ℕ, zero, suc, _+_, _*_, _/_, _≤_, _<_}
+use mathlib.Core.Bool.{Bool}
 use mathlib.Core.List.{List, [], _∷_, _++_}
 use lib.Dec.{ltb, eqb}
 use lib.ListN.{length, drop}
@@ -12,9 +13,9 @@ use Rattle.spec.specs.declared.Cell.{Cell}
 use Rattle.spec.specs.declared.Cell.the-variants.{Tagged, Refuses}
 use Rattle.spec.specs.declared.Counts.{Counts}
 use Rattle.spec.specs.declared.Loaded.{Loaded}
-use Rattle.spec.specs.Base.{if_then_else_, has, joined}
+use Rattle.spec.specs.Base.{if_then_else_, within, has, joined}
 use Rattle.spec.specs.Records.{Instr, Placed, Entry, operandsLog, operandsStrings, recordSize, recordsFrom, logFrom, stringStore, entrySize, entryWords}
-use Rattle.spec.specs.Reader.{Reader, reader, Read, got, refused}
+use Rattle.spec.specs.Reader.{Reader, reader, Read, got, refused, Parse, give, refuse, _>>=_}
 use Rattle.spec.specs.Header.{noWords, headerFrom}
 use Rattle.spec.specs.Grammar.{Grammar, grammarOf, wellFormed}
 use Rattle.spec.specs.Layout.{layoutOf, endNumber}
@@ -43,6 +44,13 @@ roomFault room need =
     else if ltb (room .strings) (need .strings) then 27
     else if ltb (room .types) (need .types) then 28
     else 0
+
+-- room covers what is needed, in each store
+pub record Covers (room need : Counts) : Type 0 where
+  pub instructions : need .instructions ≤ room .instructions
+  pub log : need .log ≤ room .log
+  pub strings : need .strings ≤ room .strings
+  pub types : need .types ≤ room .types
 
 -- THE BOOK
 
@@ -81,6 +89,19 @@ pub record Outcome : Type 0 where
   pub kept : List Placed
   pub types : List Entry
 
+-- is it refused for room
+abbrev pub lacksRoom : Loaded → Bool
+lacksRoom x = within 25 (x .number) 28
+
+-- its place, index and counts each fit a word of 32 bits
+pub record Small (x : Loaded) : Type 0 where
+  pub offset : x .offset < 4294967296
+  pub index : x .index < 4294967296
+  pub instructions : x .counts .instructions < 4294967296
+  pub log : x .counts .log < 4294967296
+  pub strings : x .counts .strings < 4294967296
+  pub types : x .counts .types < 4294967296
+
 -- the end of a load, at the instruction after those kept: number, place, value
 abbrev pub stop : List ℕ → Book → ℕ → ℕ → ℕ → Outcome
 stop h b n at v =
@@ -100,21 +121,28 @@ nothing n at =
       types = [];
     }
 
--- THE INSTRUCTIONS: decoding, layout and room, one after the other
+-- THE INSTRUCTIONS: each is decoded, placed in the layout and given room, or refused by the first of these
 
--- decoding: go on with the instruction, or stop at its refusal
-abbrev pub onInstr : List ℕ → Book → Read Instr → (Instr → Reader → Outcome) → Outcome
-onInstr h b (got i r) f = f i r
-onInstr h b (refused x r) f = stop h b (x .number) (x .place) (x .value)
+-- layout: the book with the instruction, or a refusal at it
+abbrev pub placed : Book → Instr → Cell → Parse Book
+placed b i (Tagged tag s) = give (entered b i tag s)
+placed b i (Refuses n) = refuse n (i .offset)
 
--- layout: go on with a tag and a state, or stop at the instruction
-abbrev pub onCell : List ℕ → Book → Instr → Cell → (ℕ → State → Outcome) → Outcome
-onCell h b i (Tagged tag s) f = f tag s
-onCell h b i (Refuses n) f = stop h b n (i .offset) 0
+-- room: the book as it is, or a refusal at its last instruction
+abbrev pub roomed : Counts → Instr → Book → Parse Book
+roomed room i b = let n = roomFault room (b .used) in if eqb n 0 then give b else refuse n (i .offset)
 
--- room: go on with the next book, or stop at the instruction
-abbrev pub onRoom : List ℕ → Book → Instr → ℕ → Outcome → Outcome
-onRoom h b i n more = if eqb n 0 then more else stop h b n (i .offset) 0
+-- one instruction more in the book: decoding, layout, room
+abbrev pub takeInstr : Grammar → Counts → Book → Parse Book
+takeInstr g room b = do
+  i ← readInstr g (b .types)
+  c ← placed b i (layoutOf (i .opcode) (b .state))
+  roomed room i c
+
+-- go on with the next book, or stop at the refusal
+abbrev pub onBook : List ℕ → Book → Read Book → (Book → Reader → Outcome) → Outcome
+onBook h b (got c r) more = more c r
+onBook h b (refused x r) more = stop h b (x .number) (x .place) (x .value)
 
 -- "At the end (0, 16, or 21 there) the place is the whole words' length and count + 1."
 abbrev pub finish : List ℕ → Book → Reader → Outcome
@@ -125,15 +153,7 @@ finish h b r = stop h b (endNumber (b .state)) (r .at) 0
 unfoldable pub loadFrom : Grammar → Counts → List ℕ → ℕ → Book → Reader → Outcome
 loadFrom g room h zero b r = finish h b r
 loadFrom g room h (suc n) b r =
-    if has 4 (r .rest)
-    then
-    onInstr h b (readInstr g (b .types) r)
-    (λ i t. onCell h b i (layoutOf (i .opcode) (b .state))
-    (λ tag s.
-    let c = entered b i tag s in
-    let more = loadFrom g room h n c t in
-    onRoom h b i (roomFault room (c .used)) more))
-    else finish h b r
+    if has 4 (r .rest) then onBook h b (takeInstr g room b r) (loadFrom g room h n) else finish h b r
 
 -- THE WHOLE
 
@@ -174,3 +194,17 @@ storesOf x =
 -- a store after a load: the records from its start on, and past them what was there
 unfoldable pub laidOver : List ℕ → List ℕ → List ℕ
 laidOver store bs = sets store 0 bs
+
+-- the room in stores
+unfoldable pub roomIn : Stores → Counts
+roomIn t = roomOf (length (t .instructions)) (length (t .log)) (length (t .strings)) (length (t .types))
+
+-- stores after records are laid over each
+unfoldable pub laidOn : Stores → Stores → Stores
+laidOn t u =
+    record {
+      instructions = laidOver (t .instructions) (u .instructions);
+      log = laidOver (t .log) (u .log);
+      strings = laidOver (t .strings) (u .strings);
+      types = laidOver (t .types) (u .types);
+    }

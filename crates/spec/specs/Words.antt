@@ -1,9 +1,14 @@
 -- Words: four bytes, low byte first (the standard, 3.1: the magic number tells the order of bytes; here it is low byte first).
-use Prim.Native.Nat.{ℕ, zero, suc, _+_, _*_, _/_, _%_}
+use Prim.Native.Nat.{ℕ, zero, suc, _+_, _*_, _/_, _%_, _<_}
 use mathlib.Core.List.{List, [], _∷_}
 use lib.Dec.{eqb}
 use lib.ListN.{getD}
 use Rattle.spec.specs.Base.{if_then_else_}
+
+-- each number is a byte, as every slice of bytes has it
+abbrev pub AllBytes : List ℕ → Type 0
+AllBytes [] = Unit
+AllBytes (b ∷ bs) = (b < 256) × AllBytes bs
 
 -- "A word is four bytes, low byte first."
 abbrev pub four : ℕ → ℕ → ℕ → ℕ → ℕ

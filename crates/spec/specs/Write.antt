@@ -3,13 +3,13 @@ use Prim.Native.Nat.{ℕ, _+_, _*_}
 use mathlib.Core.Bool.{Bool, true, false, not, _&&_, _||_}
 use mathlib.Core.List.{List, [], _∷_, _++_, reverse}
 use lib.Dec.{leb, ltb, eqb}
-use lib.ListN.{length, take, getD}
+use lib.ListN.{length, take, drop, getD}
 use Rattle.spec.specs.declared.Written.{Written}
 use Rattle.spec.specs.declared.Stands.{Stands}
 use Rattle.spec.specs.Base.{if_then_else_, joined, only}
 use Rattle.spec.specs.Words.{bytesOf, major, minor}
 use Rattle.spec.specs.Records.{Placed, instrBytes}
-use Rattle.spec.specs.Load.{laidOver}
+use Rattle.spec.specs.Load.{Outcome, laidOver}
 use Rattle.spec.specs.Check.{Given, Checked, bad, good, check}
 
 -- PARSE ORDER
@@ -94,6 +94,14 @@ writeParse h x out = writeBy (check false x) (parseBytes h) out
 -- writing in module order
 unfoldable pub writeModule : List ℕ → Given → List ℕ → Writing
 writeModule h x out = writeBy (check true x) (moduleBytes h) out
+
+-- bytes were written into an output: the number is 0, and past them stands what was there
+abbrev pub wrote : List ℕ → List ℕ → Writing
+wrote bs out = record { said = record { number = 0; index = 0; bytes = length bs }; output = bs ++ drop (length bs) out }
+
+-- the bytes written in the order read for what a load came to: its header words and the instructions that it kept
+abbrev pub written : Outcome → List ℕ
+written x = parseBytes (x .said .header) (x .kept)
 
 -- STANDING
 

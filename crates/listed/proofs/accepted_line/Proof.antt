@@ -4,7 +4,7 @@ use native.Mathlib.Omega.{arith}
 use mathlib.Core.Path.{_∙_}
 use Rattle.listed.proofs.Writing.{bytes-reach, wrote-then}
 use Rattle.listed.proofs.Sentences.{line-last}
-use Rattle.listed.specs.Lines.{acceptedLine}
+use Rattle.spec.specs.Listing.{acceptedLine}
 use Rattle.listed.proofs.accepted_line.Statement.{statement}
 use Rattle.listed.proofs.accepted_line.Tie as tie
 

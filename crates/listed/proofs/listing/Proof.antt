@@ -23,4 +23,4 @@ listing-spec =
     (λ c. sym (c .before .before .before .before .before .before .load-builtin .kept .1 .0))
     (λ c κs. let few = kept-few _ (replicate 8152 0) (replicate 9171 0) (replicate 4076 0) (replicate 3057 0) refl refl refl refl _ (c .before .before .before .before .before .before .load-builtin .ensures .0) in (few, omega arith, omega (arith, c .before .before .before .before .before .before .load-builtin .kept .1 .0)))
     (λ c. c .before .before .load-text .kept .0)
-    (λ c. listing-is _ (replicate 8152 0) (replicate 9171 0) (replicate 4076 0) (replicate 3057 0) refl refl refl refl _ (c .before .before .before .before .before .before .before .before .before .load-builtin .ensures .0) _ (c .before .before .before .before .before .before .before .before .before .load-builtin .ensures .1 .0) (λ k. c .before .before .before .before .before .before .before .before .before .before .before .before .before .before .before .before .shared-slice-known .given k .fits) (c .before .before .before .before .before .before .before .before .before .before .before .before .before .before .if1 .left) (c .before .before .load-text .ensures)))
+    (λ c. listing-is _ (replicate 8152 0) (replicate 9171 0) (replicate 4076 0) (replicate 3057 0) refl refl refl refl _ (c .before .before .before .before .before .before .before .before .before .load-builtin .ensures .0) _ (c .before .before .before .before .before .before .before .before .before .load-builtin .ensures .1 .0) (c .before .before .before .before .before .before .before .before .before .load-builtin .ensures .1 .1 .1 .1 .1) (c .before .before .before .before .before .before .before .before .before .before .before .before .before .before .if1 .left) (c .before .before .load-text .ensures)))

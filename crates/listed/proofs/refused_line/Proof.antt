@@ -4,7 +4,7 @@ use native.Mathlib.Omega.{arith}
 use mathlib.Core.Path.{_∙_}
 use Rattle.listed.proofs.Writing.{bytes-reach, number-reach, wrote-then}
 use Rattle.listed.proofs.Sentences.{line-last, line-more}
-use Rattle.listed.specs.Lines.{refusedLine}
+use Rattle.spec.specs.Listing.{refusedLine}
 use Rattle.listed.proofs.refused_line.Statement.{statement}
 use Rattle.listed.proofs.refused_line.Tie as tie
 

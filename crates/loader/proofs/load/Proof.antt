@@ -13,7 +13,11 @@ no-instruction-requires : tie.Need-no-instruction-requires
 no-instruction-requires c κs = search needs
 
 returns : tie.Need-returns
-returns c = load-unformed _ _ _ _ _ _ (sym (c .before .before .well-formed .ensures) ∙ not-true _ (c .before .if1 .taken)) _ (c .no-instruction .ensures)
+returns c =
+    let checked = c .before .before in
+    let entry = checked .before .before .before .before .before .before in
+    load-unformed _ _ _ _ _ _ (entry .shared-slice-known .given) (sym (checked .well-formed .ensures) ∙ not-true _ (c .before .if1 .taken)) _
+    (c .no-instruction .ensures)
 
 slice-aggregate-fill-index : tie.Need-slice-aggregate-fill-index
 slice-aggregate-fill-index c = search needs
@@ -41,7 +45,12 @@ same-length-4 c = search needs
 
 returns-2 : tie.Need-returns-2
 returns-2 c =
-    load-formed _ _ _ _ _ _ (sym (c .before .before .before .before .before .before .before .before .before .before .before .before .before .before .before .before .before .before .before .well-formed .ensures) ∙ not-false _ (c .before .before .before .before .before .before .before .before .before .before .before .before .before .before .before .before .before .before .if1 .left)) _ _ _ _ _ (c .before .before .before .before .before .before .before .before .load-few .ensures)
+    let loaded = c .before .before .before .before .before .before .before .before in
+    let well = loaded .before .before .before .before .before .before .before .before .before .before in
+    let checked = well .before in
+    let entry = checked .before .before .before .before .before .before in
+    load-formed _ _ _ _ _ _ (entry .shared-slice-known .given) (sym (checked .well-formed .ensures) ∙ not-false _ (well .if1 .left)) _ _ _ _ _
+    (loaded .load-few .ensures)
 
 slice-aggregate-load-many : tie.Need-slice-aggregate-load-many
 slice-aggregate-load-many c = search needs
@@ -63,7 +72,12 @@ same-length-8 c = search needs
 
 returns-3 : tie.Need-returns-3
 returns-3 c =
-    load-formed _ _ _ _ _ _ (sym (c .before .before .before .before .before .before .before .before .before .before .before .before .before .before .before .before .before .before .before .well-formed .ensures) ∙ not-false _ (c .before .before .before .before .before .before .before .before .before .before .before .before .before .before .before .before .before .before .if1 .left)) _ _ _ _ _ (c .before .before .before .before .before .before .before .before .load-many .ensures)
+    let loaded = c .before .before .before .before .before .before .before .before in
+    let well = loaded .before .before .before .before .before .before .before .before .before .before in
+    let checked = well .before in
+    let entry = checked .before .before .before .before .before .before in
+    load-formed _ _ _ _ _ _ (entry .shared-slice-known .given) (sym (checked .well-formed .ensures) ∙ not-false _ (well .if1 .left)) _ _ _ _ _
+    (loaded .load-many .ensures)
 
 pub load-spec : {M : Type 1} → statement M
 load-spec =

@@ -32,7 +32,11 @@ same-length-4 : tie.Need-same-length-4
 same-length-4 c = search needs
 
 returns : tie.Need-returns
-returns c = load-prepared _ _ _ _ _ _ (c .before .before .before .before .before .before .before .before .before .before .before .before .before .before .before .before .before .table .ensures) _ _ _ _ _ (c .before .before .before .before .before .before .before .before .load-few .ensures)
+returns c =
+    let loaded = c .before .before .before .before .before .before .before .before in
+    let tabled = loaded .before .before .before .before .before .before .before .before .before in
+    let entry = tabled .before .before .before .before .before in
+    load-prepared _ _ _ _ _ _ (entry .shared-slice-known .given) (tabled .table .ensures) _ _ _ _ _ (loaded .load-few .ensures)
 
 slice-aggregate-load-many : tie.Need-slice-aggregate-load-many
 slice-aggregate-load-many c = search needs
@@ -56,7 +60,11 @@ same-length-8 : tie.Need-same-length-8
 same-length-8 c = search needs
 
 returns-2 : tie.Need-returns-2
-returns-2 c = load-prepared _ _ _ _ _ _ (c .before .before .before .before .before .before .before .before .before .before .before .before .before .before .before .before .before .table .ensures) _ _ _ _ _ (c .before .before .before .before .before .before .before .before .load-many .ensures)
+returns-2 c =
+    let loaded = c .before .before .before .before .before .before .before .before in
+    let tabled = loaded .before .before .before .before .before .before .before .before .before in
+    let entry = tabled .before .before .before .before .before in
+    load-prepared _ _ _ _ _ _ (entry .shared-slice-known .given) (tabled .table .ensures) _ _ _ _ _ (loaded .load-many .ensures)
 
 pub load-builtin-spec : {M : Type 1} → statement M
 load-builtin-spec =

@@ -1,6 +1,6 @@
 -- `records::operands_after` meets its contract: by where the operands start, whether they are good, and the word count.
 -- Assumes nothing.
-use Rattle.records.proofs.Operands.{after-elsewhere, after-bad, after-right, after-wrong, passed-few, results-few}
+use Rattle.records.proofs.Operands.{after-elsewhere, after-bad, after-right, after-wrong, after-few, results-few}
 use native.Mathlib.Omega.{arith}
 use borrow.Author.Needs.{needs}
 use Rattle.records.proofs.operands_after.Statement.{statement}
@@ -25,7 +25,7 @@ enum-told : tie.Need-enum-told
 enum-told c = search needs
 
 returns-2 : tie.Need-returns-2
-returns-2 c = after-bad _ _ _ _ _ (c .before .before .before .before .if1 .left) _ (c .before .before .pass-operands .ensures) (c .enum-told .given .1)
+returns-2 c = after-bad _ _ _ _ _ _ (c .before .before .pass-operands .ensures) (c .enum-told .given .1)
 
 cast-if2 : tie.Need-cast-if2
 cast-if2 c = search needs
@@ -34,16 +34,29 @@ result-words-requires : tie.Need-result-words-requires
 result-words-requires c κs = search needs
 
 add-if2 : tie.Need-add-if2
-add-if2 c = omega (arith, c .result-words .ensures, results-few (c .before .before .before .before .before .before .before .before .before .before .before .args .f))
+add-if2 c =
+    let at-start = c .before .before .before .before .before .before .before .before .before .before .before in
+    omega (arith, c .result-words .ensures, results-few (at-start .args .f))
 
 add-if2-2 : tie.Need-add-if2-2
-add-if2-2 c = omega (arith, c .result-words .ensures, results-few (c .before .before .before .before .before .before .before .before .before .before .before .args .f), passed-few _ _ _ _ _ (c .before .before .before .before .before .before .before .before .before .before .before .pre .0 .0) (c .before .before .before .before .before .before .before .before .before .before .before .pre .0 .1) _ (c .before .before .before .before .before .pass-operands .ensures) _ _ _ (c .before .before .before .passed .given .1))
+add-if2-2 c =
+    let at-start = c .before .before .before .before .before .before .before .before .before .before .before in
+    omega (
+      arith,
+      c .result-words .ensures,
+      results-few (at-start .args .f),
+      after-few _ _ _ _ (at-start .args .f) _ (c .before .before .before .before .before .pass-operands .ensures) (at-start .pre .0 .0) (at-start .pre .0 .1) _ _ _ (c .before .before .before .passed .given .1),
+    )
 
 returns-3 : tie.Need-returns-3
-returns-3 c = after-right _ _ _ _ _ (c .before .before .before .before .before .before .before .before .if1 .left) _ (c .before .before .before .before .before .before .pass-operands .ensures) _ _ _ (c .before .before .before .before .passed .given .1) _ (c .before .result-words .ensures) (c .if2 .taken)
+returns-3 c =
+    let at-start = c .before .before .before .before .before .before .before .before .before .before .before .before in
+    after-right _ _ _ _ _ _ (c .before .before .before .before .before .before .pass-operands .ensures) (at-start .pre .0 .0) (at-start .pre .0 .1) _ _ _ (c .before .before .before .before .passed .given .1) (c .before .before .before .before .before .before .before .before .if1 .left) _ (c .before .result-words .ensures) (c .if2 .taken)
 
 returns-4 : tie.Need-returns-4
-returns-4 c = after-wrong _ _ _ _ _ (c .before .before .before .before .before .before .before .before .if1 .left) _ (c .before .before .before .before .before .before .pass-operands .ensures) _ _ _ (c .before .before .before .before .passed .given .1) _ (c .before .result-words .ensures) (c .if2 .left)
+returns-4 c =
+    let at-start = c .before .before .before .before .before .before .before .before .before .before .before .before in
+    after-wrong _ _ _ _ _ _ (c .before .before .before .before .before .before .pass-operands .ensures) (at-start .pre .0 .0) (at-start .pre .0 .1) _ _ _ (c .before .before .before .before .passed .given .1) _ (c .before .result-words .ensures) (c .if2 .left)
 
 pub operands-after-spec : {M : Type 1} → statement M
 operands-after-spec =

@@ -29,7 +29,7 @@ returns : tie.Need-returns Inv-loop μ-loop
 returns c = pass-fails (c .before .before .before .before .loop .inv) (c .before .before .before .loop-test .taken) _ (c .before .before .pass-operand .ensures) (c .enum-told .given .1)
 
 add-words : tie.Need-add-words Inv-loop μ-loop
-add-words c = omega (arith, pass-room (c .before .before .before .before .before .loop .inv) (c .before .before .before .before .loop-test .taken) _ _ _ _ (c .before .before .before .pass-operand .ensures) (c .before .step .given .1))
+add-words c = omega (arith, pass-room (c .before .before .before .before .before .loop .inv) (c .before .before .before .before .loop-test .taken) _ (c .before .before .before .pass-operand .ensures) _ _ _ (c .before .step .given .1))
 
 add-passed : tie.Need-add-passed Inv-loop μ-loop
 add-passed c = omega arith
@@ -38,7 +38,7 @@ loop-less : tie.Need-loop-less Inv-loop μ-loop
 loop-less c = omega arith
 
 loop-again : tie.Need-loop-again Inv-loop μ-loop
-loop-again c = pass-goes-on (c .before .before .before .before .before .loop .inv) (c .before .before .before .before .loop-test .taken) _ _ _ _ (c .before .before .before .pass-operand .ensures) (c .before .step .given .1)
+loop-again c = pass-goes-on (c .before .before .before .before .before .loop .inv) (c .before .before .before .before .loop-test .taken) _ (c .before .before .before .pass-operand .ensures) _ _ _ (c .before .step .given .1)
 
 returns-2 : tie.Need-returns-2 Inv-loop μ-loop
 returns-2 c = pass-ends (c .before .loop .inv) (c .loop-test .left)

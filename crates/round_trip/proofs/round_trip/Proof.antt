@@ -24,5 +24,5 @@ round-trip-spec =
     (λ c. c .before .before .before .before .before .before .before .before .before .load2 .kept .1 .1 .1 .0)
     (λ c. c .before .before .before .before .before .before .before .before .before .load2 .kept .1 .1 .1 .1 .0)
     (λ c. c .before .before .before .before .before .before .before .before .before .load2 .kept .1 .1 .1 .1 .1 .0)
-    (λ c. trips (c .before .before .before .before .before .before .before .before .before .before .before .before .before .before .before .before .before .before .before .before .before .before .before .before .before .before .before .before .before .before .before .before .before .before .before .before .before .before .before .before .before .before .before .before .before .before .before .shared-slice-known .given) (c .before .before .before .before .before .before .before .before .before .before .before .before .before .before .before .before .before .before .before .before .before .before .before .before .before .before .before .before .before .before .before .before .load .ensures) (c .before .before .before .before .before .before .before .before .before .before .before .before .before .before .before .before .before .write-parse-order .ensures) (c .before .before .before .before .before .before .before .before .before .load2 .ensures)
+    (λ c. trips (c .before .before .before .before .before .before .before .before .before .before .before .before .before .before .before .before .before .before .before .before .before .before .before .before .before .before .before .before .before .before .before .before .load .ensures) (c .before .before .before .before .before .before .before .before .before .before .before .before .before .before .before .before .before .write-parse-order .ensures) (c .before .before .before .before .before .before .before .before .before .load2 .ensures)
     (c .all-zero .ensures)))

@@ -35,4 +35,4 @@ same-spec =
     (λ c. search needs)
     (λ c. search needs)
     (λ c κs. search needs)
-    (λ c e. answer-kept _ _ _ _ _ _ _ _ (c .before .before .before .before .before .before .before .before .before .before .before .before .before .before .before .before .before .load-builtin .ensures .0) (c .before .before .before .before .before .before .before .before .before .before .before .before .before .before .before .before .before .load-builtin .ensures .1 .0) (c .before .before .before .before .before .before .before .before .before .before .before .before .before .before .before .before .before .load-builtin .ensures .1 .1 .0) (c .before .before .before .before .before .before .before .before .before .before .before .before .before .before .before .before .before .load-builtin .ensures .1 .1 .1 .0) (c .before .before .before .before .before .before .before .before .before .before .before .before .before .before .before .before .before .load-builtin .ensures .1 .1 .1 .1) (record { said = sym (c .before .before .before .before .before .before .before .before .before .before .before .before .same-said .ensures) ∙ passed _ (c .before .before .before .before .before .before .before .before .before .before .before .if1 .left); stores = c .before .before .before .before .before .before .same-stores .ensures (passed _ (c .before .before .before .before .before .if2 .left)); order = c .same-order .ensures e })))
+    (λ c e. answer-kept _ _ _ _ _ _ _ _ (c .before .before .before .before .before .before .before .before .before .before .before .before .before .before .before .before .before .load-builtin .ensures .0) (c .before .before .before .before .before .before .before .before .before .before .before .before .before .before .before .before .before .load-builtin .ensures .1 .0) (c .before .before .before .before .before .before .before .before .before .before .before .before .before .before .before .before .before .load-builtin .ensures .1 .1 .0) (c .before .before .before .before .before .before .before .before .before .before .before .before .before .before .before .before .before .load-builtin .ensures .1 .1 .1 .0) (c .before .before .before .before .before .before .before .before .before .before .before .before .before .before .before .before .before .load-builtin .ensures .1 .1 .1 .1 .0) (record { said = sym (c .before .before .before .before .before .before .before .before .before .before .before .before .same-said .ensures) ∙ passed _ (c .before .before .before .before .before .before .before .before .before .before .before .if1 .left); stores = c .before .before .before .before .before .before .same-stores .ensures (passed _ (c .before .before .before .before .before .if2 .left)); order = c .same-order .ensures e })))
