@@ -22,7 +22,6 @@ use Rattle.operand.specs.Parts.{isTwo}
 use Rattle.records.specs.Good.{operandBy, operandAt}
 use Rattle.records.specs.Steps.{wordIf, resultWords}
 use Rattle.records.proofs.Good.{operand-is}
-use Rattle.records.proofs.Operands.{one-below}
 use Rattle.records.proofs.Bytes.{operands-bytes, record-bytes}
 use Rattle.assemble.specs.Spelled.{Readable, operandAfter, operandsFrom, AllReadable, headBytes, saidBy, Sound}
 
@@ -135,26 +134,6 @@ pub after-one : (log : List ℕ) (a : ℕ) → isTwo (getD log a 0) ≡ false �
 unfolding operandAfter
 after-one log a e = rw e
 
-module _ (log strings l : List ℕ) (a at : ℕ) where
-  -- one word put at a place, of a kind below 36
-  pub next-one : getD log a 0 < 36 → (w : ℕ) → w ≡ fourAt (a + 1) log → (l₁ : List ℕ) → l₁ ≡ sets l at (bytesOf w)
-      → (a + 5 ≡ operandAfter log a) × ((at + 4 ≡ at + length (operandBytes (operandAt log strings a))) × (l₁ ≡ sets l at (operandBytes (operandAt log strings a))))
-  unfolding bytesOf
-  next-one h w e l₁ g =
-      let b = one-bytes log strings a (one-below (getD log a 0) h) w e in
-      (after-one log a (one-below (getD log a 0) h), (ap (λ (z : List ℕ). at + length z) b, g ∙ ap (λ (z : List ℕ). sets l at z) b))
-
-  -- room for it
-  pub one-room : getD log a 0 < 36 → at + length (operandBytes (operandAt log strings a)) ≤ length l → at + 4 ≤ length l
-  unfolding bytesOf
-  one-room h g = omega (arith, ap length (one-bytes log strings a (one-below (getD log a 0) h) (fourAt (a + 1) log) refl))
-
-  -- an operand put into the rest from a place on
-  pub next-rest : (n a' : ℕ) (ys : List ℕ) → n ≡ length (operandBytes (operandAt log strings a)) → a' ≡ operandAfter log a
-      → ys ≡ sets (midOf at (length l - at) l) 0 (operandBytes (operandAt log strings a))
-      → (a' ≡ operandAfter log a) × ((at + n ≡ at + length (operandBytes (operandAt log strings a))) × (putMid at (length l - at) l ys ≡ sets l at (operandBytes (operandAt log strings a))))
-  next-rest n a' ys e f g = (f, (ap (λ (k : ℕ). at + k) e, rest-back l (operandBytes (operandAt log strings a)) ys at g))
-
 -- SOME OPERANDS
 
 -- the bytes of operands after others
@@ -162,60 +141,60 @@ pub joined-append : {A B : Type 0} (f : A → List B) (xs ys : List A) → joine
 joined-append f [] ys = refl
 joined-append f (x ∷ xs) ys = ap (λ (z : List _). f x ++ z) (joined-append f xs ys) ∙ sym (append-assoc (f x) (joined f xs) (joined f ys))
 
--- what a loop has done: the bytes of some operands, and those after them can be read
-pub record Putting (log strings : List ℕ) (n start : ℕ) (l₀ l : List ℕ) (from i a at : ℕ) : Type 0 where
+-- what a loop has done: the bytes of some operands, and those that are left can be read
+pub record Putting (log strings : List ℕ) (n start : ℕ) (l₀ l : List ℕ) (from left a at : ℕ) : Type 0 where
   pub acc : List Operand
-  pub left : ℕ
   pub split : operandsFrom n log strings start ≡ acc ++ operandsFrom left log strings a
   pub readable : AllReadable left log strings a
-  pub counted : i + left ≡ n
   pub place : at ≡ from + length (joined operandBytes acc)
   pub stored : l ≡ sets l₀ from (joined operandBytes acc)
+  pub room : from + length (joined operandBytes (operandsFrom n log strings start)) ≤ length l₀
 
 -- none at first
 pub putting-starts : (log strings : List ℕ) (n start : ℕ) (l : List ℕ) (from : ℕ) → AllReadable n log strings start
-    → Putting log strings n start l l from 0 start from
-putting-starts log strings n start l from r =
-    record { acc = []; left = n; split = refl; readable = r; counted = zero-add n; place = omega arith; stored = refl }
+    → from + length (joined operandBytes (operandsFrom n log strings start)) ≤ length l → Putting log strings n start l l from n start from
+putting-starts log strings n start l from r h =
+    record { acc = []; split = refl; readable = r; place = omega arith; stored = refl; room = h }
 
 -- what one turn needs and gives
 record Turned (log strings : List ℕ) (n start : ℕ) (acc : List Operand) (left a : ℕ) : Type 0 where
-  pub less : ℕ
-  pub count : left ≡ suc less
   pub here : Readable log strings a
-  pub others : AllReadable less log strings (operandAfter log a)
-  pub split : operandsFrom n log strings start ≡ (acc ++ (operandAt log strings a ∷ [])) ++ operandsFrom less log strings (operandAfter log a)
+  pub others : AllReadable (left - 1) log strings (operandAfter log a)
+  pub split : operandsFrom n log strings start ≡ (acc ++ (operandAt log strings a ∷ [])) ++ operandsFrom (left - 1) log strings (operandAfter log a)
 
 -- the next operand
 turned : (log strings : List ℕ) (n start : ℕ) (acc : List Operand) (left a : ℕ) → 0 < left → AllReadable left log strings a
     → operandsFrom n log strings start ≡ acc ++ operandsFrom left log strings a → Turned log strings n start acc left a
 unfolding operandsFrom AllReadable
 turned log strings n start acc zero a h r e = absurd (omega arith)
-turned log strings n start acc (suc m) a h r e = record {
-  less = m;
-  count = refl;
-  here = r .0;
-  others = r .1;
-  split = e ∙ sym (append-assoc acc (operandAt log strings a ∷ []) (operandsFrom m log strings (operandAfter log a)));
-}
+turned log strings n start acc (suc m) a h r e =
+    let q : m ≡ suc m - 1 = omega arith in
+    record {
+      here = r .0;
+      others = subst (λ (k : ℕ). AllReadable k log strings (operandAfter log a)) q (r .1);
+      split =
+          e
+          ∙ sym (append-assoc acc (operandAt log strings a ∷ []) (operandsFrom m log strings (operandAfter log a)))
+          ∙ ap (λ (k : ℕ). (acc ++ (operandAt log strings a ∷ [])) ++ operandsFrom k log strings (operandAfter log a)) q;
+    }
 
-module _ {log strings : List ℕ} {n start : ℕ} {l₀ l : List ℕ} {from i a at : ℕ} (r : Putting log strings n start l₀ l from i a at) where
+module _ {log strings : List ℕ} {n start : ℕ} {l₀ l : List ℕ} {from left a at : ℕ} (r : Putting log strings n start l₀ l from left a at) where
   -- no byte more or less
   pub putting-length : length l ≡ length l₀
   putting-length = ap length (r .stored) ∙ length-sets l₀ from (joined operandBytes (r .acc))
 
   -- all are put
-  pub putting-ends : n ≤ i → l ≡ sets l₀ from (joined operandBytes (operandsFrom n log strings start))
+  pub putting-ends : left ≤ 0 → l ≡ sets l₀ from (joined operandBytes (operandsFrom n log strings start))
   unfolding operandsFrom
   putting-ends h =
-      let z : r .left ≡ 0 = omega (arith, r .counted) in
+      let z : left ≡ 0 = omega arith in
       r .stored
       ∙ ap (λ (os : List Operand). sets l₀ from (joined operandBytes os))
       (sym (r .split ∙ ap (λ (k : ℕ). r .acc ++ operandsFrom k log strings a) z ∙ append-nil (r .acc)))
 
-  module _ (h : i < n) where
-    next : Turned log strings n start (r .acc) (r .left) a
-    next = turned log strings n start (r .acc) (r .left) a (omega (arith, r .counted)) (r .readable) (r .split)
+  module _ (h : 0 < left) where
+    next : Turned log strings n start (r .acc) left a
+    next = turned log strings n start (r .acc) left a h (r .readable) (r .split)
 
     -- the next can be read
     pub putting-here : Readable log strings a
@@ -233,34 +212,34 @@ module _ {log strings : List ℕ} {n start : ℕ} {l₀ l : List ℕ} {from i a 
         omega (arith, r .place, ap length more-bytes ∙ length-append (joined operandBytes (r .acc)) (operandBytes (operandAt log strings a)))
 
     -- there is room for it
-    pub putting-room : from + length (joined operandBytes (operandsFrom n log strings start)) ≤ length l₀
-        → at + length (operandBytes (operandAt log strings a)) ≤ length l
-    putting-room room =
+    pub putting-room : at + length (operandBytes (operandAt log strings a)) ≤ length l
+    putting-room =
         omega (
           arith,
+          r .room,
           putting-length,
           length-more,
           ap (λ (os : List Operand). length (joined operandBytes os)) (next .split)
-              ∙ ap length (joined-append operandBytes (r .acc ++ (operandAt log strings a ∷ [])) (operandsFrom (next .less) log strings (operandAfter log a)))
-              ∙ length-append (joined operandBytes (r .acc ++ (operandAt log strings a ∷ []))) (joined operandBytes (operandsFrom (next .less) log strings (operandAfter log a))),
+              ∙ ap length (joined-append operandBytes (r .acc ++ (operandAt log strings a ∷ [])) (operandsFrom (left - 1) log strings (operandAfter log a)))
+              ∙ length-append (joined operandBytes (r .acc ++ (operandAt log strings a ∷ []))) (joined operandBytes (operandsFrom (left - 1) log strings (operandAfter log a))),
         )
 
-    -- it is put
-    pub putting-goes-on : (a' at' : ℕ) (l' : List ℕ) → a' ≡ operandAfter log a → at' ≡ at + length (operandBytes (operandAt log strings a))
-        → l' ≡ sets l at (operandBytes (operandAt log strings a)) → Putting log strings n start l₀ l' from (i + 1) a' at'
-    putting-goes-on a' at' l' f e g = record {
+    -- it is put into the rest
+    pub putting-goes-on : (a' k : ℕ) (ys : List ℕ) → a' ≡ operandAfter log a → k ≡ length (operandBytes (operandAt log strings a))
+        → ys ≡ sets (midOf at (length l - at) l) 0 (operandBytes (operandAt log strings a))
+        → Putting log strings n start l₀ (putMid at (length l - at) l ys) from (left - 1) a' (at + k)
+    putting-goes-on a' k ys f e g = record {
       acc = r .acc ++ (operandAt log strings a ∷ []);
-      left = next .less;
-      split = next .split ∙ ap (λ (j : ℕ). (r .acc ++ (operandAt log strings a ∷ [])) ++ operandsFrom (next .less) log strings j) (sym f);
-      readable = subst (λ (j : ℕ). AllReadable (next .less) log strings j) (sym f) (next .others);
-      counted = omega (arith, r .counted, next .count);
-      place = e ∙ sym length-more;
+      split = next .split ∙ ap (λ (j : ℕ). (r .acc ++ (operandAt log strings a ∷ [])) ++ operandsFrom (left - 1) log strings j) (sym f);
+      readable = subst (λ (j : ℕ). AllReadable (left - 1) log strings j) (sym f) (next .others);
+      place = ap (λ (j : ℕ). at + j) e ∙ sym length-more;
       stored =
-          g
+          rest-back l (operandBytes (operandAt log strings a)) ys at g
           ∙ ap (λ (z : List ℕ). sets z at (operandBytes (operandAt log strings a))) (r .stored)
           ∙ ap (λ (j : ℕ). sets (sets l₀ from (joined operandBytes (r .acc))) j (operandBytes (operandAt log strings a))) (r .place)
           ∙ sets-append (joined operandBytes (r .acc)) (operandBytes (operandAt log strings a)) l₀ from
           ∙ ap (λ (z : List ℕ). sets l₀ from z) (sym more-bytes);
+      room = r .room;
     }
 
 -- what is lent of the rest has room
@@ -311,7 +290,7 @@ unfolding resultWords
 result-words f = refl
 
 -- how long first word and result words are
-pub length-head : (f : Fields) → length (headBytes f) ≡ 4 + 4 * resultWords f
+length-head : (f : Fields) → length (headBytes f) ≡ 4 + 4 * resultWords f
 unfolding headBytes resultWords bytesOf
 length-head f =
     let a = fieldIn (eqb (bitsIn f % 2) 1) (f .rtype) in
@@ -333,7 +312,7 @@ length-said log strings f s = record-bytes f (operandsFrom (f .count) log string
 
 module _ (log strings l l₁ : List ℕ) (f : Fields) (s : Sound log strings f) (at : ℕ) (e : l₁ ≡ sets l 0 (headBytes f)) (p : at ≡ 4 + 4 * resultWords f) where
   -- the head leaves the length
-  pub said-length : length l₁ ≡ length l
+  said-length : length l₁ ≡ length l
   said-length = ap length e ∙ length-sets l 0 (headBytes f)
 
   -- there is room for the operands

@@ -1,15 +1,16 @@
 // One instruction as bytes: its first word, its result words, its operands.
 ghost use mathlib.Core.Path.{_≡_};
+ghost use mathlib.Core.Bool.{true};
 ghost use Prim.Native.Nat.{_+_, _*_, _≤_};
-ghost use lib.ListN.{length};
+ghost use lib.ListN.{length, getD};
 ghost use lib.Seq.{sets};
-ghost use Rattle.spec.specs.Base.{joined};
 ghost use Rattle.spec.specs.Text.{padded};
 ghost use Rattle.spec.specs.Records.{idBytes, operandBytes, instrBytes};
 ghost use Rattle.spec.specs.Check.{fieldIn};
+ghost use Rattle.operand.specs.Parts.{isTwo};
 ghost use Rattle.records.specs.Good.{operandAt};
 ghost use Rattle.records.specs.Steps.{wordIf, resultWords};
-ghost use Rattle.assemble.specs.Spelled.{Readable, operandAfter, operandsFrom, AllReadable, headBytes, saidBy, Sound};
+ghost use Rattle.assemble.specs.Spelled.{Readable, operandAfter, headBytes, saidBy, Sound};
 use operand::is_two;
 use operand::put_bytes;
 use operand::put_word;
@@ -30,21 +31,17 @@ fn put_text(out: &mut [u8], s: &[u8]) -> usize
     last + 4
 }
 
-// The operand at a place of the log: one word, two words or a string.
-fn put_operand(log: &[u8], strings: &[u8], a: usize, out: &mut [u8]) -> usize
+// The operand at a place of the log, where its kind has two words: a string, or a literal. How many bytes it is.
+fn put_two(log: &[u8], strings: &[u8], a: usize, out: &mut [u8]) -> usize
     requires { ⌜ Readable (now log) (now strings) a ⌝ }
+    requires { ⌜ isTwo (getD (now log) a 0) ≡ true ⌝ }
     requires { ⌜ length (operandBytes (operandAt (now log) (now strings) a)) ≤ length (now out) ⌝ }
     ensures { λ r. ⌜ r ≡ length (operandBytes (operandAt (now (log .entry)) (now (strings .entry)) a)) ⌝ }
     ensures { λ _. ⌜ now (out .exit) ≡ sets (now (out .entry)) 0 (operandBytes (operandAt (now (log .entry)) (now (strings .entry)) a)) ⌝ }
 {
-    let kind = log[a];
     let low = decoder::word_at(log, a + 1);
-    if !is_two(kind) {
-        put_word(out, 0, low);
-        return 4;
-    }
     let high = decoder::word_at(log, a + 5);
-    if kind == 40 {
+    if log[a] == 40 {
         let start = low as usize;
         let end = start + (high as usize);
         return put_text(out, &strings[start..end]);
@@ -54,15 +51,14 @@ fn put_operand(log: &[u8], strings: &[u8], a: usize, out: &mut [u8]) -> usize
     8
 }
 
-// The place of the log after the operand at a place.
-fn operand_after(log: &[u8], a: usize) -> usize
-    requires { ⌜ a + 5 ≤ length (now log) ⌝ }
-    ensures { λ r. ⌜ r ≡ operandAfter (now (log .entry)) a ⌝ }
+// Whether a kind has two words. None below 36 has, and most are: these are told by one test.
+fn has_two(kind: u8) -> bool
+    ensures { λ r. ⌜ r ≡ isTwo kind ⌝ }
 {
-    if is_two(log[a]) {
-        return a + 9;
+    if kind < 36 {
+        return false;
     }
-    a + 5
+    is_two(kind)
 }
 
 // The places that are reached in the log and in the output.
@@ -71,43 +67,20 @@ struct Reached {
     out: usize,
 }
 
-// The operand at a place of the log, stored at a place: the places after both. The kinds below 36 have one word.
-fn put_next(log: &[u8], strings: &[u8], a: usize, out: &mut [u8], at: usize) -> Reached
+// The operand at a place of the log, at the start of the output: the places after both.
+fn put_operand(log: &[u8], strings: &[u8], a: usize, out: &mut [u8]) -> Reached
     requires { ⌜ Readable (now log) (now strings) a ⌝ }
-    requires { ⌜ at + length (operandBytes (operandAt (now log) (now strings) a)) ≤ length (now out) ⌝ }
+    requires { ⌜ length (operandBytes (operandAt (now log) (now strings) a)) ≤ length (now out) ⌝ }
     ensures { λ r. ⌜ r .log ≡ operandAfter (now (log .entry)) a ⌝ }
-    ensures { λ r. ⌜ r .out ≡ at + length (operandBytes (operandAt (now (log .entry)) (now (strings .entry)) a)) ⌝ }
-    ensures { λ _. ⌜ now (out .exit) ≡ sets (now (out .entry)) at (operandBytes (operandAt (now (log .entry)) (now (strings .entry)) a)) ⌝ }
+    ensures { λ r. ⌜ r .out ≡ length (operandBytes (operandAt (now (log .entry)) (now (strings .entry)) a)) ⌝ }
+    ensures { λ _. ⌜ now (out .exit) ≡ sets (now (out .entry)) 0 (operandBytes (operandAt (now (log .entry)) (now (strings .entry)) a)) ⌝ }
 {
-    if log[a] < 36 {
-        put_word(out, at, decoder::word_at(log, a + 1));
-        return Reached {
-            log: a + 5,
-            out: at + 4,
-        };
+    if has_two(log[a]) {
+        let n = put_two(log, strings, a, out);
+        return Reached { log: a + 9, out: n };
     }
-    let n = put_operand(log, strings, a, &mut out[at..]);
-    Reached {
-        log: operand_after(log, a),
-        out: at + n,
-    }
-}
-
-// So many operands from a place of the log on, one after the other from a place of the output on.
-fn put_operands(log: &[u8], strings: &[u8], count: usize, start: usize, out: &mut [u8], from: usize)
-    requires { ⌜ AllReadable count (now log) (now strings) start ⌝ }
-    requires { ⌜ from + length (joined operandBytes (operandsFrom count (now log) (now strings) start)) ≤ length (now out) ⌝ }
-    ensures { λ _. ⌜ now (out .exit) ≡ sets (now (out .entry)) from (joined operandBytes (operandsFrom count (now (log .entry)) (now (strings .entry)) start)) ⌝ }
-{
-    let mut i = 0;
-    let mut a = start;
-    let mut at = from;
-    while i < count {
-        let next = put_next(log, strings, a, out, at);
-        a = next.log;
-        at = next.out;
-        i += 1;
-    }
+    put_word(out, 0, decoder::word_at(log, a + 1));
+    Reached { log: a + 5, out: 4 }
 }
 
 // THE INSTRUCTION
@@ -139,14 +112,19 @@ fn put_head(f: Fields, out: &mut [u8]) -> usize
     put_result(out, at, f.rid, 2 <= bits)
 }
 
-// The instruction of a record, at the start of the output.
+// The instruction of a record, at the start of the output: each operand into the rest of it that follows the one before.
 pub fn put_instruction(log: &[u8], strings: &[u8], f: Fields, out: &mut [u8])
     requires { ⌜ Sound (now log) (now strings) f ⌝ }
     requires { ⌜ 4 * f .words ≤ length (now out) ⌝ }
     ensures { λ _. ⌜ now (out .exit) ≡ sets (now (out .entry)) 0 (instrBytes (saidBy (now (log .entry)) (now (strings .entry)) f .instr)) ⌝ }
 {
-    let at = put_head(f, out);
-    let count = f.count as usize;
-    let start = f.start as usize;
-    put_operands(log, strings, count, start, out, at);
+    let mut at = put_head(f, out);
+    let mut a = f.start as usize;
+    let mut left = f.count;
+    while 0 < left {
+        let next = put_operand(log, strings, a, &mut out[at..]);
+        a = next.log;
+        at += next.out;
+        left -= 1;
+    }
 }

@@ -1,29 +1,86 @@
--- `assemble::instruction::put_instruction` meets its contract: the operands follow the head.
+-- `assemble::instruction::put_instruction` meets its contract: the operands follow the head, each in the rest of the output.
 -- Assumes nothing.
-use Rattle.assemble.proofs.Spell.{said-room, said-put}
+use mathlib.Core.Path.{_≡_, _∙_}
+use native.Mathlib.Omega.{arith}
+use lib.ListN.{length}
+use Rattle.assemble.proofs.Spell.{Putting, putting-starts, putting-length, putting-ends, putting-here, putting-room, putting-goes-on, lent-room, said-room, said-put}
 use borrow.Author.Needs.{needs}
 use Rattle.assemble.proofs.instruction.put_instruction.Statement.{statement}
 use Rattle.assemble.proofs.instruction.put_instruction.Tie as tie
 
-put-head-requires : tie.Need-put-head-requires
+abbrev Inv-loop : tie.InvT-loop
+Inv-loop log strings out₀ at₀ a₀ left₀ out at a left = Putting log strings left₀ a₀ out₀ out at₀ left a at
+
+abbrev μ-loop : tie.MeasureT-loop
+μ-loop log strings out₀ at₀ a₀ left₀ out at a left = left
+
+put-head-requires : tie.Need-put-head-requires Inv-loop μ-loop
 put-head-requires c κs = search needs
 
-cast-count : tie.Need-cast-count
-cast-count c = search needs
+cast-a : tie.Need-cast-a Inv-loop μ-loop
+cast-a c = search needs
 
-cast-start : tie.Need-cast-start
-cast-start c = search needs
+loop-holds : tie.Need-loop-holds Inv-loop μ-loop
+loop-holds c =
+    let at-start = c .before .before .before .before .before .before .before .before in
+    putting-starts _ _ _ _ _ _ (at-start .pre .0 .operands) (said-room (at-start .args .log .now) (at-start .args .strings .now) (at-start .args .out .now) _ (at-start .args .f) (at-start .pre .0) _ (c .before .before .before .put-head .ensures .1) (c .before .before .before .put-head .ensures .0) (at-start .pre .1))
 
-put-operands-requires : tie.Need-put-operands-requires
-put-operands-requires c κs = (c .before .before .before .before .before .before .before .before .before .before .pre .0 .operands, said-room (c .before .before .before .before .before .before .before .before .before .before .args .log .now) (c .before .before .before .before .before .before .before .before .before .before .args .strings .now) (c .before .before .before .before .before .before .before .before .before .before .args .out .now) _ (c .before .before .before .before .before .before .before .before .before .before .args .f) (c .before .before .before .before .before .before .before .before .before .before .pre .0) _ (c .before .before .before .before .before .put-head .ensures .1) (c .before .before .before .before .before .put-head .ensures .0) (c .before .before .before .before .before .before .before .before .before .before .pre .1))
+sub-put-operand : tie.Need-sub-put-operand Inv-loop μ-loop
+sub-put-operand c = omega (arith, putting-room (c .before .loop .inv) (c .loop-test .taken))
 
-same-length : tie.Need-same-length
-same-length c = search needs
+part-put-operand-start : tie.Need-part-put-operand-start Inv-loop μ-loop
+part-put-operand-start c = omega (arith, putting-room (c .before .loop .inv) (c .loop-test .taken))
 
-returns : tie.Need-returns
-returns c = said-put (c .before .before .before .before .before .before .before .before .before .before .before .before .before .args .log .now) (c .before .before .before .before .before .before .before .before .before .before .before .before .before .args .strings .now) (c .before .before .before .before .before .before .before .before .before .before .before .before .before .args .out .now) (c .before .before .before .before .before .before .before .before .put-head .last .1 .0) (c .before .before .before .before .before .before .before .before .before .before .before .before .before .args .f) (c .before .before .before .before .before .before .before .before .before .before .before .before .before .pre .0) (c .before .before .before .before .before .before .before .before .put-head .result) (c .before .before .before .before .before .before .before .before .put-head .ensures .1) (c .before .before .before .before .before .before .before .before .put-head .ensures .0) _ (c .before .before .put-operands .ensures)
+part-put-operand-end : tie.Need-part-put-operand-end Inv-loop μ-loop
+part-put-operand-end c = search needs
+
+put-operand-requires : tie.Need-put-operand-requires Inv-loop μ-loop
+put-operand-requires c κs =
+    let at-loop = c .before .before in
+    (putting-here (at-loop .loop .inv) (c .before .loop-test .taken), lent-room (at-loop .loop .out) _ _ (putting-room (at-loop .loop .inv) (c .before .loop-test .taken)))
+
+add-at : tie.Need-add-at Inv-loop μ-loop
+add-at c =
+    let at-start = c .before .before .before .before .before .before .before .before .before .before .before .before .before .before .before in
+    let at-loop = c .before .before .before .before .before .before in
+    let same : length (at-loop .loop .out) ≡ length (at-start .args .out .now) = putting-length (at-loop .loop .inv) ∙ c .before .before .before .before .before .before .before .before .before .out .given in
+    omega (arith, putting-room (at-loop .loop .inv) (c .before .before .before .before .before .loop-test .taken), c .before .before .before .put-operand .ensures .1 .0)
+
+sub-left : tie.Need-sub-left Inv-loop μ-loop
+sub-left c = search needs
+
+loop-less : tie.Need-loop-less Inv-loop μ-loop
+loop-less c = omega arith
+
+loop-again : tie.Need-loop-again Inv-loop μ-loop
+loop-again c =
+    let after = c .before .before .before in
+    putting-goes-on (c .before .before .before .before .before .before .loop .inv) (c .before .before .before .before .before .loop-test .taken) _ _ _ (after .put-operand .ensures .0) (after .put-operand .ensures .1 .0) (after .put-operand .ensures .1 .1)
+
+same-length : tie.Need-same-length Inv-loop μ-loop
+same-length c = putting-length (c .before .loop .inv) ∙ c .before .before .before .before .out .given
+
+returns : tie.Need-returns Inv-loop μ-loop
+returns c =
+    let at-start = c .before .before .before .before .before .before .before .before .before .before in
+    said-put (at-start .args .log .now) (at-start .args .strings .now) (at-start .args .out .now) _ (at-start .args .f) (at-start .pre .0) _ (c .before .before .before .before .before .put-head .ensures .1) (c .before .before .before .before .before .put-head .ensures .0) _ (putting-ends (c .before .loop .inv) (c .loop-test .left))
 
 pub put-instruction-spec : {M : Type 1} → statement M
 put-instruction-spec =
     tie.close
-    (tie.spec put-head-requires cast-count cast-start put-operands-requires same-length returns)
+    (tie.spec
+    Inv-loop
+    μ-loop
+    put-head-requires
+    cast-a
+    loop-holds
+    sub-put-operand
+    part-put-operand-start
+    part-put-operand-end
+    put-operand-requires
+    add-at
+    sub-left
+    loop-less
+    loop-again
+    same-length
+    returns)
