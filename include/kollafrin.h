@@ -2,11 +2,15 @@
  *
  * The functions are in libkollafrin.a (`rt staticlib kollafrin`). Each is proved against its contract in
  * crates/kollafrin/src/lib.rt: the number that it returns, each word of `answer` and each store after it follow from what goes in,
- * refused or not. None allocates, fails in another way than by its number, or keeps what it is lent.
+ * refused or not. None allocates, fails in another way than by its number, or keeps what it is lent. What each takes of the stack is
+ * in kollafrin_stack: a thread that has less left ends with a fault.
  *
  * A store passes as a pointer and the number of its elements (words of a uint32_t store, bytes of a uint8_t store). What a caller
- * owes: every pointer is valid for its length, aligned for its type and not null, even where the length is 0; and a store that is
- * written (no `const`) overlaps no other store of the same call.
+ * owes: every pointer is valid for its length and aligned for its type; and a store that is written (no `const`) overlaps no other
+ * store of the same call. Where the length is 0 the pointer may be null. `header` and `answer` are arrays: their pointers are not null.
+ *
+ * The library has no data that changes, so calls may run in several threads at once, each on stores of its own; what a call only
+ * reads (`const`) may be shared.
  *
  * Plain C99; also C++.
  */
@@ -72,6 +76,21 @@ enum kollafrin_load_word {
     KOLLAFRIN_LOAD_STRINGS = 6,      /* How many bytes of strings. */
     KOLLAFRIN_LOAD_TYPES = 7,        /* How many type entries, of three words each. */
     KOLLAFRIN_LOAD_HEADER = 8        /* Words 8 to 12: the five header words; 0 after 1, 2, 3, 24 and 31. */
+};
+
+/* The bytes of stack that a call takes at most on x86-64, for every input: the frames of the function and of all that it calls, return
+ * addresses included, as counted in the compiled library and rounded up; for C's memset and memcpy, which the loads call, 4,096 are
+ * counted. _SHORT is for a module of 16,384 bytes or less. */
+enum kollafrin_stack {
+    KOLLAFRIN_STACK_VERSION = 500,
+    KOLLAFRIN_STACK_BUILTIN = 500,
+    KOLLAFRIN_STACK_LOAD = 120000,
+    KOLLAFRIN_STACK_LOAD_SHORT = 64000,
+    KOLLAFRIN_STACK_LOAD_BUILTIN = 92000,
+    KOLLAFRIN_STACK_LOAD_BUILTIN_SHORT = 36000,
+    KOLLAFRIN_STACK_WRITE_PARSE_ORDER = 1500,
+    KOLLAFRIN_STACK_WRITE_MODULE_ORDER = 1500,
+    KOLLAFRIN_STACK_STANDING = 1500
 };
 
 /* The version of the library, which is KOLLAFRIN_VERSION of its header. */

@@ -14,7 +14,7 @@
 #include <stdio.h>
 #include <stdlib.h>
 
-/* Memory for n elements and never none: a pointer that is lent is not null. */
+/* Memory for n elements, and for one more, so that null always says that there is none. */
 static void *room(size_t n, size_t size) {
     void *p = calloc(n + 1, size);
     if (p == NULL) {

@@ -136,10 +136,10 @@ fn load_with(
 
 // THE STACK
 //
-// What a load works with lies in the frame of one of the next two functions, which differ in the hints alone. A frame has room for all
-// that its function declares, whichever branch is taken, so that one function for both would have a short module pay for the long
-// hints. And they stay functions: each is called from two places, and with its tables is too long to be put in line there.
-// tools/stack holds them to what include/kollafrin.h says.
+// All that a load works with lies in the frame of one of the next two functions, which differ in their hints alone. They are two because
+// a frame has room for everything that its function declares, whichever branch is taken: one function for both would have a short
+// module pay for the long hints. The compiler keeps them apart from their callers because each is called from two places and, with
+// its tables, is too long to be put in line there; tools/stack sees to it that this stays so.
 
 // A load of a short module: a long table of hints would take more time to clear than it saves.
 pub fn load_few(
