@@ -20,7 +20,7 @@ use spec::Loaded;
 use spec::State;
 
 // How many ids have a hint of where their type is, and how many in a short module.
-const HINTS: usize = 16384;
+const HINTS: usize = 32768;
 
 const FEW_HINTS: usize = 2048;
 
@@ -44,7 +44,7 @@ fn load_from(
     log: &mut [u8],
     strings: &mut [u8],
     types: &mut [u32],
-    hints: &mut [u32],
+    hints: &mut [u16],
     scratch: &mut [u8],
     spare: &mut [u8],
 ) -> Loaded
@@ -100,7 +100,7 @@ fn load_with(
     log: &mut [u8],
     strings: &mut [u8],
     types: &mut [u32],
-    hints: &mut [u32],
+    hints: &mut [u16],
     scratch: &mut [u8],
     spare: &mut [u8],
 ) -> Loaded
@@ -156,7 +156,7 @@ pub fn load_few(
 {
     let kinds = reflect::kinds();
     let table = reflect::table();
-    let mut hints = [0u32; FEW_HINTS];
+    let mut hints = [0u16; FEW_HINTS];
     let mut scratch = [0u8; SCRATCH];
     let mut spare = [0u8; SPARE];
     load_with(
@@ -190,7 +190,7 @@ pub fn load_many(
 {
     let kinds = reflect::kinds();
     let table = reflect::table();
-    let mut hints = [0u32; HINTS];
+    let mut hints = [0u16; HINTS];
     let mut scratch = [0u8; SCRATCH];
     let mut spare = [0u8; SPARE];
     load_with(

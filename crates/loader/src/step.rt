@@ -38,7 +38,7 @@ pub enum Step {
 // ROOM
 
 // What is taken with a decoded instruction more. It adds an entry at most: where there is room for one, no more is asked.
-fn need_after(p: Progress, d: Decoded, types: &[u32], hints: &[u32], room: Counts) -> Counts
+fn need_after(p: Progress, d: Decoded, types: &[u32], hints: &[u16], room: Counts) -> Counts
     requires { ⌜ (3 * p .types ≤ length (now types)) × (p .instructions < 67108864) ⌝ }
     requires { ⌜ Hinted (p .types) (now types) (now hints) (p .greatest) ⌝ }
     requires { ⌜ (p .log ≤ 1000000000) × (d .log ≤ 1000000000) × (p .strings ≤ 1000000000) × (d .strings ≤ 1000000000) ⌝ }
@@ -95,7 +95,7 @@ fn admit(
     p: Progress,
     d: Decoded,
     types: &[u32],
-    hints: &[u32],
+    hints: &[u16],
     room: Counts,
 ) -> Judged
     requires { ⌜ (3 * p .types ≤ length (now types)) × (p .instructions < 67108864) ⌝ }
@@ -129,7 +129,7 @@ fn judge(
     g: &[u8],
     index: &[u16],
     types: &[u32],
-    hints: &[u32],
+    hints: &[u16],
     scratch: &mut [u8],
     spare: &mut [u8],
     room: Counts,
@@ -177,7 +177,7 @@ fn keep_operands(
     log: &mut [u8],
     strings: &mut [u8],
     types: &[u32],
-    hints: &[u32],
+    hints: &[u16],
     scratch: &[u8],
     spare: &[u8],
     p: Progress,
@@ -233,7 +233,7 @@ fn keep(
     log: &mut [u8],
     strings: &mut [u8],
     types: &mut [u32],
-    hints: &mut [u32],
+    hints: &mut [u16],
     scratch: &[u8],
     spare: &[u8],
     p: Progress,
@@ -301,7 +301,7 @@ pub fn take(
     log: &mut [u8],
     strings: &mut [u8],
     types: &mut [u32],
-    hints: &mut [u32],
+    hints: &mut [u16],
     scratch: &mut [u8],
     spare: &mut [u8],
     room: Counts,

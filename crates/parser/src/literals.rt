@@ -48,7 +48,7 @@ fn integer_kind(width: u32) -> u8
 }
 
 // The kind of a literal by the type of an id: one word where it is not known.
-pub fn literal_kind(types: &[u32], hints: &[u32], tracker: TypeTracker, id: Id) -> u8
+pub fn literal_kind(types: &[u32], hints: &[u16], tracker: TypeTracker, id: Id) -> u8
     requires { ⌜ 3 * tracker .count ≤ length (now types) ⌝ }
     requires { ⌜ Hinted (tracker .count) (now types) (now hints) (tracker .greatest) ⌝ }
     ensures { λ r. ⌜ (kindIs r ≡ literalKindOf (typeOf (idIs id) (entriesOf (tracker .count) (now (types .entry))))) × (isLiteral r ≡ true) ⌝ }
@@ -75,7 +75,7 @@ pub fn parse_literal(
     g: &[u8],
     index: &[u16],
     types: &[u32],
-    hints: &[u32],
+    hints: &[u16],
     tracker: TypeTracker,
     id: Id,
     log: &mut [u8],
@@ -109,7 +109,7 @@ pub fn parse_literal_pair(
     g: &[u8],
     index: &[u16],
     types: &[u32],
-    hints: &[u32],
+    hints: &[u16],
     tracker: TypeTracker,
     id: Id,
     log: &mut [u8],

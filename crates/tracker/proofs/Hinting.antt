@@ -15,7 +15,7 @@ use Rattle.spec.specs.Base.{if_then_else_}
 use Rattle.spec.specs.Records.{Entry, entry}
 use Rattle.spec.specs.Types.{define}
 use Rattle.tracker.specs.Entries.{entriesOf, stored, placeFrom, placeOf}
-use Rattle.tracker.specs.Hints.{believed, hintOf, noted, newOf, hintsWith, greaterOf, greatestWith, Hinted}
+use Rattle.tracker.specs.Hints.{believed, hintOf, late, hintFor, noted, newOf, hintsWith, greaterOf, greatestWith, Hinted}
 use Rattle.tracker.proofs.Laws.{Sits, here, later, Misses, nowhere, not-here, sits-within, entries-stored, length-found, defined-found, length-missed, defined-missed}
 
 -- A HINT
@@ -36,50 +36,50 @@ module _ (n : ℕ) (l hs : List ℕ) (i : ℕ) where
   unfolding hintOf believed
   hint-past h = simp (le-ltb (getD hs i 0) n h)
 
+-- an index that a hint says
+pub hint-soon : (k : ℕ) → k < late → k ≡ hintFor k
+unfolding hintFor
+hint-soon k h = simp (lt-ltb k late h)
+
+-- an index that comes too late for one
+pub hint-late : (k : ℕ) → late ≤ k → late ≡ hintFor k
+unfolding hintFor
+hint-late k h = simp (le-ltb k late h)
+
+-- a hint that is not late says its index, by whether that comes too late
+hint-says-by : (k : ℕ) (t : Bool) → ltb k late ≡ t → (hintFor k ≡ late → ⊥) → hintFor k ≡ k
+hint-says-by k true e h = sym (hint-soon k (ltb-true k late e))
+hint-says-by k false e h = absurd (h (sym (hint-late k (ltb-false k late e))))
+
+-- a hint that is not late says its index
+hint-says : (k : ℕ) → (hintFor k ≡ late → ⊥) → hintFor k ≡ k
+hint-says k h = hint-says-by k (ltb k late) refl h
+
 module _ (hs : List ℕ) (i k : ℕ) where
   -- an index is noted
-  pub note-here : k < 4294967296 → set hs i k ≡ noted hs i k
+  pub note-here : (h : ℕ) → h ≡ hintFor k → set hs i h ≡ noted hs i k
   unfolding noted
-  note-here m = simp (lt-ltb k 4294967296 m)
+  note-here h e = ap (set hs i) e
 
-  -- an index of more than 32 bits is not
-  pub note-wide : 4294967296 ≤ k → hs ≡ noted hs i k
-  unfolding noted
-  note-wide m = simp (le-ltb k 4294967296 m)
-
-  -- nor is any for an id that has no hint, by the width of the index
-  high-by : length hs ≤ i → (t : Bool) → hs ≡ (if t then set hs i k else hs)
-  high-by h true = sym (set-out hs i k h)
-  high-by h false = refl
-
-  -- nor is any for an id that has no hint
+  -- for an id that has no hint none is
   pub note-high : length hs ≤ i → hs ≡ noted hs i k
   unfolding noted
-  note-high h = high-by h (ltb k 4294967296)
-
-  -- there are as many hints, by the width of the index
-  length-by : (t : Bool) → length (if t then set hs i k else hs) ≡ length hs
-  length-by true = length-set hs i k
-  length-by false = refl
+  note-high h = sym (set-out hs i (hintFor k) h)
 
   -- there are as many hints
   length-noted : length (noted hs i k) ≡ length hs
   unfolding noted
-  length-noted = length-by (ltb k 4294967296)
-
-  -- another hint stays, by the width of the index
-  other-by : (j : ℕ) → (j ≡ i → ⊥) → (t : Bool) → getD (if t then set hs i k else hs) j 0 ≡ getD hs j 0
-  other-by j e true = getD-set-other hs i j k 0 e
-  other-by j e false = refl
+  length-noted = length-set hs i (hintFor k)
 
   -- another hint stays
   hint-stays : (j : ℕ) → (j ≡ i → ⊥) → getD (noted hs i k) j 0 ≡ getD hs j 0
   unfolding noted
-  hint-stays j e = other-by j e (ltb k 4294967296)
+  hint-stays j e = getD-set-other hs i j (hintFor k) 0 e
 
   -- its own is what is noted
-  hint-is : i < length hs → k < 4294967296 → getD (noted hs i k) i 0 ≡ k
-  hint-is h m = ap (λ (z : List ℕ). getD z i 0) (sym (note-here m)) ∙ getD-set-same hs i k 0 h
+  hint-is : i < length hs → getD (noted hs i k) i 0 ≡ hintFor k
+  unfolding noted
+  hint-is h = getD-set-same hs i (hintFor k) 0 h
 
 -- NEW ENTRIES
 
@@ -197,7 +197,7 @@ entries-after n l t es p q h =
 -- any hints are those of no entries
 pub hinted-none : (l hs : List ℕ) (g : ℕ) → Hinted 0 l hs g
 unfolding hintOf believed placeOf placeFrom entriesOf
-hinted-none l hs g = record { right = λ m id q. simp (le-ltb (getD hs id 0) 0 (omega arith)); above = λ id q. refl }
+hinted-none l hs g = record { right = λ id q u. simp (le-ltb (getD hs id 0) 0 (omega arith)); above = λ id q. refl }
 
 -- an id that is found is defined
 module _ {i n k : ℕ} {l : List ℕ} (m : Sits i n k l) (w s : ℕ) (room : 3 * n ≤ length l) (t : List ℕ) (e : t ≡ sets l (3 * k) (i ∷ w ∷ s ∷ [])) where
@@ -231,7 +231,7 @@ module _ {i n k : ℕ} {l : List ℕ} (m : Sits i n k l) (w s : ℕ) (room : 3 *
   -- so the hints stay right
   pub hinted-found : {hs : List ℕ} {g : ℕ} → Hinted n l hs g → Hinted n t hs g
   hinted-found {hs} r = record {
-    right = λ f j q. same-hint hs j ∙ r .right f j q ∙ sym (same-place j);
+    right = λ j q u. same-hint hs j ∙ r .right j q u ∙ sym (same-place j);
     above = λ j q. same-place j ∙ r .above j q;
   }
 
@@ -279,22 +279,31 @@ module _ {i n : ℕ} {l : List ℕ} (m : Misses i n l) (w s : ℕ) (room : 3 * n
       simp (p, le-ltb h (n + 1) (omega arith))
 
   module _ {hs : List ℕ} {g : ℕ} (r : Hinted n l hs g) (ks : List ℕ) (f : ks ≡ noted hs i n) where
-    -- its own hint is right
-    own-right : n < 4294967296 → i < length hs → hintOf (n + 1) t ks i ≡ placeOf i (entriesOf (n + 1) t)
+    -- its own hint is what is noted
+    own-hint : i < length hs → getD ks i 0 ≡ hintFor n
+    own-hint q = ap (λ (z : List ℕ). getD z i 0) f ∙ hint-is hs i n q
+
+    -- it is right, where it is not late
+    own-right : i < length hs → (getD ks i 0 ≡ late → ⊥) → hintOf (n + 1) t ks i ≡ placeOf i (entriesOf (n + 1) t)
     unfolding hintOf
-    own-right h q =
-        ap (λ (z : ℕ). believed (n + 1) t z i) (ap (λ (z : List ℕ). getD z i 0) f ∙ hint-is hs i n q h) ∙ own-believed ∙ last-place
+    own-right q u =
+        let says : hintFor n ≡ n = hint-says n (λ e. u (own-hint q ∙ e)) in
+        ap (λ (z : ℕ). believed (n + 1) t z i) (own-hint q ∙ says) ∙ own-believed ∙ last-place
 
     -- so is each, by whether it is its own
-    right-by : n < 4294967296 → (j : ℕ) → j < length hs → (y : Bool) → eqb i j ≡ y → hintOf (n + 1) t ks j ≡ placeOf j (entriesOf (n + 1) t)
+    right-by : (j : ℕ) → j < length hs → (getD ks j 0 ≡ late → ⊥) → (y : Bool) → eqb i j ≡ y
+        → hintOf (n + 1) t ks j ≡ placeOf j (entriesOf (n + 1) t)
     unfolding hintOf
-    right-by h j q true p =
-        subst (λ (z : ℕ). z < length hs → believed (n + 1) t (getD ks z 0) z ≡ placeOf z (entriesOf (n + 1) t)) (eqb-true i j p) (own-right h) q
-    right-by h j q false p =
+    right-by j q u true p =
+        subst
+        (λ (z : ℕ). z < length hs → (getD ks z 0 ≡ late → ⊥) → believed (n + 1) t (getD ks z 0) z ≡ placeOf z (entriesOf (n + 1) t))
+        (eqb-true i j p) own-right q u
+    right-by j q u false p =
         let d = eqb-false i j p in
-        ap (λ (z : ℕ). believed (n + 1) t z j) (ap (λ (z : List ℕ). getD z j 0) f ∙ hint-stays hs i n j (λ u. d (sym u)))
+        let stays : getD ks j 0 ≡ getD hs j 0 = ap (λ (z : List ℕ). getD z j 0) f ∙ hint-stays hs i n j (λ e. d (sym e)) in
+        ap (λ (z : ℕ). believed (n + 1) t z j) stays
         ∙ believed-by (getD hs j 0) j d (ltb (getD hs j 0) n) (eqb (getD hs j 0) n) refl refl
-        ∙ r .right (omega arith) j q
+        ∙ r .right j q (λ e. u (stays ∙ e))
         ∙ sym (others-place j d)
 
     -- the hints with its own are those of the store with its entry
@@ -302,6 +311,6 @@ module _ {i n : ℕ} {l : List ℕ} (m : Misses i n l) (w s : ℕ) (room : 3 * n
     hinted-missed k a =
         let b = greater-than g i in
         record {
-          right = λ h j q. right-by (omega arith) j (omega (arith, ap length f, length-noted hs i n)) (eqb i j) refl;
+          right = λ j q u. right-by j (omega (arith, ap length f, length-noted hs i n)) u (eqb i j) refl;
           above = λ j q. others-place j (λ u. omega (arith, b .1)) ∙ r .above j (omega (arith, b .0));
         }

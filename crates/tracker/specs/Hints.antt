@@ -1,5 +1,5 @@
 -- Hints: for each id below their number where its entry may stand, tested before it is believed.
-use Prim.Native.Nat.{ℕ, _+_, _*_, _<_, _≤_}
+use Prim.Native.Nat.{ℕ, _+_, _*_, _<_}
 use mathlib.Core.Path.{_≡_}
 use mathlib.Core.List.{List, [], _∷_}
 use lib.Dec.{ltb, eqb}
@@ -18,9 +18,17 @@ believed count types h id = if ltb h count then if eqb (getD types (3 * h) 0) id
 unfoldable pub hintOf : ℕ → List ℕ → List ℕ → ℕ → Found
 hintOf count types hints id = believed count types (getD hints id 0) id
 
--- the hints after an index is noted for an id, where it has a hint; a hint has 32 bits
+-- a hint that says that the entry comes too late for one: a hint has 16 bits
+abbrev pub late : ℕ
+late = 65535
+
+-- the hint that says an index
+unfoldable pub hintFor : ℕ → ℕ
+hintFor index = if ltb index late then index else late
+
+-- the hints after an index is noted for an id, where it has a hint
 unfoldable pub noted : List ℕ → ℕ → ℕ → List ℕ
-noted hints id index = if ltb index 4294967296 then set hints id index else hints
+noted hints id index = set hints id (hintFor index)
 
 -- the entries that come after the first n
 unfoldable pub newOf : ℕ → List Entry → List Entry
@@ -40,7 +48,9 @@ unfoldable pub greatestWith : List Entry → ℕ → ℕ
 greatestWith [] g = g
 greatestWith (entry id w s ∷ es) g = greatestWith es (greaterOf g id)
 
--- the hints of a store with so many entries: up to 2^32 entries each hint says where its id's entry stands, and no id above the greatest has one
+-- the hints of a store with so many entries: each that is not late says where its id's entry stands, or that it has none; and no id
+-- above the greatest has one
 pub record Hinted (count : ℕ) (types hints : List ℕ) (greatest : ℕ) : Type 0 where
-  pub right : count ≤ 4294967296 → (id : ℕ) → id < length hints → hintOf count types hints id ≡ placeOf id (entriesOf count types)
+  pub right : (id : ℕ) → id < length hints → (getD hints id 0 ≡ late → ⊥)
+      → hintOf count types hints id ≡ placeOf id (entriesOf count types)
   pub above : (id : ℕ) → greatest < id → placeOf id (entriesOf count types) ≡ Nothing

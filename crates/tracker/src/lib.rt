@@ -8,15 +8,15 @@ ghost use Rattle.spec.specs.Records.{Entry};
 ghost use Rattle.spec.specs.Types.{entryOf, define, trackValue};
 ghost use Rattle.operand.specs.Parts.{Fits};
 ghost use Rattle.tracker.specs.Entries.{entriesOf, stored, placeOf, typeAt, resolvedIs};
-ghost use Rattle.tracker.specs.Hints.{hintOf, noted, newOf, hintsWith, greaterOf, greatestWith, Hinted};
+ghost use Rattle.tracker.specs.Hints.{hintOf, hintFor, noted, newOf, hintsWith, greaterOf, greatestWith, Hinted};
 ghost use Rattle.tracker.specs.Track.{idIs, literalOf, FirstFit, intOf, floatOf, typeOf, trackOf, changed};
 use operand::Operand;
 use operand::Parts;
 use operand::operand_of;
 use spec::Found;
 
-// More entries than this have no hints, as a hint has 32 bits.
-const MOST_HINTED: usize = 4294967296;
+// A hint has 16 bits. This one says that the id's entry comes too late for one: it is among all.
+const LATE: u16 = 65535;
 
 // An id that is there or not: a result type or a result id.
 pub enum Id {
@@ -58,7 +58,7 @@ fn scan(types: &[u32], count: usize, id: u32) -> Found
 }
 
 // The entry that the hint of an id names, where that is the id's own.
-fn tested(types: &[u32], count: usize, hints: &[u32], id: u32) -> Found
+fn tested(types: &[u32], count: usize, hints: &[u16], id: u32) -> Found
     requires { ⌜ (3 * count ≤ length (now types)) × (id < length (now hints)) ⌝ }
     ensures { λ r. ⌜ r ≡ hintOf count (now (types .entry)) (now (hints .entry)) id ⌝ }
 {
@@ -73,8 +73,8 @@ fn tested(types: &[u32], count: usize, hints: &[u32], id: u32) -> Found
     Found::Nothing
 }
 
-// Where an id's entry stands: an id above the greatest has none, and one that has a hint stands where that says.
-fn find(types: &[u32], count: usize, hints: &[u32], greatest: u32, id: u32) -> Found
+// Where an id's entry stands: an id above the greatest has none, and one that has a hint stands where that says, if it says where.
+fn find(types: &[u32], count: usize, hints: &[u16], greatest: u32, id: u32) -> Found
     requires { ⌜ 3 * count ≤ length (now types) ⌝ }
     requires { ⌜ Hinted count (now types) (now hints) greatest ⌝ }
     ensures { λ r. ⌜ r ≡ placeOf id (entriesOf count (now (types .entry))) ⌝ }
@@ -84,22 +84,30 @@ fn find(types: &[u32], count: usize, hints: &[u32], greatest: u32, id: u32) -> F
     }
     let at = id as usize;
     if at < hints.len() {
-        if count <= MOST_HINTED {
+        if hints[at] != LATE {
             return tested(types, count, hints, id);
         }
     }
     scan(types, count, id)
 }
 
+// The hint that says an index.
+fn hint_for(index: usize) -> u16
+    ensures { λ r. ⌜ r ≡ hintFor index ⌝ }
+{
+    if index < 65535 {
+        return index as u16;
+    }
+    LATE
+}
+
 // Notes the index of an id's entry as its hint, where there is one for it.
-fn note(hints: &mut [u32], id: u32, index: usize)
+fn note(hints: &mut [u16], id: u32, index: usize)
     ensures { λ _. ⌜ now (hints .exit) ≡ noted (now (hints .entry)) id index ⌝ }
 {
     let at = id as usize;
     if at < hints.len() {
-        if index < MOST_HINTED {
-            hints[at] = index as u32;
-        }
+        hints[at] = hint_for(index);
     }
 }
 
@@ -196,7 +204,7 @@ impl TypeTracker {
     }
 
     // The type of an id.
-    pub fn resolve(self, types: &[u32], hints: &[u32], id: u32) -> Resolved
+    pub fn resolve(self, types: &[u32], hints: &[u16], id: u32) -> Resolved
         requires { ⌜ 3 * self .count ≤ length (now types) ⌝ }
         requires { ⌜ Hinted (self .count) (now types) (now hints) (self .greatest) ⌝ }
         ensures { λ r. ⌜ resolvedIs id r ≡ entryOf id (entriesOf (self .count) (now (types .entry))) ⌝ }
@@ -209,7 +217,7 @@ impl TypeTracker {
     }
 
     // A result that is no type: it has the type of its result type, where that is known.
-    fn track_value(self, types: &[u32], hints: &[u32], id: u32, rtype: Id) -> Change
+    fn track_value(self, types: &[u32], hints: &[u16], id: u32, rtype: Id) -> Change
         requires { ⌜ 3 * self .count ≤ length (now types) ⌝ }
         requires { ⌜ Hinted (self .count) (now types) (now hints) (self .greatest) ⌝ }
         ensures { λ r. ⌜ changed r (entriesOf (self .count) (now (types .entry)))
@@ -229,7 +237,7 @@ impl TypeTracker {
     fn change(
         self,
         types: &[u32],
-        hints: &[u32],
+        hints: &[u16],
         opcode: u16,
         rtype: Id,
         rid: Id,
@@ -257,7 +265,7 @@ impl TypeTracker {
     pub fn after(
         self,
         types: &[u32],
-        hints: &[u32],
+        hints: &[u16],
         opcode: u16,
         rtype: Id,
         rid: Id,
@@ -292,7 +300,7 @@ impl TypeTracker {
     fn define(
         mut self,
         types: &mut [u32],
-        hints: &mut [u32],
+        hints: &mut [u16],
         id: u32,
         width: u32,
         sort: u32,
@@ -324,7 +332,7 @@ impl TypeTracker {
     pub fn track(
         self,
         types: &mut [u32],
-        hints: &mut [u32],
+        hints: &mut [u16],
         opcode: u16,
         rtype: Id,
         rid: Id,

@@ -1,11 +1,11 @@
 -- `tracker::note` meets its contract.
 use borrow.Author.Needs.{needs}
-use Rattle.tracker.proofs.Hinting.{note-here, note-wide, note-high}
+use Rattle.tracker.proofs.Hinting.{note-here, note-high}
 use Rattle.tracker.proofs.note.Statement.{statement}
 use Rattle.tracker.proofs.note.Tie as tie
 
-cast-hints : tie.Need-cast-hints
-cast-hints c = search needs
+hint-for-requires : tie.Need-hint-for-requires
+hint-for-requires c κs = search needs
 
 mul-hints : tie.Need-mul-hints
 mul-hints c = search needs
@@ -17,22 +17,11 @@ same-length : tie.Need-same-length
 same-length c = search needs
 
 returns : tie.Need-returns
-returns c = note-here _ _ _ (c .if2 .taken)
+returns c = note-here _ _ _ _ (c .hint-for .ensures)
 
 returns-2 : tie.Need-returns-2
-returns-2 c = note-wide _ _ _ (c .if2 .left)
-
-returns-3 : tie.Need-returns-3
-returns-3 c = note-high _ _ _ (c .if1 .left)
+returns-2 c = note-high _ _ _ (c .if1 .left)
 
 pub note-spec : {M : Type 1} → statement M
 note-spec =
-    tie.close
-    (tie.spec
-    cast-hints
-    mul-hints
-    slice-write-hints
-    same-length
-    returns
-    returns-2
-    returns-3)
+    tie.close (tie.spec hint-for-requires mul-hints slice-write-hints same-length returns returns-2)
