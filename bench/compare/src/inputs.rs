@@ -36,6 +36,9 @@ pub fn systematic<'a>(builtin: &'a Grammar, shaders: &'a [Vec<u8>], seed: u64) -
     for length in 0..18 {
         jobs.push(Box::new(move |judge| strings(judge, length)));
     }
+    for entries in [0, 3_000, 65_533, 65_540] {
+        jobs.push(Box::new(move |judge| hints(judge, entries)));
+    }
     for (n, shader) in shaders.iter().enumerate() {
         jobs.push(Box::new(move |judge| whole_shader(judge, shader, mix(seed, 1000 + n as u64))));
     }
@@ -59,6 +62,22 @@ fn huge(judge: &mut Judge) {
     judge.load("huge", &m, None, [64; 4]);
     m[20..24].copy_from_slice(&0x0001_013Du32.to_le_bytes());
     judge.load("huge", &m, None, [64; 4]);
+}
+
+/// Types of ids around every length of the table that the library looks types up by, defined after so many other entries, with rising,
+/// falling and low ids between, and defined again. A literal that is read by a wrong type has another length, and is refused.
+fn hints(judge: &mut Judge, entries: u32) {
+    let ids = [2, 2_047, 2_048, 2_049, 32_767, 32_768, 32_769, 65_534, 65_535, 65_536, u32::MAX];
+    let before: Vec<u32> = (0..entries).flat_map(|n| inst(1, &[1, 100_000 + n])).collect();
+    let typed = |id: u32, width: u32| {
+        let literal = if width == 64 { vec![7, 1] } else { vec![7] };
+        [inst(21, &[id, width, 0]), inst(43, &[&[id, 200_000 + id % 100][..], &literal].concat())].concat()
+    };
+    let each = |ids: &[u32], width: u32| ids.iter().flat_map(|id| typed(*id, width)).collect::<Vec<u32>>();
+    let falling: Vec<u32> = ids.iter().rev().copied().collect();
+    for words in [[each(&ids, 64), each(&falling, 32)].concat(), [each(&falling, 64), each(&ids, 16)].concat()] {
+        judge.module("types by hints", &module(&[inst(21, &[1, 32, 0]), before.clone(), words].concat()));
+    }
 }
 
 fn named(judge: &mut Judge, input: &Input) {
