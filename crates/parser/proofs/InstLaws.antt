@@ -32,7 +32,7 @@ use Rattle.parser.specs.declared.simple.Simple.{Simple}
 use Rattle.parser.specs.declared.simple.Simple.the-variants.{On}
 use Rattle.parser.specs.declared.inst.InstRead.{InstRead}
 use Rattle.parser.specs.declared.inst.InstRead.the-variants.{Got, Refused}
-use Rattle.parser.specs.Parse.{Notes, notesOf, noteAs, note, notes, noNotes, leftOf, isOperand, slotsAt, RowRead, Walks}
+use Rattle.parser.specs.Parse.{Notes, firstOf, secondOf, notesOf, noteAs, note, notes, noNotes, leftOf, isOperand, slotsAt, RowRead, Walks}
 use Rattle.parser.specs.Inst.{Ended, Decodes, DecodesOver, ShapeIs, RowIs}
 use Rattle.parser.specs.Simple.{RowReads}
 use Rattle.parser.specs.Body.{bodyRead}
@@ -72,7 +72,7 @@ module _ (n : Used) (os : List Operand) (e : notesOf n ≡ notes os noNotes) whe
   used-count = omega (arith, ap (λ (m : Notes). m .count) e, count-notes os noNotes)
 
   -- what the first two in use are
-  used-literals : Literals os (literalOf (n .first)) (literalOf (n .second))
+  used-literals : Literals os (literalOf (firstOf n)) (literalOf (secondOf n))
   unfolding notesOf
   used-literals = subst (λ (m : Notes). Literals os (m .first) (m .second)) (sym e) (noted-literals os)
 

@@ -15,7 +15,6 @@ use Rattle.spec.specs.Records.{Operand, narrow, wide, text, Entry}
 use Rattle.spec.specs.Reader.{Reader, Read, refused, after, give, readWord}
 use Rattle.spec.specs.Grammar.{Grammar}
 use Rattle.spec.specs.Match.{Seen, selector, withType, withId, withOperands, readEach, readEmbedded, readOperand, readPair, readKind, readSlot}
-use Rattle.operand.specs.Parts.{parts}
 use Rattle.decoder.specs.declared.Decoder.{Decoder}
 use Rattle.decoder.specs.declared.WordRead.the-variants.{Got as Word, Refused as NoWord}
 use Rattle.decoder.specs.Answer.{readerOf, wordFrom}
@@ -329,21 +328,21 @@ goes-on p q e = simp (ne-eqb q 2 e)
 
 -- nothing is in use
 pub no-use : (a b c : ℕ)
-    → record { rtype = 0; rid = 0; operands = 0; first = parts 0 0; second = parts 0 0; log = a; strings = b; base = c } ≡ unused a b c
+    → record { rtype = 0; rid = 0; operands = 0; kind1 = 0; value1 = 0; kind2 = 0; value2 = 0; log = a; strings = b; base = c } ≡ unused a b c
 unfolding unused
 no-use a b c = refl
 
 module _ (u : Used) (k n : ℕ) where
   -- a result type
   pub type-more : k ≡ 46
-      → record { rtype = n; rid = u .rid; operands = u .operands; first = u .first; second = u .second; log = u .log; strings = u .strings; base = u .base }
+      → record { rtype = n; rid = u .rid; operands = u .operands; kind1 = u .kind1; value1 = u .value1; kind2 = u .kind2; value2 = u .value2; log = u .log; strings = u .strings; base = u .base }
       ≡ withResult k n u
   unfolding withResult withResults
   type-more e = simp (eq-eqb k 46 e)
 
   -- a result id
   pub id-more : (k ≡ 46 → ⊥)
-      → record { rtype = u .rtype; rid = n; operands = u .operands; first = u .first; second = u .second; log = u .log; strings = u .strings; base = u .base }
+      → record { rtype = u .rtype; rid = n; operands = u .operands; kind1 = u .kind1; value1 = u .value1; kind2 = u .kind2; value2 = u .value2; log = u .log; strings = u .strings; base = u .base }
       ≡ withResult k n u
   unfolding withResult withResults
   id-more e = simp (ne-eqb k 46 e)

@@ -8,8 +8,7 @@ use borrow.Author.Tests.{eq-eqb, ne-eqb, lt-ltb, le-ltb}
 use lib.Dec.{leb}
 use lib.ListN.{length, take, drop}
 use lib.Seq.{slice, take-add, drop-at, length-take-le}
-use Rattle.operand.specs.declared.Parts.{Parts}
-use Rattle.operand.specs.Parts.{isTwo, Fits}
+use Rattle.operand.specs.Parts.{parts, isTwo, Fits}
 use Rattle.operand.specs.Log.{recordLength, lengthBy, kept, Laid}
 use Rattle.operand.proofs.LogLaws.{laid-kept}
 use Rattle.tracker.specs.Track.{literalOf}
@@ -38,25 +37,25 @@ module _ (u : Used) where
 
   module _ (h : u .operands ≡ 0 → ⊥) where
     -- it is an id
-    pub selector-there : u .first .kind ≡ 33 → some (u .first .value) ≡ selectorOf u
+    pub selector-there : u .kind1 ≡ 33 → some (u .value1) ≡ selectorOf u
     unfolding selectorOf idRefOf
-    selector-there e = simp (ne-eqb (u .operands) 0 h, eq-eqb (u .first .kind) 33 e)
+    selector-there e = simp (ne-eqb (u .operands) 0 h, eq-eqb (u .kind1) 33 e)
 
     -- it is none
-    pub selector-absent : (u .first .kind ≡ 33 → ⊥) → none ≡ selectorOf u
+    pub selector-absent : (u .kind1 ≡ 33 → ⊥) → none ≡ selectorOf u
     unfolding selectorOf idRefOf
-    selector-absent e = simp (ne-eqb (u .operands) 0 h, ne-eqb (u .first .kind) 33 e)
+    selector-absent e = simp (ne-eqb (u .operands) 0 h, ne-eqb (u .kind1) 33 e)
 
     -- its value is a word
-    pub selector-small : FirstFits u → u .first .kind ≡ 33 → u .first .value < 4294967296
+    pub selector-small : FirstFits u → u .kind1 ≡ 33 → u .value1 < 4294967296
     selector-small f e = f .first (omega (arith, h)) .small (ap isTwo e)
 
 -- ONE OPERAND MORE
 
-module _ (u : Used) (p : Parts) (log : ℕ) (f : Fits (p .kind) (p .value)) (l : log ≡ u .log + recordLength p) where
+module _ (u : Used) (k v log : ℕ) (f : Fits k v) (l : log ≡ u .log + recordLength (parts k v)) where
   -- the first operand
   pub note-first : u .operands ≡ 0
-      → Pushed (p .kind) (p .value) u (record { rtype = u .rtype; rid = u .rid; operands = 1; first = p; second = u .second; log = log; strings = u .strings; base = u .base })
+      → Pushed k v u (record { rtype = u .rtype; rid = u .rid; operands = 1; kind1 = k; value1 = v; kind2 = u .kind2; value2 = u .value2; log = log; strings = u .strings; base = u .base })
   unfolding notesOf selectorOf noteAs
   note-first e =
       record {
@@ -71,7 +70,7 @@ module _ (u : Used) (p : Parts) (log : ℕ) (f : Fits (p .kind) (p .value)) (l :
 
   -- the second
   pub note-second : u .operands ≡ 1
-      → Pushed (p .kind) (p .value) u (record { rtype = u .rtype; rid = u .rid; operands = 2; first = u .first; second = p; log = log; strings = u .strings; base = u .base })
+      → Pushed k v u (record { rtype = u .rtype; rid = u .rid; operands = 2; kind1 = u .kind1; value1 = u .value1; kind2 = k; value2 = v; log = log; strings = u .strings; base = u .base })
   unfolding notesOf selectorOf noteAs
   note-second e =
       record {
@@ -86,7 +85,7 @@ module _ (u : Used) (p : Parts) (log : ℕ) (f : Fits (p .kind) (p .value)) (l :
 
   -- a later one
   pub note-later : (u .operands ≡ 0 → ⊥) → (u .operands ≡ 1 → ⊥)
-      → Pushed (p .kind) (p .value) u (record { rtype = u .rtype; rid = u .rid; operands = u .operands + 1; first = u .first; second = u .second; log = log; strings = u .strings; base = u .base })
+      → Pushed k v u (record { rtype = u .rtype; rid = u .rid; operands = u .operands + 1; kind1 = u .kind1; value1 = u .value1; kind2 = u .kind2; value2 = u .value2; log = log; strings = u .strings; base = u .base })
   unfolding notesOf selectorOf noteAs
   note-later h i =
       record {
@@ -96,7 +95,7 @@ module _ (u : Used) (p : Parts) (log : ℕ) (f : Fits (p .kind) (p .value)) (l :
         strings = refl;
         log = l;
         noted = simp (ne-eqb (u .operands) 0 h, ne-eqb (u .operands) 1 i, ne-eqb (u .operands + 1) 0 (λ e. omega arith));
-        fits = λ q. record { first = λ k. q .first (omega (arith, h)); second = λ k. q .second (omega (arith, h, i)) };
+        fits = λ q. record { first = λ m. q .first (omega (arith, h)); second = λ m. q .second (omega (arith, h, i)) };
       }
 
 -- STRINGS
@@ -107,7 +106,7 @@ fits-text v = record { known = refl; small = λ e. let z : _≡_ {A = ℕ} 0 1 =
 
 -- its bytes follow
 pub copied : (size v : ℕ) (u n : Used) → Pushed 40 v u n
-    → Copied size u (record { rtype = n .rtype; rid = n .rid; operands = n .operands; first = n .first; second = n .second; log = n .log; strings = u .strings + size; base = n .base })
+    → Copied size u (record { rtype = n .rtype; rid = n .rid; operands = n .operands; kind1 = n .kind1; value1 = n .value1; kind2 = n .kind2; value2 = n .value2; log = n .log; strings = u .strings + size; base = n .base })
 unfolding recordLength lengthBy notesOf selectorOf literalOf idRefOf
 copied size v u n p =
     record { rtype = p .rtype; rid = p .rid; base = p .base; strings = refl; log = p .log; noted = p .noted; fits = p .fits }

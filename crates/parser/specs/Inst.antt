@@ -14,7 +14,7 @@ use Rattle.operand.specs.Log.{Laid}
 use Rattle.decoder.specs.declared.Decoder.{Decoder}
 use Rattle.decoder.specs.Answer.{limitReached}
 use Rattle.tracker.specs.Track.{idIs, FirstFit, literalOf, Literals}
-use Rattle.parser.specs.Parse.{wordIs, isOperand, slotsAt}
+use Rattle.parser.specs.Parse.{wordIs, firstOf, secondOf, isOperand, slotsAt}
 use Rattle.parser.specs.Body.{bodyRead}
 use Rattle.parser.specs.declared.used.Used.{Used}
 use Rattle.parser.specs.declared.inst.Decoded.{Decoded}
@@ -51,8 +51,8 @@ pub record Ends (count op place : ℕ) (n : Used) (r : Decoded) : Type 0 where
   pub rtype : idIs (r .rtype) ≡ wordIs (n .rtype)
   pub rid : idIs (r .rid) ≡ wordIs (n .rid)
   pub operands : r .operands ≡ n .operands
-  pub first : r .first ≡ n .first
-  pub second : r .second ≡ n .second
+  pub first : r .first ≡ firstOf n
+  pub second : r .second ≡ secondOf n
   pub log : r .log ≡ n .log
   pub strings : r .strings ≡ n .strings
 

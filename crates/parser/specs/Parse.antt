@@ -46,13 +46,21 @@ wordIs n = if ltb n 4294967296 then none else some (n % 4294967296)
 unfoldable pub idRefOf : Parts → Option ℕ
 idRefOf p = if eqb (p .kind) 33 then some (p .value) else none
 
+-- the first operand in use
+abbrev pub firstOf : Used → Parts
+firstOf u = parts (u .kind1) (u .value1)
+
+-- the second
+abbrev pub secondOf : Used → Parts
+secondOf u = parts (u .kind2) (u .value2)
+
 -- the id that the first operand in use is
 unfoldable pub selectorOf : Used → Option ℕ
-selectorOf u = if eqb (u .operands) 0 then none else idRefOf (u .first)
+selectorOf u = if eqb (u .operands) 0 then none else idRefOf (firstOf u)
 
 -- the notes of what is in use
 unfoldable pub notesOf : Used → Notes
-notesOf u = record { count = u .operands; first = literalOf (u .first); second = literalOf (u .second); id = selectorOf u }
+notesOf u = record { count = u .operands; first = literalOf (firstOf u); second = literalOf (secondOf u); id = selectorOf u }
 
 -- the notes with one operand more, of which the literal number and the id are known
 unfoldable pub noteAs : Option ℕ → Option ℕ → Notes → Notes
@@ -77,7 +85,7 @@ notes (o ∷ os) n = notes os (note o n)
 
 -- the first two operands in use are operands, where they are there
 abbrev pub FirstFits : Used → Type 0
-FirstFits u = FirstFit (u .operands) (u .first) (u .second)
+FirstFits u = FirstFit (u .operands) (firstOf u) (secondOf u)
 
 -- the same results and strings, and one record of a kind and a value more
 pub record Pushed (k v : ℕ) (u r : Used) : Type 0 where

@@ -6,7 +6,6 @@ use lib.Dec.{eqb}
 use Rattle.spec.specs.Base.{if_then_else_}
 use Rattle.spec.specs.Reader.{Read, got, refused}
 use Rattle.spec.specs.Match.{Seen}
-use Rattle.operand.specs.Parts.{parts}
 use Rattle.decoder.specs.declared.Decoder.{Decoder}
 use Rattle.decoder.specs.Answer.{readerOf}
 use Rattle.parser.specs.declared.used.Used.{Used}
@@ -16,7 +15,7 @@ use Rattle.parser.specs.Parse.{Went, Few, Walked}
 
 -- what is in use before the first operand, from these places on, with so many string bytes before those of the store
 unfoldable pub unused : ℕ → ℕ → ℕ → Used
-unused a b c = record { rtype = 0; rid = 0; operands = 0; first = parts 0 0; second = parts 0 0; log = a; strings = b; base = c }
+unused a b c = record { rtype = 0; rid = 0; operands = 0; kind1 = 0; value1 = 0; kind2 = 0; value2 = 0; log = a; strings = b; base = c }
 
 -- the same operands with other results
 unfoldable pub withResults : ℕ → ℕ → Used → Used
@@ -25,8 +24,10 @@ withResults t i u =
       rtype = t;
       rid = i;
       operands = u .operands;
-      first = u .first;
-      second = u .second;
+      kind1 = u .kind1;
+      value1 = u .value1;
+      kind2 = u .kind2;
+      value2 = u .value2;
       log = u .log;
       strings = u .strings;
       base = u .base;

@@ -70,8 +70,14 @@ fn finished(words: u16, opcode: u16, place: usize, e: Decoder, u: Used) -> InstR
     let rtype = id_of(u.rtype);
     let rid = id_of(u.rid);
     let operands = u.operands;
-    let first = u.first;
-    let second = u.second;
+    let first = Parts {
+        kind: u.kind1,
+        value: u.value1,
+    };
+    let second = Parts {
+        kind: u.kind2,
+        value: u.value2,
+    };
     let log = u.log;
     let strings = u.strings;
     if e.limit_reached() {

@@ -13,8 +13,8 @@ ghost use Rattle.decoder.specs.Answer.{readerOf};
 ghost use Rattle.grammar.specs.Index.{Indexed};
 ghost use Rattle.tracker.specs.Entries.{entriesOf};
 ghost use Rattle.tracker.specs.Hints.{Hinted};
-ghost use Rattle.tracker.specs.Track.{idIs, FirstFit};
-ghost use Rattle.parser.specs.Parse.{Few, Parses, Walks, wordIs, selectorOf, isOperand, kindAlone, slotsAt, leftOf};
+ghost use Rattle.tracker.specs.Track.{idIs};
+ghost use Rattle.parser.specs.Parse.{FirstFits, Few, Parses, Walks, wordIs, selectorOf, isOperand, kindAlone, slotsAt, leftOf};
 ghost use Rattle.parser.specs.Slots.{SlotWalks, unused, withResult};
 use crate::embedded::parse_spec_constant_op;
 use crate::literals::parse_literal;
@@ -29,7 +29,6 @@ use crate::used::there;
 use decoder::Decoder;
 use decoder::WordRead;
 use grammar::SlotAt;
-use operand::Parts;
 use tracker::Id;
 use tracker::TypeTracker;
 
@@ -37,13 +36,14 @@ use tracker::TypeTracker;
 pub fn nothing_used(log: usize, strings: usize, base: usize) -> Used
     ensures { λ r. ⌜ r ≡ unused «log» «strings» base ⌝ }
 {
-    let none = Parts { kind: 0, value: 0 };
     Used {
         rtype: 0,
         rid: 0,
         operands: 0,
-        first: none,
-        second: none,
+        kind1: 0,
+        value1: 0,
+        kind2: 0,
+        value2: 0,
         log,
         strings,
         base,
@@ -57,8 +57,10 @@ pub fn with_result(u: Used, kind: u8, id: u64) -> Used
     let rtype = u.rtype;
     let rid = u.rid;
     let operands = u.operands;
-    let first = u.first;
-    let second = u.second;
+    let kind1 = u.kind1;
+    let value1 = u.value1;
+    let kind2 = u.kind2;
+    let value2 = u.value2;
     let log = u.log;
     let strings = u.strings;
     let base = u.base;
@@ -67,8 +69,10 @@ pub fn with_result(u: Used, kind: u8, id: u64) -> Used
             rtype: id,
             rid,
             operands,
-            first,
-            second,
+            kind1,
+            value1,
+            kind2,
+            value2,
             log,
             strings,
             base,
@@ -78,8 +82,10 @@ pub fn with_result(u: Used, kind: u8, id: u64) -> Used
         rtype,
         rid: id,
         operands,
-        first,
-        second,
+        kind1,
+        value1,
+        kind2,
+        value2,
         log,
         strings,
         base,
@@ -99,15 +105,14 @@ pub fn next_place(place: usize, quantifier: u8) -> usize
 
 // The id that the first operand is, where it is one.
 fn selector_of(u: Used) -> Id
-    requires { ⌜ FirstFit (u .operands) (u .first) (u .second) ⌝ }
+    requires { ⌜ FirstFits u ⌝ }
     ensures { λ r. ⌜ idIs r ≡ selectorOf u ⌝ }
 {
     if u.operands == 0 {
         return Id::Absent;
     }
-    let first = u.first;
-    if first.kind == 33 {
-        return Id::Is(first.value as u32);
+    if u.kind1 == 33 {
+        return Id::Is(u.value1 as u32);
     }
     Id::Absent
 }

@@ -14,15 +14,17 @@ use operand::Parts;
 use spec::Refusal;
 use tracker::Id;
 
-// The results and the operands of an instruction so far: how many operands, the first two, how much of the operand log and of the string
-// bytes is in use, and how many string bytes there are before those of the store. A result that may be missing is 2^32 and a word where
-// it is there, else 0; an operand that is missing is of kind 0.
+// The results and the operands of an instruction so far: how many operands, kind and value of the first and of the second, how much of
+// the operand log and of the string bytes is in use, and how many string bytes there are before those of the store. A result that may be
+// missing is 2^32 and a word where it is there, else 0; an operand that is missing is of kind 0.
 pub struct Used {
     pub rtype: u64,
     pub rid: u64,
     pub operands: usize,
-    pub first: Parts,
-    pub second: Parts,
+    pub kind1: u8,
+    pub value1: u64,
+    pub kind2: u8,
+    pub value2: u64,
     pub log: usize,
     pub strings: usize,
     pub base: usize,
@@ -64,15 +66,17 @@ pub fn id_of(x: u64) -> Id
 }
 
 // One operand more, whose record ends there in the log.
-fn noted(u: Used, p: Parts, log: usize) -> Used
-    requires { ⌜ (u .operands ≤ 1000000000) × Fits (p .kind) (p .value) × (log ≡ u .log + recordLength p) ⌝ }
-    ensures { λ r. ⌜ Pushed (p .kind) (p .value) u r ⌝ }
+fn noted(u: Used, kind: u8, value: u64, log: usize) -> Used
+    requires { ⌜ (u .operands ≤ 1000000000) × Fits kind value × (log ≡ u .log + recordLength (parts kind value)) ⌝ }
+    ensures { λ r. ⌜ Pushed kind value u r ⌝ }
 {
     let rtype = u.rtype;
     let rid = u.rid;
     let operands = u.operands;
-    let first = u.first;
-    let second = u.second;
+    let kind1 = u.kind1;
+    let value1 = u.value1;
+    let kind2 = u.kind2;
+    let value2 = u.value2;
     let strings = u.strings;
     let base = u.base;
     if operands == 0 {
@@ -80,8 +84,10 @@ fn noted(u: Used, p: Parts, log: usize) -> Used
             rtype,
             rid,
             operands: 1,
-            first: p,
-            second,
+            kind1: kind,
+            value1: value,
+            kind2,
+            value2,
             log,
             strings,
             base,
@@ -92,8 +98,10 @@ fn noted(u: Used, p: Parts, log: usize) -> Used
             rtype,
             rid,
             operands: 2,
-            first,
-            second: p,
+            kind1,
+            value1,
+            kind2: kind,
+            value2: value,
             log,
             strings,
             base,
@@ -103,8 +111,10 @@ fn noted(u: Used, p: Parts, log: usize) -> Used
         rtype,
         rid,
         operands: operands + 1,
-        first,
-        second,
+        kind1,
+        value1,
+        kind2,
+        value2,
         log,
         strings,
         base,
@@ -118,9 +128,8 @@ pub fn push(log: &mut [u8], kind: u8, value: u64, u: Used) -> Used
     ensures { λ r. ⌜ Laid (now (log .entry)) (u .log) (recordOf (parts kind value)) (now (log .exit)) ⌝ }
 {
     let at = u.log;
-    let p = Parts { kind, value };
-    let next = operand::keep_record(log, at, p);
-    noted(u, p, next)
+    let next = operand::keep_record(log, at, Parts { kind, value });
+    noted(u, kind, value, next)
 }
 
 // A string's record, and its bytes, those of `s` from a place on: each kept where it fits.

@@ -1,7 +1,7 @@
 pub mod Laws
 pub mod Search
 pub mod Literal
-pub mod Changes
+pub mod Results
 pub mod Growth
 pub mod Instruction
 pub mod Hinting

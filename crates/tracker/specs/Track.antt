@@ -13,8 +13,8 @@ use Rattle.operand.specs.declared.Parts.{Parts}
 use Rattle.operand.specs.Parts.{Fits}
 use Rattle.tracker.specs.declared.Id.{Id}
 use Rattle.tracker.specs.declared.Id.the-variants.{Absent, Is}
-use Rattle.tracker.specs.declared.Change.{Change}
-use Rattle.tracker.specs.declared.Change.the-variants.{Define, Nothing}
+use Rattle.tracker.specs.declared.Resolved.{Resolved}
+use Rattle.tracker.specs.declared.Resolved.the-variants.{«Type», Unknown}
 
 -- the id that is there, or none
 unfoldable pub idIs : Id → Option ℕ
@@ -53,7 +53,7 @@ Literals [] a b = Unit
 Literals (x ∷ []) a b = literalInt x ≡ a
 Literals (x ∷ y ∷ os) a b = (literalInt x ≡ a) × (literalInt y ≡ b)
 
--- the entries after a change
-unfoldable pub changed : Change → List Entry → List Entry
-changed (Define i w s) es = define i w s es
-changed Nothing es = es
+-- the entries with the type of an id, where that is known
+unfoldable pub defined : ℕ → Resolved → List Entry → List Entry
+defined i («Type» w s) es = define i w s es
+defined i Unknown es = es

@@ -1,7 +1,8 @@
 // Type tracking: ids and their types, kept as entries of three words in a lent store.
 ghost use mathlib.Core.Path.{_≡_};
 ghost use mathlib.Core.List.{List, _∷_, []};
-ghost use Prim.Native.Nat.{_+_, _*_, _<_, _≤_};
+ghost use mathlib.Core.Option.{some};
+ghost use Prim.Native.Nat.{ℕ, _+_, _*_, _<_, _≤_};
 ghost use lib.ListN.{length};
 ghost use lib.Seq.{sets};
 ghost use Rattle.spec.specs.Records.{Entry};
@@ -9,7 +10,7 @@ ghost use Rattle.spec.specs.Types.{entryOf, define, trackValue};
 ghost use Rattle.operand.specs.Parts.{Fits};
 ghost use Rattle.tracker.specs.Entries.{entriesOf, stored, placeOf, typeAt, resolvedIs};
 ghost use Rattle.tracker.specs.Hints.{hintOf, hintFor, noted, newOf, hintsWith, greaterOf, greatestWith, Hinted};
-ghost use Rattle.tracker.specs.Track.{idIs, literalOf, FirstFit, intOf, floatOf, typeOf, trackOf, changed};
+ghost use Rattle.tracker.specs.Track.{idIs, literalOf, FirstFit, intOf, floatOf, typeOf, trackOf, defined};
 use operand::Operand;
 use operand::Parts;
 use operand::operand_of;
@@ -28,12 +29,6 @@ pub enum Id {
 pub enum Resolved {
     Type { width: u32, sort: u32 },
     Unknown,
-}
-
-// What an instruction does to the entries: it defines the type of an id, or leaves them alone.
-enum Change {
-    Define { id: u32, width: u32, sort: u32 },
-    Nothing,
 }
 
 // How many entries there are in the store, which is lent to each call, and an id above which none has an entry.
@@ -144,51 +139,51 @@ fn put_entry(types: &mut [u32], index: usize, id: u32, width: u32, sort: u32)
 }
 
 // OpTypeInt: "an operand record that is no LiteralInt32 sets no width".
-fn track_int(id: u32, count: usize, first: Parts, second: Parts) -> Change
+fn track_int(count: usize, first: Parts, second: Parts) -> Resolved
     requires { ⌜ FirstFit count first second ⌝ }
-    ensures { λ r. ⌜ ((es : List Entry) → changed r es ≡ intOf id count (literalOf first) (literalOf second) es) ⌝ }
+    ensures { λ r. ⌜ ((id : ℕ) (es : List Entry) → defined id r es ≡ intOf id count (literalOf first) (literalOf second) es) ⌝ }
 {
     if count < 2 {
-        return Change::Nothing;
+        return Resolved::Unknown;
     }
     let a = operand_of(first.kind, first.value);
     let Operand::LiteralInt32(width) = a else {
-        return Change::Nothing;
+        return Resolved::Unknown;
     };
     let b = operand_of(second.kind, second.value);
     let Operand::LiteralInt32(sign) = b else {
-        return Change::Nothing;
+        return Resolved::Unknown;
     };
     if sign == 1 {
-        return Change::Define { id, width, sort: 2 };
+        return Resolved::Type { width, sort: 2 };
     }
-    Change::Define { id, width, sort: 1 }
+    Resolved::Type { width, sort: 1 }
 }
 
 // OpTypeFloat: the same, with a width alone.
-fn track_float(id: u32, count: usize, only: Parts) -> Change
+fn track_float(count: usize, only: Parts) -> Resolved
     requires { ⌜ (1 ≤ count → Fits (only .kind) (only .value)) ⌝ }
-    ensures { λ r. ⌜ ((es : List Entry) → changed r es ≡ floatOf id count (literalOf only) es) ⌝ }
+    ensures { λ r. ⌜ ((id : ℕ) (es : List Entry) → defined id r es ≡ floatOf id count (literalOf only) es) ⌝ }
 {
     if count < 1 {
-        return Change::Nothing;
+        return Resolved::Unknown;
     }
     let o = operand_of(only.kind, only.value);
     let Operand::LiteralInt32(width) = o else {
-        return Change::Nothing;
+        return Resolved::Unknown;
     };
-    Change::Define { id, width, sort: 3 }
+    Resolved::Type { width, sort: 3 }
 }
 
 // A result that is a type: integers and floats alone are tracked.
-fn track_type(opcode: u16, id: u32, count: usize, first: Parts, second: Parts) -> Change
+fn track_type(opcode: u16, count: usize, first: Parts, second: Parts) -> Resolved
     requires { ⌜ FirstFit count first second ⌝ }
-    ensures { λ r. ⌜ ((es : List Entry) → changed r es ≡ typeOf opcode id count (literalOf first) (literalOf second) es) ⌝ }
+    ensures { λ r. ⌜ ((id : ℕ) (es : List Entry) → defined id r es ≡ typeOf opcode id count (literalOf first) (literalOf second) es) ⌝ }
 {
     match opcode {
-        21 => track_int(id, count, first, second),
-        22 => track_float(id, count, first),
-        _ => Change::Nothing,
+        21 => track_int(count, first, second),
+        22 => track_float(count, first),
+        _ => Resolved::Unknown,
     }
 }
 
@@ -217,48 +212,40 @@ impl TypeTracker {
     }
 
     // A result that is no type: it has the type of its result type, where that is known.
-    fn track_value(self, types: &[u32], hints: &[u16], id: u32, rtype: Id) -> Change
+    fn track_value(self, types: &[u32], hints: &[u16], rtype: Id) -> Resolved
         requires { ⌜ 3 * self .count ≤ length (now types) ⌝ }
         requires { ⌜ Hinted (self .count) (now types) (now hints) (self .greatest) ⌝ }
-        ensures { λ r. ⌜ changed r (entriesOf (self .count) (now (types .entry)))
-            ≡ trackValue id (idIs rtype) (entriesOf (self .count) (now (types .entry))) ⌝ }
+        ensures { λ r. ⌜ ((id : ℕ) → defined id r (entriesOf (self .count) (now (types .entry)))
+            ≡ trackValue id (idIs rtype) (entriesOf (self .count) (now (types .entry)))) ⌝ }
     {
         let Id::Is(t) = rtype else {
-            return Change::Nothing;
+            return Resolved::Unknown;
         };
-        let resolved = self.resolve(types, hints, t);
-        let Resolved::Type { width, sort } = resolved else {
-            return Change::Nothing;
-        };
-        Change::Define { id, width, sort }
+        self.resolve(types, hints, t)
     }
 
-    // What an instruction does to the entries.
-    fn change(
+    // The type that the result of an instruction has, where it is tracked.
+    fn typed(
         self,
         types: &[u32],
         hints: &[u16],
         opcode: u16,
         rtype: Id,
-        rid: Id,
         count: usize,
         first: Parts,
         second: Parts,
-    ) -> Change
+    ) -> Resolved
         requires { ⌜ 3 * self .count ≤ length (now types) ⌝ }
         requires { ⌜ Hinted (self .count) (now types) (now hints) (self .greatest) ⌝ }
         requires { ⌜ FirstFit count first second ⌝ }
-        ensures { λ r. ⌜ changed r (entriesOf (self .count) (now (types .entry)))
-            ≡ trackOf opcode (idIs rtype) (idIs rid) count (literalOf first) (literalOf second)
-            (entriesOf (self .count) (now (types .entry))) ⌝ }
+        ensures { λ r. ⌜ ((id : ℕ) → defined id r (entriesOf (self .count) (now (types .entry)))
+            ≡ trackOf opcode (idIs rtype) (some id) count (literalOf first) (literalOf second)
+            (entriesOf (self .count) (now (types .entry)))) ⌝ }
     {
-        let Id::Is(id) = rid else {
-            return Change::Nothing;
-        };
         if reflect::is_type(opcode) {
-            return track_type(opcode, id, count, first, second);
+            return track_type(opcode, count, first, second);
         }
-        self.track_value(types, hints, id, rtype)
+        self.track_value(types, hints, rtype)
     }
 
     // How many entries there are after an instruction, before anything is stored.
@@ -280,13 +267,11 @@ impl TypeTracker {
             (entriesOf (self .count) (now (types .entry)))) ⌝ }
     {
         let entries = self.count;
-        let change = self.change(types, hints, opcode, rtype, rid, count, first, second);
-        let Change::Define {
-            id,
-            width: _,
-            sort: _,
-        } = change
-        else {
+        let Id::Is(id) = rid else {
+            return entries;
+        };
+        let typed = self.typed(types, hints, opcode, rtype, count, first, second);
+        let Resolved::Type { width: _, sort: _ } = typed else {
             return entries;
         };
         let found = find(types, entries, hints, self.greatest, id);
@@ -354,11 +339,11 @@ impl TypeTracker {
             (entriesOf (self .count) (now (types .entry))))) (self .greatest) ⌝ }
         ensures { λ r. ⌜ Hinted (r .count) (now (types .exit)) (now (hints .exit)) (r .greatest) ⌝ }
     {
-        let Id::Is(_) = rid else {
+        let Id::Is(id) = rid else {
             return self;
         };
-        let change = self.change(types, hints, opcode, rtype, rid, count, first, second);
-        let Change::Define { id, width, sort } = change else {
+        let typed = self.typed(types, hints, opcode, rtype, count, first, second);
+        let Resolved::Type { width, sort } = typed else {
             return self;
         };
         self.define(types, hints, id, width, sort)

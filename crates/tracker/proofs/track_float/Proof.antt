@@ -1,12 +1,12 @@
 -- `tracker::track_float` meets its contract.
 use borrow.Author.Needs.{needs}
-use Rattle.tracker.proofs.Changes.{float-few, float-no-width, float-defined}
+use Rattle.tracker.proofs.Results.{float-few, float-no-width, float-defined}
 use Rattle.tracker.proofs.Literal.{literal-there, literal-missing}
 use Rattle.tracker.proofs.track_float.Statement.{statement}
 use Rattle.tracker.proofs.track_float.Tie as tie
 
 returns : tie.Need-returns
-returns c = float-few _ _ _ (c .if1 .taken)
+returns c = float-few _ _ (c .if1 .taken)
 
 operand-of-requires : tie.Need-operand-of-requires
 operand-of-requires c κs = c .before .pre (c .if1 .left)
@@ -15,10 +15,10 @@ enum-known-o : tie.Need-enum-known-o
 enum-known-o c = search needs
 
 returns-2 : tie.Need-returns-2
-returns-2 c = float-no-width _ _ _ (c .before .before .if1 .left) (literal-missing _ _ (c .before .operand-of .ensures) (c .match .keys2))
+returns-2 c = float-no-width _ _ (c .before .before .if1 .left) (literal-missing _ _ (c .before .operand-of .ensures) (c .match .keys2))
 
 returns-3 : tie.Need-returns-3
-returns-3 c = float-defined _ _ _ _ (c .before .before .before .before .if1 .left) (literal-there _ _ (c .before .before .before .operand-of .ensures) _ (c .before .o .given .1))
+returns-3 c = float-defined _ _ (c .before .before .before .before .if1 .left) _ (literal-there _ _ (c .before .before .before .operand-of .ensures) _ (c .before .o .given .1))
 
 pub track-float-spec : {M : Type 1} → statement M
 track-float-spec = tie.close (tie.spec returns operand-of-requires enum-known-o returns-2 returns-3)

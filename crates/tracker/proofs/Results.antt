@@ -1,0 +1,148 @@
+-- Laws of the type of a result, one for each way through the code.
+use Prim.Native.Nat.{ℕ, _*_, _<_, _≤_}
+use mathlib.Core.Path.{_≡_, ap, sym, _∙_}
+use mathlib.Core.Bool.{Bool, true, false}
+use mathlib.Core.List.{List}
+use mathlib.Core.Option.{Option, none, some}
+use native.Mathlib.Omega.{arith}
+use lib.Dec.{eqb}
+use lib.ListN.{length}
+use borrow.Author.Tests.{le-leb, lt-leb, eq-eqb, ne-eqb}
+use Rattle.spec.specs.Base.{if_then_else_}
+use Rattle.spec.specs.Records.{Entry}
+use Rattle.spec.specs.Layout.{isType}
+use Rattle.spec.specs.Types.{entryOf, define, inherit, trackValue}
+use Rattle.tracker.specs.declared.Id.{Id}
+use Rattle.tracker.specs.declared.Id.the-variants.{Absent, Is}
+use Rattle.tracker.specs.declared.Resolved.{Resolved}
+use Rattle.tracker.specs.declared.Resolved.the-variants.{«Type», Unknown}
+use Rattle.tracker.specs.Entries.{entriesOf, stored, resolvedIs}
+use Rattle.tracker.specs.Track.{idIs, intOf, floatOf, typeOf, trackOf, defined}
+use Rattle.tracker.proofs.Laws.{holds, length-entries, stored-own}
+
+-- AN INTEGER TYPE
+
+module _ (count : ℕ) (a b : Option ℕ) where
+  -- fewer than two operands
+  pub int-few : count < 2 → (i : ℕ) (es : List Entry) → defined i Unknown es ≡ intOf i count a b es
+  unfolding defined intOf
+  int-few h i es = simp (lt-leb 2 count h)
+
+  module _ (h : 2 ≤ count) where
+    -- "an operand record that is no LiteralInt32 sets no width"
+    pub int-no-width : none ≡ a → (i : ℕ) (es : List Entry) → defined i Unknown es ≡ intOf i count a b es
+    unfolding defined intOf
+    int-no-width e i es = simp (le-leb 2 count h, sym e)
+
+    module _ (w : ℕ) (e : some w ≡ a) where
+      -- nor does a sign that is none
+      pub int-no-sign : none ≡ b → (i : ℕ) (es : List Entry) → defined i Unknown es ≡ intOf i count a b es
+      unfolding defined intOf
+      int-no-sign f i es = simp (le-leb 2 count h, sym e, sym f)
+
+      module _ (sign : ℕ) (f : some sign ≡ b) where
+        -- a width and a sign
+        int-defined : (i : ℕ) (es : List Entry) → defined i («Type» w (if eqb sign 1 then 2 else 1)) es ≡ intOf i count a b es
+        unfolding defined intOf
+        int-defined i es = simp (le-leb 2 count h, sym e, sym f)
+
+        -- sign 1: signed
+        pub int-signed : sign ≡ 1 → (i : ℕ) (es : List Entry) → defined i («Type» w 2) es ≡ intOf i count a b es
+        int-signed g i es = simp (eq-eqb sign 1 g) at (int-defined i es)
+
+        -- any other sign: unsigned
+        pub int-unsigned : (sign ≡ 1 → ⊥) → (i : ℕ) (es : List Entry) → defined i («Type» w 1) es ≡ intOf i count a b es
+        int-unsigned g i es = simp (ne-eqb sign 1 g) at (int-defined i es)
+
+-- A FLOAT TYPE
+
+module _ (count : ℕ) (a : Option ℕ) where
+  -- no operand
+  pub float-few : count < 1 → (i : ℕ) (es : List Entry) → defined i Unknown es ≡ floatOf i count a es
+  unfolding defined floatOf
+  float-few h i es = simp (lt-leb 1 count h)
+
+  module _ (h : 1 ≤ count) where
+    -- "an operand record that is no LiteralInt32 sets no width"
+    pub float-no-width : none ≡ a → (i : ℕ) (es : List Entry) → defined i Unknown es ≡ floatOf i count a es
+    unfolding defined floatOf
+    float-no-width e i es = simp (le-leb 1 count h, sym e)
+
+    -- a width
+    pub float-defined : (w : ℕ) → some w ≡ a → (i : ℕ) (es : List Entry) → defined i («Type» w 3) es ≡ floatOf i count a es
+    unfolding defined floatOf
+    float-defined w e i es = simp (le-leb 1 count h, sym e)
+
+-- A TYPE
+
+module _ (op count : ℕ) (a b : Option ℕ) where
+  -- 21 is OpTypeInt
+  pub type-int : (r : Resolved) → op ≡ 21 → ((i : ℕ) (es : List Entry) → defined i r es ≡ intOf i count a b es) → (i : ℕ) (es : List Entry)
+      → defined i r es ≡ typeOf op i count a b es
+  unfolding typeOf
+  type-int r e f i es = simp (eq-eqb op 21 e) (f i es)
+
+  -- 22 is OpTypeFloat
+  pub type-float : (r : Resolved) → op ≡ 22 → ((i : ℕ) (es : List Entry) → defined i r es ≡ floatOf i count a es) → (i : ℕ) (es : List Entry)
+      → defined i r es ≡ typeOf op i count a b es
+  unfolding typeOf
+  type-float r e f i es = simp (ne-eqb op 21 (λ h. omega arith), eq-eqb op 22 e) (f i es)
+
+  -- any other is not tracked
+  pub type-other : (op ≡ 21 → ⊥) → (op ≡ 22 → ⊥) → (i : ℕ) (es : List Entry) → defined i Unknown es ≡ typeOf op i count a b es
+  unfolding defined typeOf
+  type-other e f i es = simp (ne-eqb op 21 e, ne-eqb op 22 f)
+
+-- A RESULT
+
+-- a result that is no type has the entry of its result type
+pub value-known : (t : ℕ) (es : List Entry) (r : Resolved) → resolvedIs t r ≡ entryOf t es → (rtype : Id) → rtype ≡ Is t → (i : ℕ)
+    → defined i r es ≡ trackValue i (idIs rtype) es
+unfolding defined idIs resolvedIs
+value-known t es («Type» w s) f rtype e i = rw e (ap (λ (x : Option Entry). inherit i x es) f)
+value-known t es Unknown f rtype e i = rw e (ap (λ (x : Option Entry). inherit i x es) f)
+
+-- or none, without a result type
+pub value-absent : (rtype : Id) → rtype ≡ Absent → (i : ℕ) (es : List Entry) → defined i Unknown es ≡ trackValue i (idIs rtype) es
+unfolding defined idIs
+value-absent rtype e i es = rw e
+
+module _ (op count : ℕ) (t a b : Option ℕ) (es : List Entry) where
+  module _ (y : Bool) (p : y ≡ isType op) (r : Resolved) where
+    -- a result that is a type
+    pub result-type : y ≡ true → ((i : ℕ) → defined i r es ≡ typeOf op i count a b es) → (i : ℕ) → defined i r es ≡ trackOf op t (some i) count a b es
+    unfolding trackOf
+    result-type q h i = simp (sym p ∙ q) (h i)
+
+    -- a result that is none
+    pub result-value : y ≡ false → ((i : ℕ) → defined i r es ≡ trackValue i t es) → (i : ℕ) → defined i r es ≡ trackOf op t (some i) count a b es
+    unfolding trackOf
+    result-value q h i = simp (sym p ∙ q) (h i)
+
+  -- no result id: the entries stay
+  pub result-absent : (rid : Id) → rid ≡ Absent → es ≡ trackOf op t (idIs rid) count a b es
+  unfolding trackOf idIs
+  result-absent rid e = rw e
+
+  -- an id, and the type of the result
+  module _ (rid : Id) (i : ℕ) (e : rid ≡ Is i) (r : Resolved) (h : (j : ℕ) → defined j r es ≡ trackOf op t (some j) count a b es) where
+    -- nothing is known: the entries stay
+    pub result-unknown : r ≡ Unknown → es ≡ trackOf op t (idIs rid) count a b es
+    unfolding defined idIs
+    result-unknown q = rw e (ap (λ (x : Resolved). defined i x es) (sym q) ∙ h i)
+
+    -- a type: the id is defined
+    pub result-defined : (w s : ℕ) → r ≡ «Type» w s → define i w s es ≡ trackOf op t (idIs rid) count a b es
+    unfolding defined idIs
+    result-defined w s q = rw e (ap (λ (x : Resolved). defined i x es) (sym q) ∙ h i)
+
+-- THE ENTRIES AFTER AN INSTRUCTION
+
+module _ (n : ℕ) (l : List ℕ) (es : List Entry) (e : entriesOf n l ≡ es) where
+  -- they stay: as many as before
+  pub same-count : n ≡ length es
+  same-count = sym (length-entries n l) ∙ ap length e
+
+  -- and the store is as it was
+  pub same-stored : 3 * n ≤ length l → l ≡ stored l es
+  same-stored h = sym (stored-own (holds n l h)) ∙ ap (stored l) e
