@@ -69,14 +69,15 @@ function calling(f, i, d) {
 # frame, in a loop up to %r11: `limit` is where that ends.
 function moved(f, op, d,    last) {
     last = op
-    sub(/^.*,/, "", last)
+    sub(/^.*[ ,]/, "", last)
+    if (op ~ /^(leave|enter|xchg.*%rsp|pop.*%rsp)/) fail(f ": the stack pointer moves by what is not a number: " op)
     if (op ~ /^push/) return d + 8
     if (op ~ /^pop/) return d - 8
     if (op ~ /^sub +\$0x[0-9a-f]+,%rsp$/) return d + amount(op)
     if (op ~ /^add +\$0x[0-9a-f]+,%rsp$/) return d - amount(op)
     if (op ~ /^mov +%rsp,%r11$/) limit = d
     if (op ~ /^sub +\$0x[0-9a-f]+,%r11$/) limit += amount(op)
-    if (op ~ /^(leave|enter)/ || (last ~ /(^|[ ])%rsp$/ && op !~ /^(cmp|test)/)) fail(f ": the stack pointer moves by what is not a number: " op)
+    if (last == "%rsp" && op !~ /^(cmp|test)/) fail(f ": the stack pointer moves by what is not a number: " op)
     return d
 }
 

@@ -18,6 +18,8 @@
 #include <sys/mman.h>
 #include <unistd.h>
 
+/* The longest short module; what a stack is filled with; the bytes next below a call, which count as used; threads at once, and how often
+ * each goes through all modules. */
 enum { SHORT = 16384, FILLED = 0xa5, MARGIN = 256, THREADS = 4, ROUNDS = 50 };
 
 static void expect(int holds, const char *what) {
