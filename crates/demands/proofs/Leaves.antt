@@ -6,7 +6,6 @@ use native.Mathlib.Omega.{arith}
 use native.Mathlib.Nat.{zero-add}
 use lib.ListN.{length, drop}
 use lib.Seq.{sets-eq}
-use Rattle.spec.specs.declared.Counts.{Counts}
 use Rattle.spec.specs.Base.{joined}
 use Rattle.spec.specs.Records.{entryWords, recordsFrom, logFrom, stringStore}
 use Rattle.spec.specs.Load.{roomOf, Outcome, load, Stores, storesOf, laidOver, Covers, roomIn, laidOn}

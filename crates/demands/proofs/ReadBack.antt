@@ -13,7 +13,7 @@ use Rattle.spec.specs.Base.{joined, implies}
 use Rattle.spec.specs.Layout.{endNumber}
 use Rattle.spec.specs.Records.{Placed, Entry, entry, entryWords, stringStore, logFrom}
 use Rattle.spec.specs.Load.{Outcome, nothing, load, Stores, storesOf}
-use Rattle.spec.specs.Check.{Given, good, check, givenBy}
+use Rattle.spec.specs.Check.{good, check, givenBy}
 use Rattle.spec.specs.Words.{AllBytes}
 use Rattle.demands.proofs.Stores.{BeginWith, records-length, entries-length}
 use Rattle.demands.proofs.Starts.{Loads, unformed, overlong, headless, opens, load-is}

@@ -7,7 +7,6 @@ use borrow.Author.Tests.{le-leb}
 use lib.Dec.{ltb, eqb}
 use lib.ListN.{length, drop}
 use Rattle.spec.specs.declared.Limit.the-variants.{Unlimited}
-use Rattle.spec.specs.declared.State.{State}
 use Rattle.spec.specs.declared.Cell.{Cell}
 use Rattle.spec.specs.declared.Cell.the-variants.{Tagged, Refuses}
 use Rattle.spec.specs.declared.Counts.{Counts}

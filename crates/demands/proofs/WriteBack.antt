@@ -1,12 +1,12 @@
 -- What is written for the records of a load: the bytes of the instructions that it keeps, after its header words.
 use Prim.Native.Nat.{ℕ, _≤_}
 use mathlib.Core.Path.{_≡_, refl}
-use mathlib.Core.List.{List, _++_}
+use mathlib.Core.List.{List}
 use borrow.Author.Tests.{le-ltb}
-use lib.ListN.{length, drop}
+use lib.ListN.{length}
 use Rattle.spec.specs.declared.Counts.{Counts}
 use Rattle.spec.specs.Load.{Outcome, load, Stores, storesOf}
-use Rattle.spec.specs.Write.{parseBytes, Writing, writeParse, written, wrote}
+use Rattle.spec.specs.Write.{writeParse, written, wrote}
 use Rattle.spec.specs.Words.{AllBytes}
 use Rattle.spec.specs.Check.{givenBy}
 use Rattle.demands.proofs.Stores.{BeginWith}

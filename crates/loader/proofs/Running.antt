@@ -6,7 +6,6 @@ use mathlib.Core.List.{List, [], _∷_, _++_}
 use native.Mathlib.Omega.{arith}
 use native.Mathlib.Nat.{zero-add}
 use borrow.Author.Tests.{le-leb, lt-leb}
-use lib.Dec.{eqb}
 use lib.ListN.{length, drop, length-append, length-drop}
 use lib.Seq.{sets, length-sets}
 use Rattle.spec.specs.declared.Limit.the-variants.{Unlimited}
@@ -14,14 +13,14 @@ use Rattle.spec.specs.declared.Refusal.{Refusal}
 use Rattle.spec.specs.declared.State.the-variants.{Outside}
 use Rattle.spec.specs.declared.Counts.{Counts}
 use Rattle.spec.specs.declared.Loaded.{Loaded}
-use Rattle.spec.specs.Base.{if_then_else_, has, joined}
+use Rattle.spec.specs.Base.{has, joined}
 use Rattle.spec.specs.Records.{Placed, Entry, entryWords, operandsLog, operandsStrings, fieldsOf, fieldWords, recordsFrom, logFrom, stringStore}
 use Rattle.spec.specs.Reader.{readerAt}
 use Rattle.spec.specs.Grammar.{Grammar, grammarOf}
 use Rattle.spec.specs.Layout.{endNumber}
 use Rattle.spec.specs.Types.{track}
 use Rattle.spec.specs.Match.{readInstr}
-use Rattle.spec.specs.Load.{roomOf, roomFault, Book, emptyBook, Outcome, stop, loadFrom, storesOf, laidOver, roomed, onBook}
+use Rattle.spec.specs.Load.{roomOf, Book, emptyBook, Outcome, stop, loadFrom, storesOf, laidOver, roomed, onBook}
 use Rattle.demands.proofs.Lists.{has-leb}
 use Rattle.demands.proofs.Room.{fits-covers}
 use Rattle.demands.proofs.Stores.{operands-log-length, records-length, strings-more, log-more}
