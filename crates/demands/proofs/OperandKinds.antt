@@ -11,21 +11,8 @@ use Rattle.spec.specs.Base.{within, isIn, implies, every}
 use Rattle.spec.specs.Kinds.{isEnum, isResult, mayBeOperand, mayBeParameter, mayEmbed, isLogged, isLong, isText}
 use Rattle.spec.specs.Records.{Entry, entry}
 use Rattle.spec.specs.Match.{partsOf, literalKindOf}
+use Rattle.spec.proofs.Range.{below-at}
 use Rattle.demands.proofs.Choice.{left, right, both, asked, other, cases, either, IfSome, in-range}
-
--- A TEST OF EVERY KIND
-
--- a test of each number below another
-abbrev below : (ℕ → Bool) → ℕ → Bool
-below f zero = true
-below f (suc n) = f n && below f n
-
--- it holds of each
-below-at : (f : ℕ → Bool) (n k : ℕ) → below f n ≡ true → k < n → f k ≡ true
-below-at f zero k e h = absurd (omega arith)
-below-at f (suc n) k e h =
-    cases (ltb k n) (λ l. below-at f n k (right (f n) (below f n) e) (ltb-true k n l))
-    (λ l. let n-is : n ≡ k = omega (arith, ltb-false k n l) in rw n-is at (left (f n) (below f n) e))
 
 -- KINDS
 

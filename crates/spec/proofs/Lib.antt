@@ -1,3 +1,4 @@
 pub mod Choice
 pub mod Faultless
+pub mod Range
 pub mod Store

@@ -1,4 +1,7 @@
-// The answers that several crates share. Declarations alone: what they mean is said in specs/.
+// The answers that several crates share, and the names of kinds, tags and refusals. Declarations alone: what they mean is said in specs/.
+pub mod kinds;
+pub mod refusals;
+pub mod tags;
 
 // How many words may still be read: any number, or so many.
 pub enum Limit {
