@@ -10,7 +10,7 @@ use Rattle.records.specs.declared.Checked.{Checked}
 use Rattle.records.specs.declared.Checked.the-variants.{Good, Bad}
 use Rattle.records.specs.Steps.{checkedIs}
 use Rattle.text.proofs.zero as zero-call
-use Rattle.text.proofs.is_plain as is-plain-call
+use Rattle.text.proofs.is_ascii_text as is-ascii-text-call
 use Rattle.text.proofs.utf8 as utf8-call
 use Rattle.decoder.proofs.Decoder as decoder-type
 use Rattle.decoder.proofs.lent.WordGiven as word-given-type
@@ -60,9 +60,9 @@ use Rattle.pledge.proofs.Offered.{Offered, OfferedLent, both, and, both
 pub zero : Offered zero-call.Kinds.ps zero-call.Kinds.r zero-call.Reads.Asked zero-call.Reads.Learnt
 zero = record { free = λ κs a. tt; one = λ κs a x y after other p q. (both p q, refl) }
 
--- whether bytes are plain
-pub is-plain : Offered is-plain-call.Kinds.ps is-plain-call.Kinds.r is-plain-call.Reads.Asked is-plain-call.Reads.Learnt
-is-plain = record { free = λ κs a. tt; one = λ κs a x y after other p q. (both p q, refl) }
+-- whether bytes are ASCII text
+pub is-ascii-text : Offered is-ascii-text-call.Kinds.ps is-ascii-text-call.Kinds.r is-ascii-text-call.Reads.Asked is-ascii-text-call.Reads.Learnt
+is-ascii-text = record { free = λ κs a. tt; one = λ κs a x y after other p q. (both p q, refl) }
 
 -- whether bytes are UTF-8
 pub utf8 : Offered utf8-call.Kinds.ps utf8-call.Kinds.r utf8-call.Reads.Asked utf8-call.Reads.Learnt

@@ -5,4 +5,4 @@ pub mod Pass
 pub mod Read
 pub mod Good
 pub mod Bytes
-pub mod Plain
+pub mod AsciiText

@@ -20,13 +20,13 @@ use Rattle.spec.specs.Check.{Left, takeOperand, takeOperands, bitsIn, fieldIn, 
 use Rattle.operand.specs.Parts.{isTwo}
 use Rattle.records.specs.declared.Passed.{Passed}
 use Rattle.records.specs.declared.Passed.the-variants.{Broken as NotPassed, Past}
-use Rattle.text.specs.Plain.{isPlain}
+use Rattle.text.specs.AsciiText.{isAsciiText}
 use Rattle.records.specs.Steps.{leftAt, isString, textGood, textPassed, passedBy, passedOne, passedAll, wordIf, resultWords, operandsAfter}
 use Rattle.records.specs.Good.{Whole, operandBy, operandAt}
 use Rattle.spec.proofs.Choice.{left, right, cases, either, IfSome, if-then}
 use Rattle.spec.proofs.Faultless.{Said, record-said}
 use Rattle.records.proofs.Fields.{word-few}
-use Rattle.records.proofs.Plain.{part-string}
+use Rattle.records.proofs.AsciiText.{part-string}
 
 -- LENGTHS
 
@@ -285,10 +285,10 @@ module _ (strings : List ℕ) (a b start n : ℕ) where
       let q : b + n - b ≡ n = omega arith in
       rw (eq-eqb start b h, has-yes n (drop b strings) (omega (arith, length-drop b strings)), sym (rw q at e), f)
 
-  -- it is a part of plain bytes
-  pub string-plain : start ≡ b → n ≤ length strings - b → isPlain strings ≡ true → Past (a + 9) (b + n) (textWords n) ≡ textPassed strings a b start n
+  -- it is a part of ASCII text
+  pub string-ascii : start ≡ b → n ≤ length strings - b → isAsciiText strings ≡ true → Past (a + 9) (b + n) (textWords n) ≡ textPassed strings a b start n
   unfolding textPassed textGood
-  string-plain h g p =
+  string-ascii h g p =
       rw (eq-eqb start b h, has-yes n (drop b strings) (omega (arith, length-drop b strings)), part-string strings n b p)
 
 -- an operand of the log, by its tests

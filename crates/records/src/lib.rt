@@ -6,7 +6,7 @@ ghost use Prim.Native.Nat.{_+_, _*_, _≤_};
 ghost use lib.ListN.{length, drop};
 ghost use lib.Seq.{sets};
 ghost use Rattle.spec.specs.Records.{recordSize, fieldWords, fieldsAt};
-ghost use Rattle.text.specs.Plain.{isPlain};
+ghost use Rattle.text.specs.AsciiText.{isAsciiText};
 ghost use Rattle.reflect.specs.Column.{layoutTable, kindTable};
 ghost use Rattle.spec.specs.Check.{takeOperand, takeOperands, faultOf, recordsOf};
 ghost use Rattle.records.specs.Steps.{given, checkedIs, endAnswer, leftAt, fieldsHold, offsetAfter, wordIf, resultWords, isString, textPassed, passedOne, passedAll, operandsAfter, tagAfter, isOutside, atMost, faultsFrom, isFree};
@@ -109,11 +109,11 @@ enum Passed {
     Past(usize, usize, usize),
 }
 
-// Whether the bytes may be a string: no zero byte, and UTF-8, as plain bytes are.
+// Whether the bytes may be a string: no zero byte, and UTF-8, as ASCII text is.
 fn is_string(s: &[u8]) -> bool
     ensures { λ r. ⌜ r ≡ isString (now (s .entry)) ⌝ }
 {
-    if text::is_plain(s) {
+    if text::is_ascii_text(s) {
         return true;
     }
     let found = text::zero(s);
@@ -123,9 +123,9 @@ fn is_string(s: &[u8]) -> bool
     text::utf8(s)
 }
 
-// A string of the log: it starts where the strings go on, and lies in them. Where they all are plain, so is it.
+// A string of the log: it starts where the strings go on, and lies in them. Where they all are ASCII text, so is it.
 fn pass_text(
-    plain: bool,
+    ascii: bool,
     strings: &[u8],
     log_at: usize,
     strings_at: usize,
@@ -134,7 +134,7 @@ fn pass_text(
 ) -> Passed
     requires { ⌜ «strings_at» ≤ length (now strings) ⌝ }
     requires { ⌜ «log_at» + 9 ≤ 18446744073709551615 ⌝ }
-    requires { ⌜ (plain ≡ true → isPlain (now strings) ≡ true) ⌝ }
+    requires { ⌜ (ascii ≡ true → isAsciiText (now strings) ≡ true) ⌝ }
     ensures { λ r. ⌜ r ≡ textPassed (now (strings .entry)) «log_at» «strings_at» start size ⌝ }
 {
     if (start as usize) != strings_at {
@@ -145,7 +145,7 @@ fn pass_text(
         return Passed::Broken;
     }
     let end = strings_at + n;
-    if plain {
+    if ascii {
         return Passed::Past(log_at + 9, end, n / 4 + 1);
     }
     if is_string(&strings[strings_at..end]) {
@@ -155,9 +155,9 @@ fn pass_text(
 }
 
 // The operand at a place of the log.
-fn pass_operand(plain: bool, log: &[u8], strings: &[u8], log_at: usize, strings_at: usize) -> Passed
+fn pass_operand(ascii: bool, log: &[u8], strings: &[u8], log_at: usize, strings_at: usize) -> Passed
     requires { ⌜ («log_at» ≤ length (now log)) × («strings_at» ≤ length (now strings)) ⌝ }
-    requires { ⌜ (plain ≡ true → isPlain (now strings) ≡ true) ⌝ }
+    requires { ⌜ (ascii ≡ true → isAsciiText (now strings) ≡ true) ⌝ }
     ensures { λ r. ⌜ r ≡ passedOne (takeOperand (leftAt (now (log .entry)) (now (strings .entry)) «log_at» «strings_at»)) ⌝ }
 {
     let left = log.len() - log_at;
@@ -183,14 +183,14 @@ fn pass_operand(plain: bool, log: &[u8], strings: &[u8], log_at: usize, strings_
     if kind == 40 {
         let start = decoder::word_at(log, log_at + 1);
         let size = decoder::word_at(log, log_at + 5);
-        return pass_text(plain, strings, log_at, strings_at, start, size);
+        return pass_text(ascii, strings, log_at, strings_at, start, size);
     }
     Passed::Past(log_at + 9, strings_at, 2)
 }
 
 // So many operands from a place of the log on.
 fn pass_operands(
-    plain: bool,
+    ascii: bool,
     log: &[u8],
     strings: &[u8],
     count: usize,
@@ -198,7 +198,7 @@ fn pass_operands(
     strings_at: usize,
 ) -> Passed
     requires { ⌜ («log_at» ≤ length (now log)) × («strings_at» ≤ length (now strings)) ⌝ }
-    requires { ⌜ (plain ≡ true → isPlain (now strings) ≡ true) ⌝ }
+    requires { ⌜ (ascii ≡ true → isAsciiText (now strings) ≡ true) ⌝ }
     ensures { λ r. ⌜ r ≡ passedAll 0 (takeOperands count (leftAt (now (log .entry)) (now (strings .entry)) «log_at» «strings_at»)) ⌝ }
 {
     let mut a = log_at;
@@ -206,7 +206,7 @@ fn pass_operands(
     let mut words = 0;
     let mut passed = 0;
     while passed < count {
-        let step = pass_operand(plain, log, strings, a, b);
+        let step = pass_operand(ascii, log, strings, a, b);
         let Passed::Past(next_a, next_b, more) = step else {
             return Passed::Broken;
         };
@@ -238,7 +238,7 @@ fn result_words(f: Fields) -> usize
 
 // A record's operands, which start where the log goes on, and its word count.
 fn operands_after(
-    plain: bool,
+    ascii: bool,
     log: &[u8],
     strings: &[u8],
     log_at: usize,
@@ -246,14 +246,14 @@ fn operands_after(
     f: Fields,
 ) -> Passed
     requires { ⌜ («log_at» ≤ length (now log)) × («strings_at» ≤ length (now strings)) ⌝ }
-    requires { ⌜ (plain ≡ true → isPlain (now strings) ≡ true) ⌝ }
+    requires { ⌜ (ascii ≡ true → isAsciiText (now strings) ≡ true) ⌝ }
     ensures { λ r. ⌜ r ≡ operandsAfter f (leftAt (now (log .entry)) (now (strings .entry)) «log_at» «strings_at») ⌝ }
 {
     if (f.start as usize) != log_at {
         return Passed::Broken;
     }
     let count = f.count as usize;
-    let passed = pass_operands(plain, log, strings, count, log_at, strings_at);
+    let passed = pass_operands(ascii, log, strings, count, log_at, strings_at);
     let Passed::Past(a, b, words) = passed else {
         return Passed::Broken;
     };
@@ -353,7 +353,7 @@ fn first_fault(
     at_end(good, i + 1)
 }
 
-// Whether the same pass, where all strings are plain, finds nothing: a loop without a look at single strings is short.
+// Whether the same pass, where all strings are ASCII text, finds nothing: a loop without a look at single strings is short.
 fn finds_nothing(
     kinds: &[u8; 256],
     table: &[[u8; 3]; 19],
@@ -366,7 +366,7 @@ fn finds_nothing(
     string_count: usize,
 ) -> bool
     requires { ⌜ (now table ≡ layoutTable) × (now kinds ≡ kindTable) ⌝ }
-    requires { ⌜ isPlain (now strings) ≡ true ⌝ }
+    requires { ⌜ isAsciiText (now strings) ≡ true ⌝ }
     ensures { λ r. ⌜ r ≡ isFree (faultsFrom whole «log_count» «string_count» 1 count 20 (leftAt (now (log .entry)) (now (strings .entry)) 0 0) State.Outside (recordsOf count (now (instructions .entry)))) ⌝ }
 {
     let most = at_most(count, instructions.len() / RECORD);
@@ -410,7 +410,7 @@ fn at_most(a: usize, b: usize) -> usize
 }
 
 // Whether given records keep the store layout, and in module order (whole) end outside functions. They are seldom bad, and their strings
-// seldom other than plain.
+// seldom other than ASCII text.
 pub fn check(
     whole: bool,
     instructions: &[u32],
@@ -428,7 +428,7 @@ pub fn check(
     let table = reflect::table();
     let log = &log[..log_end];
     let strings = &strings[..strings_end];
-    if text::is_plain(strings) {
+    if text::is_ascii_text(strings) {
         let nothing = finds_nothing(
             &kinds,
             &table,

@@ -1,4 +1,4 @@
 pub mod Range
 pub mod Laws
-pub mod Plain
+pub mod AsciiText
 pub mod Steps

@@ -1,3 +1,3 @@
 pub mod Zero
-pub mod Plain
+pub mod AsciiText
 pub mod Steps

@@ -1,8 +1,8 @@
-// Strings in bytes: where one ends, whether its bytes are plain, and whether they are UTF-8.
+// Strings in bytes: where one ends, whether its bytes are ASCII text, and whether they are UTF-8.
 ghost use mathlib.Core.Path.{_≡_};
 ghost use Rattle.spec.specs.Text.{isUtf8};
 ghost use Rattle.text.specs.Zero.{zeroIn};
-ghost use Rattle.text.specs.Plain.{isPlain};
+ghost use Rattle.text.specs.AsciiText.{isAsciiText};
 ghost use Rattle.text.specs.Steps.{firstOf, stepOf};
 use spec::Found;
 
@@ -20,18 +20,18 @@ pub fn zero(s: &[u8]) -> Found
     Found::Nothing
 }
 
-// Whether each byte is plain, one of ASCII but zero: looked at to the end, so that many go at once.
-pub fn is_plain(s: &[u8]) -> bool
-    ensures { λ r. ⌜ r ≡ isPlain (now (s .entry)) ⌝ }
+// Whether the bytes are ASCII text, each of ASCII and none zero: looked at to the end, so that many go at once.
+pub fn is_ascii_text(s: &[u8]) -> bool
+    ensures { λ r. ⌜ r ≡ isAsciiText (now (s .entry)) ⌝ }
 {
-    let mut plain = true;
+    let mut ascii = true;
     let mut i = 0;
     while i < s.len() {
         let b = s[i];
-        plain = plain & (1 <= b) & (b < 128);
+        ascii = ascii & (1 <= b) & (b < 128);
         i += 1;
     }
-    plain
+    ascii
 }
 
 // What is due: so many bytes of a character, the first of them from low to high.
@@ -107,11 +107,11 @@ fn advance(p: Pending, b: u8) -> Step
     more(p.left - 1, 128, 191)
 }
 
-// Whether the bytes are well-formed UTF-8. Plain bytes are, and are told at once.
+// Whether the bytes are well-formed UTF-8. ASCII text is, and is told at once.
 pub fn utf8(s: &[u8]) -> bool
     ensures { λ r. ⌜ r ≡ isUtf8 (now (s .entry)) ⌝ }
 {
-    if is_plain(s) {
+    if is_ascii_text(s) {
         return true;
     }
     let mut p = Pending {

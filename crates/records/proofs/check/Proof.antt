@@ -1,4 +1,4 @@
--- `records::check` meets its contract: log and strings up to their counts are what the definition takes; where the pass with plain strings
+-- `records::check` meets its contract: log and strings up to their counts are what the definition takes; where the pass over ASCII text
 -- finds nothing, there is no fault.
 -- Assumes nothing.
 use mathlib.Core.Path.{sym, _∙_}
@@ -26,11 +26,11 @@ slice-aggregate-log c = most-length _ _ (c .before .before .before .before .befo
 slice-aggregate-strings : tie.Need-slice-aggregate-strings
 slice-aggregate-strings c = most-length _ _ (c .before .before .before .before .before .before .before .before .before .args .strings .now) (c .before .before .before .before .at-most2 .ensures)
 
-is-plain-requires : tie.Need-is-plain-requires
-is-plain-requires c κs = search needs
+is-ascii-text-requires : tie.Need-is-ascii-text-requires
+is-ascii-text-requires c κs = search needs
 
 finds-nothing-requires : tie.Need-finds-nothing-requires
-finds-nothing-requires c κs = ((c .before .before .before .before .before .before .table .ensures, c .before .before .before .before .before .before .before .kinds .ensures), sym (c .before .before .before .is-plain .ensures) ∙ c .before .before .if1 .taken)
+finds-nothing-requires c κs = ((c .before .before .before .before .before .before .table .ensures, c .before .before .before .before .before .before .before .kinds .ensures), sym (c .before .before .before .is-ascii-text .ensures) ∙ c .before .before .if1 .taken)
 
 returns : tie.Need-returns
 returns c = check-whole _ _ _ _ _ _ _ (c .before .before .before .before .before .before .before .before .before .before .before .at-most .result) (c .before .before .before .before .before .before .before .before .before .before .at-most2 .result) (c .before .before .before .before .before .before .before .before .before .before .before .at-most .ensures) (c .before .before .before .before .before .before .before .before .before .before .at-most2 .ensures) _ (free-good _ _ (c .before .finds-nothing .ensures) (c .if2 .taken))
@@ -51,7 +51,7 @@ check-spec =
     table-requires
     slice-aggregate-log
     slice-aggregate-strings
-    is-plain-requires
+    is-ascii-text-requires
     finds-nothing-requires
     returns
     first-fault-requires

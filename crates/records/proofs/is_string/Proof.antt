@@ -1,16 +1,16 @@
--- `records::is_string` meets its contract: plain bytes may be one; else by where a zero byte is found, and by UTF-8.
+-- `records::is_string` meets its contract: ASCII text may be one; else by where a zero byte is found, and by UTF-8.
 -- Assumes nothing.
 use Rattle.records.proofs.Fields.{string-zero, string-utf8}
-use Rattle.records.proofs.Plain.{plain-string}
+use Rattle.records.proofs.AsciiText.{ascii-string}
 use borrow.Author.Needs.{needs}
 use Rattle.records.proofs.is_string.Statement.{statement}
 use Rattle.records.proofs.is_string.Tie as tie
 
-is-plain-requires : tie.Need-is-plain-requires
-is-plain-requires c κs = search needs
+is-ascii-text-requires : tie.Need-is-ascii-text-requires
+is-ascii-text-requires c κs = search needs
 
 returns : tie.Need-returns
-returns c = plain-string _ _ (c .before .is-plain .ensures) (c .if1 .taken)
+returns c = ascii-string _ _ (c .before .is-ascii-text .ensures) (c .if1 .taken)
 
 zero-requires : tie.Need-zero-requires
 zero-requires c κs = search needs
@@ -34,7 +34,7 @@ pub is-string-spec : {M : Type 1} → statement M
 is-string-spec =
     tie.close
     (tie.spec
-    is-plain-requires
+    is-ascii-text-requires
     returns
     zero-requires
     enum-told

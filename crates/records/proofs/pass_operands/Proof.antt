@@ -8,10 +8,10 @@ use Rattle.records.proofs.pass_operands.Statement.{statement}
 use Rattle.records.proofs.pass_operands.Tie as tie
 
 abbrev Inv-loop : tie.InvT-loop
-Inv-loop plain log strings count log-at strings-at a₀ b₀ words₀ passed₀ a b words passed = Passing log strings count log-at strings-at a b words passed
+Inv-loop ascii log strings count log-at strings-at a₀ b₀ words₀ passed₀ a b words passed = Passing log strings count log-at strings-at a b words passed
 
 abbrev μ-loop : tie.MeasureT-loop
-μ-loop plain log strings count log-at strings-at a₀ b₀ words₀ passed₀ a b words passed = count - passed
+μ-loop ascii log strings count log-at strings-at a₀ b₀ words₀ passed₀ a b words passed = count - passed
 
 loop-holds : tie.Need-loop-holds Inv-loop μ-loop
 loop-holds c = pass-starts _ _ _ _ _ (c .before .before .pre .0 .0) (c .before .before .pre .0 .1)

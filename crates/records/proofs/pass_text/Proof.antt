@@ -1,6 +1,6 @@
 -- `records::pass_text` meets its contract: by each test in turn.
 -- Assumes nothing.
-use Rattle.records.proofs.Operands.{string-elsewhere, string-outside, string-plain, string-bytes}
+use Rattle.records.proofs.Operands.{string-elsewhere, string-outside, string-ascii, string-bytes}
 use mathlib.Core.Bool.{true, false}
 use borrow.Author.Needs.{needs}
 use Rattle.records.proofs.pass_text.Statement.{statement}
@@ -25,7 +25,7 @@ add-t14 : tie.Need-add-t14
 add-t14 c = search needs
 
 returns-3 : tie.Need-returns-3
-returns-3 c = string-plain _ _ _ _ _ (c .before .before .if1 .left) (c .before .if2 .left) (c .before .before .before .before .pre .1 .1 (c .if3 .taken))
+returns-3 c = string-ascii _ _ _ _ _ (c .before .before .if1 .left) (c .before .if2 .left) (c .before .before .before .before .pre .1 .1 (c .if3 .taken))
 
 sub-is-string : tie.Need-sub-is-string
 sub-is-string c = search needs

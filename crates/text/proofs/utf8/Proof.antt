@@ -1,11 +1,11 @@
--- `text::utf8` meets its contract: plain bytes are UTF-8; else, where so much is due, its answer is that of the rest.
+-- `text::utf8` meets its contract: ASCII text is UTF-8; else, where so much is due, its answer is that of the rest.
 use Prim.Native.Nat.{_-_}
 use mathlib.Core.Path.{sym}
 use native.Mathlib.Omega.{arith}
 use lib.ListN.{length}
 use borrow.Author.Needs.{needs}
 use Rattle.text.proofs.Steps.{Tested, test-starts, test-goes-on, test-fails, test-ends}
-use Rattle.text.proofs.Plain.{well-formed, told-plain}
+use Rattle.text.proofs.AsciiText.{well-formed, told-ascii}
 use Rattle.text.proofs.utf8.Statement.{statement}
 use Rattle.text.proofs.utf8.Tie as tie
 
@@ -15,11 +15,11 @@ Inv-loop s p₀ i₀ p i = Tested s p i
 abbrev μ-loop : tie.MeasureT-loop
 μ-loop s p₀ i₀ p i = length s - i
 
-is-plain-requires : tie.Need-is-plain-requires Inv-loop μ-loop
-is-plain-requires c κs = search needs
+is-ascii-text-requires : tie.Need-is-ascii-text-requires Inv-loop μ-loop
+is-ascii-text-requires c κs = search needs
 
 returns : tie.Need-returns Inv-loop μ-loop
-returns c = sym (well-formed _ (told-plain _ _ (c .before .is-plain .ensures) (c .if1 .taken)))
+returns c = sym (well-formed _ (told-ascii _ _ (c .before .is-ascii-text .ensures) (c .if1 .taken)))
 
 loop-holds : tie.Need-loop-holds Inv-loop μ-loop
 loop-holds c = test-starts _
@@ -57,7 +57,7 @@ utf8-spec =
     (tie.spec
     Inv-loop
     μ-loop
-    is-plain-requires
+    is-ascii-text-requires
     returns
     loop-holds
     shared-slice-read-advance

@@ -1,0 +1,47 @@
+-- `text::is_ascii_text` meets its contract: the bytes passed are ASCII text, and it goes by the rest.
+use Prim.Native.Nat.{_-_, _≤_}
+use mathlib.Core.Path.{_≡_, refl}
+use mathlib.Core.Bool.{_&&_}
+use native.Mathlib.Omega.{arith}
+use lib.ListN.{length, drop}
+use Rattle.text.specs.AsciiText.{isAsciiText}
+use Rattle.text.proofs.AsciiText.{ascii-turn, ascii-end}
+use Rattle.text.proofs.is_ascii_text.Statement.{statement}
+use Rattle.text.proofs.is_ascii_text.Tie as tie
+
+abbrev Inv-loop : tie.InvT-loop
+Inv-loop s ascii₀ i₀ ascii i = (i ≤ length s) × (isAsciiText s ≡ (ascii && isAsciiText (drop i s)))
+
+abbrev μ-loop : tie.MeasureT-loop
+μ-loop s ascii₀ i₀ ascii i = length s - i
+
+loop-holds : tie.Need-loop-holds Inv-loop μ-loop
+loop-holds c = ((omega arith), refl)
+
+shared-slice-read-b : tie.Need-shared-slice-read-b Inv-loop μ-loop
+shared-slice-read-b c = omega arith
+
+add-i : tie.Need-add-i Inv-loop μ-loop
+add-i c = omega arith
+
+loop-less : tie.Need-loop-less Inv-loop μ-loop
+loop-less c = omega arith
+
+loop-again : tie.Need-loop-again Inv-loop μ-loop
+loop-again c = ((omega arith), ascii-turn _ _ (c .before .before .loop .ascii) (c .before .loop-test .taken) (c .before .before .loop .inv .1))
+
+returns : tie.Need-returns Inv-loop μ-loop
+returns c = ascii-end _ _ (c .before .loop .ascii) (c .loop-test .left) (c .before .loop .inv .1)
+
+pub is-ascii-text-spec : {M : Type 1} → statement M
+is-ascii-text-spec =
+    tie.close
+    (tie.spec
+    Inv-loop
+    μ-loop
+    loop-holds
+    shared-slice-read-b
+    add-i
+    loop-less
+    loop-again
+    returns)
