@@ -15,7 +15,7 @@ use Rattle.demands.proofs.Lists.{Begins}
 use Rattle.demands.proofs.Numbers.{OfRoom, Source, OfLoad, source-number, load-from}
 use Rattle.demands.proofs.Room.{load-roomy, load-low}
 use Rattle.demands.proofs.KeptSays.{KeptSays, load-says}
-use Rattle.demands.proofs.Leaves.{Leaves, load-leaves, leaves-begin}
+use Rattle.demands.proofs.Leaves.{Leaves, load-leaves, load-begins}
 use Rattle.demands.proofs.ReadBack.{reads-back}
 use Rattle.demands.proofs.Returns.{endOf, ended, load-cut}
 use Rattle.demands.proofs.Prefix.{load-longer}
@@ -69,4 +69,4 @@ module _ (grammar s : List ℕ) (t : Stores) where
   -- what it leaves reads back as what it keeps
   pub left-reads-back : AllBytes s
       → let x = load grammar (roomIn t) s in check false (givenBy (laidOn t (storesOf x)) (x .said .counts)) ≡ good (x .kept)
-  left-reads-back by = reads-back grammar (roomIn t) s by (laidOn t (storesOf (load grammar (roomIn t) s))) (leaves-begin leaves)
+  left-reads-back by = reads-back grammar (roomIn t) s by (laidOn t (storesOf (load grammar (roomIn t) s))) (load-begins grammar s t)

@@ -55,8 +55,9 @@ tidy-more {b = b} z t =
           );
     }
 
--- what the instructions kept say of a load; its index is 0 where it came to no instruction
+-- what the instructions kept say of a load: they are what is left of instructions; its index is 0 where it came to no instruction
 pub record KeptSays (o : Outcome) : Type 0 where
+  pub left : o .left ≡ o .kept
   pub types : o .types ≡ typesAfter [] (o .kept)
   pub counts : o .said .counts ≡ takenBy (o .kept) (o .types)
   pub index : 1 ≤ o .said .index → o .said .index ≡ length (o .kept) + 1
@@ -67,13 +68,13 @@ run-says : {g : Grammar} {room : Counts} {h : List ℕ} {b : Book} {at : ℕ} {r
     → KeptSays o
 unfolding takenBy
 run-says (stops n place v x) t =
-    record { types = t .types; counts = t .used; index = λ e. ap (λ (c : Counts). c .instructions + 1) (t .used) }
+    record { left = refl; types = t .types; counts = t .used; index = λ e. ap (λ (c : Counts). c .instructions + 1) (t .used) }
 run-says (keeps z e run) t = run-says run (tidy-more z t)
 
 -- before an instruction
 nothing-says : (n at : ℕ) → KeptSays (nothing n at)
 unfolding typesAfter takenBy logFrom stringStore
-nothing-says n at = record { types = refl; counts = refl; index = λ e. absurd (omega arith) }
+nothing-says n at = record { left = refl; types = refl; counts = refl; index = λ e. absurd (omega arith) }
 
 -- of a load
 of-load : {grammar : List ℕ} {room : Counts} {s : List ℕ} {o : Outcome} → Loads grammar room s o → KeptSays o

@@ -10,7 +10,7 @@ use Rattle.spec.specs.Base.{joined}
 use Rattle.spec.specs.Records.{entryWords, recordsFrom, logFrom, stringStore}
 use Rattle.spec.specs.Load.{roomOf, Outcome, load, Stores, storesOf, laidOver, Covers, roomIn, laidOn}
 use Rattle.demands.proofs.Stores.{records-length, entries-length, BeginWith}
-use Rattle.demands.proofs.KeptSays.{takenBy, load-says}
+use Rattle.demands.proofs.KeptSays.{takenBy, KeptSays, load-says}
 use Rattle.demands.proofs.Room.{load-covered}
 
 -- the stores t after a load of which x became: up to its counts the records of what it keeps, past them what was there
@@ -27,12 +27,12 @@ laid-over store bs n e h =
     sets-eq bs store 0 (omega arith) ∙ ap (λ (k : ℕ). bs ++ drop k store) (zero-add (length bs) ∙ e)
 
 -- stores with room for an outcome
-room-leaves : (x : Outcome) (t : Stores) → x .said .counts ≡ takenBy (x .kept) (x .types) → Covers (roomIn t) (x .said .counts)
+room-leaves : (x : Outcome) (t : Stores) → KeptSays x → Covers (roomIn t) (x .said .counts)
     → Leaves t x (laidOn t (storesOf x))
 unfolding roomIn roomOf laidOn storesOf takenBy
-room-leaves x t e c =
-    let r : Covers (roomIn t) (takenBy (x .kept) (x .types)) = rw e at c in
-    rw e
+room-leaves x t k c =
+    let r : Covers (roomIn t) (takenBy (x .kept) (x .types)) = rw (k .counts) at c in
+    rw (k .counts, k .left)
     (record {
       instructions = laid-over (t .instructions) _ _ (records-length 0 (x .kept)) (omega (arith, r .instructions));
       log = laid-over (t .log) _ _ refl (r .log);
@@ -42,10 +42,15 @@ room-leaves x t e c =
 
 -- lent stores, after a load that had their room
 pub load-leaves : (g s : List ℕ) (t : Stores) → let x = load g (roomIn t) s in Leaves t x (laidOn t (storesOf x))
-load-leaves g s t = room-leaves (load g (roomIn t) s) t (load-says g (roomIn t) s .counts) (load-covered g (roomIn t) s)
+load-leaves g s t = room-leaves (load g (roomIn t) s) t (load-says g (roomIn t) s) (load-covered g (roomIn t) s)
 
--- such stores begin with the records
-pub leaves-begin : {t after : Stores} {x : Outcome} → Leaves t x after → BeginWith after (storesOf x)
+-- stores that hold what a load leaves begin with its records
+leaves-begin : {t after : Stores} {x : Outcome} → KeptSays x → Leaves t x after → BeginWith after (storesOf x)
 unfolding storesOf
-leaves-begin l =
-    record { instructions = (_, l .instructions); log = (_, l .log); strings = (_, l .strings); types = (_, l .types) }
+leaves-begin k l =
+    rw (k .left)
+    (record { instructions = (_, l .instructions); log = (_, l .log); strings = (_, l .strings); types = (_, l .types) })
+
+-- so do lent stores after a load
+pub load-begins : (g s : List ℕ) (t : Stores) → let x = load g (roomIn t) s in BeginWith (laidOn t (storesOf x)) (storesOf x)
+load-begins g s t = leaves-begin (load-says g (roomIn t) s) (load-leaves g s t)

@@ -11,7 +11,7 @@ use Rattle.spec.specs.declared.State.the-variants.{Outside}
 use Rattle.spec.specs.declared.Counts.{Counts}
 use Rattle.spec.specs.Base.{joined, implies}
 use Rattle.spec.specs.Layout.{endNumber}
-use Rattle.spec.specs.Records.{Placed, Entry, entry, entryWords, stringStore, logFrom}
+use Rattle.spec.specs.Records.{Placed, Entry, entry, entryWords, stringStore, logFrom, recordsFrom}
 use Rattle.spec.specs.Load.{Outcome, nothing, load, Stores, storesOf}
 use Rattle.spec.specs.Check.{good, check, givenBy}
 use Rattle.spec.specs.Words.{AllBytes}
@@ -19,7 +19,7 @@ use Rattle.demands.proofs.Stores.{BeginWith, records-length, entries-le
 use Rattle.demands.proofs.Starts.{Loads, unformed, overlong, headless, opens, load-is}
 use Rattle.demands.proofs.Kept.{Follow, last, wordsIn}
 use Rattle.demands.proofs.Returns.{kept-is, all-long, sure, module-read}
-use Rattle.demands.proofs.KeptSays.{takenBy, load-says}
+use Rattle.demands.proofs.KeptSays.{takenBy, KeptSays, load-says}
 use Rattle.demands.proofs.CheckBack.{check-back}
 
 -- WHAT A LOAD KEEPS
@@ -59,24 +59,24 @@ load-kept g room s by = of (load-is g room s)
 
 -- what is kept, in stores that begin with its records
 kept-back : (whole : Bool) (x : Outcome) (k : Kept x) → implies whole (eqb (endNumber (k .state)) 0) ≡ true
-    → x .said .counts ≡ takenBy (x .kept) (x .types) → (t : Stores) → BeginWith t (storesOf x)
+    → KeptSays x → (t : Stores) → BeginWith t (storesOf x)
     → check whole (givenBy t (x .said .counts)) ≡ good (x .kept)
 unfolding givenBy takenBy storesOf
 kept-back whole x k w n t b =
-    rw (n, b .instructions .1, b .log .1, b .strings .1)
+    rw (n .counts, b .instructions .1, b .log .1, b .strings .1, n .left)
     (check-back whole (x .kept) (k .state) (k .follow) (omega (arith, k .few)) w (b .instructions .0) (b .log .0) (b .strings .0))
 
 module _ (g : List ℕ) (room : Counts) (s : List ℕ) (by : AllBytes s) (t : Stores) (b : BeginWith t (storesOf (load g room s))) where
   -- the records of a load, accepted or refused, wherever stores begin with them, pass the check, and say what the load keeps
   pub reads-back : check false (givenBy t (load g room s .said .counts)) ≡ good (load g room s .kept)
-  reads-back = kept-back false (load g room s) (load-kept g room s by) refl (load-says g room s .counts) t b
+  reads-back = kept-back false (load g room s) (load-kept g room s by) refl (load-says g room s) t b
 
   -- the records of an accepted load pass the check for module order too
   pub reads-back-whole : load g room s .said .number ≡ 0
       → check true (givenBy t (load g room s .said .counts)) ≡ good (load g room s .kept)
   reads-back-whole z =
       let k : Kept (load g room s) = load-kept g room s by in
-      kept-back true (load g room s) k (rw (k .whole z)) (load-says g room s .counts) t b
+      kept-back true (load g room s) k (rw (k .whole z)) (load-says g room s) t b
 
 -- STORES TELL
 
@@ -104,17 +104,18 @@ same-good : (a b : List Placed) → good a ≡ good b → a ≡ b
 same-good a b e = cc
 
 -- outcomes whose counts are what their records take have the same counts where they have the same records
-same-counts : (x y : Outcome) → x .said .counts ≡ takenBy (x .kept) (x .types) → y .said .counts ≡ takenBy (y .kept) (y .types)
+same-counts : (x y : Outcome) → KeptSays x → KeptSays y
     → storesOf x ≡ storesOf y → x .said .counts ≡ y .said .counts
 unfolding takenBy storesOf
 same-counts x y m n e =
+    let same : recordsFrom 0 (x .kept) ≡ recordsFrom 0 (y .kept) = rw (m .left, n .left) at (ap (λ (t : Stores). t .instructions) e) in
     let i : length (x .kept) ≡ length (y .kept) =
-    omega (arith, ap (λ (t : Stores). length (t .instructions)) e, records-length 0 (x .kept), records-length 0 (y .kept)) in
-    let l : length (logFrom 0 (x .kept)) ≡ length (logFrom 0 (y .kept)) = ap (λ (t : Stores). length (t .log)) e in
-    let s : length (stringStore (x .kept)) ≡ length (stringStore (y .kept)) = ap (λ (t : Stores). length (t .strings)) e in
+    omega (arith, ap length same, records-length 0 (x .kept), records-length 0 (y .kept)) in
+    let l : length (logFrom 0 (x .kept)) ≡ length (logFrom 0 (y .kept)) = rw (m .left, n .left) at (ap (λ (t : Stores). length (t .log)) e) in
+    let s : length (stringStore (x .kept)) ≡ length (stringStore (y .kept)) = rw (m .left, n .left) at (ap (λ (t : Stores). length (t .strings)) e) in
     let t : length (x .types) ≡ length (y .types) =
     omega (arith, ap (λ (t : Stores). length (t .types)) e, entries-length (x .types), entries-length (y .types)) in
-    rw (m, n, i, l, s, t)
+    rw (m .counts, n .counts, i, l, s, t)
 
 -- loads that leave the same records keep the same instructions and the same type entries
 pub stores-tell : (g h : List ℕ) (room other : Counts) (s u : List ℕ) → AllBytes s → AllBytes u
@@ -122,7 +123,7 @@ pub stores-tell : (g h : List ℕ) (room other : Counts) (s u : List ℕ) → Al
 stores-tell g h room other s u bs bu e =
     let x : Outcome = load g room s in
     let y : Outcome = load h other u in
-    let n : x .said .counts ≡ y .said .counts = same-counts x y (load-says g room s .counts) (load-says h other u .counts) e in (
+    let n : x .said .counts ≡ y .said .counts = same-counts x y (load-says g room s) (load-says h other u) e in (
       same-good (x .kept) (y .kept)
           (sym (reads-back g room s bs (storesOf x) (records-begin (storesOf x)))
           ∙ ap₂ (λ (t : Stores) (n : Counts). check false (givenBy t n)) e n

@@ -45,6 +45,7 @@ ended q o =
             counts = o .said .counts;
           };
       kept = o .kept;
+      left = o .left;
       types = o .types;
     }
 
@@ -72,6 +73,7 @@ module _ (grammar : List ℕ) (room : Counts) (s : List ℕ) (b : Opens grammar 
               counts = r .stopped j .said .counts;
             };
         kept = r .stopped j .kept;
+        left = r .stopped j .left;
         types = r .stopped j .types;
       }
 

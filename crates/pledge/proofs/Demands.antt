@@ -21,7 +21,7 @@ use Rattle.loader.specs.Loading.{loading}
 use Rattle.demands.proofs.Returns.{endOf, ended}
 use Rattle.demands.proofs.Numbers.{OfRoom, Source, OfLoad}
 use Rattle.demands.proofs.Rooms.{any-room}
-use Rattle.demands.proofs.Leaves.{Leaves, load-leaves as leaves-of, leaves-begin}
+use Rattle.demands.proofs.Leaves.{Leaves, load-leaves as leaves-of, load-begins}
 use Rattle.demands.proofs.Demand1.{number-bound, number-source, first-fault}
 use Rattle.demands.proofs.Demand3.{comes-back, plain-is-written, writes, same-records}
 use Rattle.loader.proofs.load.Statement as load-contract
@@ -250,7 +250,7 @@ module _ (c : Loading) (p : ParseWriting) (hands : Hands (seen c) (parse-seen p)
   handed-writes fits =
       rw (hands .header, hands .records, loads c .said, loads c .stores)
       (writes (v .grammar) (roomIn (v .before)) (v .bytes) (loads c .bytes) (laidOn (v .before) (storesOf (outcome v)))
-      (leaves-begin (leaves-of (v .grammar) (v .bytes) (v .before))) (w .before) fits)
+      (load-begins (v .grammar) (v .bytes) (v .before)) (w .before) fits)
 
   -- writing the records of a plain module in the order read gives its bytes back: they stand at the start of the output, and past
   -- them what was there

@@ -20,7 +20,7 @@ use Rattle.loader.specs.Loading.{loading}
 use Rattle.records.specs.Steps.{given}
 use Rattle.demands.proofs.Choice.{left, right, both, cases}
 use Rattle.demands.proofs.Stores.{BeginWith}
-use Rattle.demands.proofs.Leaves.{load-leaves, leaves-begin}
+use Rattle.demands.proofs.Leaves.{load-begins}
 use Rattle.demands.proofs.ReadBack.{reads-back}
 use Rattle.demands.proofs.Rooms.{Roomy, any-room}
 use Rattle.demands.proofs.Demand3.{ComesBack, comes-back, writes, plain-is-written}
@@ -54,7 +54,7 @@ module _ (g s : List ℕ) (by : AllBytes s) (t : Stores) (out : List ℕ) (u : S
 
   -- the stores begin with its records
   begins : BeginWith (laidOn t (storesOf X)) (storesOf X)
-  begins = leaves-begin (load-leaves g s t)
+  begins = load-begins g s t
 
   -- bytes that fit are written
   back-fits : length (written X) ≤ length out → back g s t out u ≡ wrote (written X) out

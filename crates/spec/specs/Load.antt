@@ -83,10 +83,11 @@ entered b i tag s =
 
 -- WHAT A LOAD COMES TO
 
--- its answer, and the instructions and type entries kept
+-- its answer, the instructions kept, and what is left in the stores: the instructions, today those kept, and the type entries
 pub record Outcome : Type 0 where
   pub said : Loaded
   pub kept : List Placed
+  pub left : List Placed
   pub types : List Entry
 
 -- is it refused for room
@@ -109,6 +110,7 @@ stop h b n at v =
       said =
           record { number = n; offset = at; index = b .used .instructions + 1; value = v; header = h; counts = b .used };
       kept = b .kept;
+      left = b .kept;
       types = b .types;
     }
 
@@ -118,6 +120,7 @@ nothing n at =
     record {
       said = record { number = n; offset = at; index = 0; value = 0; header = noWords; counts = counts 0 0 0 0 };
       kept = [];
+      left = [];
       types = [];
     }
 
@@ -181,13 +184,17 @@ pub record Stores : Type 0 where
   pub strings : List ℕ
   pub types : List ℕ
 
--- the records of the instructions kept
+-- four stores
+abbrev pub lent : List ℕ → List ℕ → List ℕ → List ℕ → Stores
+lent i l s t = record { instructions = i; log = l; strings = s; types = t }
+
+-- the records of what is left
 unfoldable pub storesOf : Outcome → Stores
 storesOf x =
     record {
-      instructions = recordsFrom 0 (x .kept);
-      log = logFrom 0 (x .kept);
-      strings = stringStore (x .kept);
+      instructions = recordsFrom 0 (x .left);
+      log = logFrom 0 (x .left);
+      strings = stringStore (x .left);
       types = joined entryWords (x .types);
     }
 
