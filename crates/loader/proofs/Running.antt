@@ -20,7 +20,7 @@ use Rattle.spec.specs.Grammar.{Grammar, grammarOf}
 use Rattle.spec.specs.Layout.{endNumber}
 use Rattle.spec.specs.Types.{track}
 use Rattle.spec.specs.Match.{readInstr}
-use Rattle.spec.specs.Load.{roomOf, Book, emptyBook, Outcome, stop, loadFrom, storesOf, laidOver, roomed, onBook}
+use Rattle.spec.specs.Load.{roomOf, Book, emptyBook, Outcome, stop, loadFrom, lent, roomIn, storesOf, laidOver, laidOn, roomed, onBook}
 use Rattle.demands.proofs.Lists.{has-leb}
 use Rattle.demands.proofs.Room.{fits-covers}
 use Rattle.demands.proofs.Stores.{operands-log-length, records-length, strings-more, log-more}
@@ -30,7 +30,8 @@ use Rattle.tracker.proofs.Hinting.{hinted-none}
 use Rattle.loader.specs.declared.parts.Progress.{Progress}
 use Rattle.loader.specs.declared.step.Step.{Step}
 use Rattle.loader.specs.declared.step.Step.the-variants.{On, Stop}
-use Rattle.loader.specs.Steps.{usedBy, saidAt, readAt, placedAs, Bounded, Halts, unread, misplaced, crowded, Keeps, Halted, Steps, Leaves}
+use Rattle.loader.specs.Steps.{usedBy, saidAt, readAt, placedAs, Bounded, Halts, unread, misplaced, crowded, Keeps, Halted, Steps}
+use Rattle.loader.specs.Loading.{Leaves}
 use Rattle.loader.proofs.Growing.{records-more, grow, entries-next, types-next}
 
 -- THE DEFINITION, A STEP AT A TIME
@@ -110,10 +111,10 @@ pub record Running (s g : List ℕ) (room : Counts) (h : List ℕ) (whole : Outc
 pub start : (s g : List ℕ) (room : Counts) (h i₀ l₀ s₀ t₀ h₀ : List ℕ) → room ≡ roomOf (length i₀) (length l₀) (length s₀) (length t₀)
     → 20 ≤ length s
     → Running s g room h
-    (loadFrom (grammarOf g) (roomOf (length i₀) (length l₀) (length s₀) (length t₀)) h (length s / 4) emptyBook (readerAt s 20 Unlimited))
+    (loadFrom (grammarOf g) (roomIn (lent i₀ l₀ s₀ t₀)) h (length s / 4) emptyBook (readerAt s 20 Unlimited))
     i₀ l₀ s₀ t₀ h₀ i₀ l₀ s₀ t₀ h₀
     (record { at = 20; instructions = 0; log = 0; strings = 0; types = 0; greatest = 0; state = Outside })
-unfolding entriesOf recordsFrom logFrom stringStore stored laidOver
+unfolding roomIn entriesOf recordsFrom logFrom stringStore stored laidOver
 start s g room h i₀ l₀ s₀ t₀ h₀ e few =
     record {
       kept = [];
@@ -179,20 +180,21 @@ module _ {s g : List ℕ} {room : Counts} {h : List ℕ} {whole : Outcome} {i₀
 
   -- where the load stops, the answer and the stores say so
   stopped : (n at v : ℕ) → whole ≡ stop h (bookOf (r .kept) (entriesOf (p .types) t) p) n at v → (a : Loaded)
-      → a ≡ saidAt h (usedBy p) n at v → Leaves whole i₀ l₀ s₀ t₀ i l w t a
-  unfolding saidAt storesOf laidOver stored
+      → a ≡ saidAt h (usedBy p) n at v → Leaves whole (lent i₀ l₀ s₀ t₀) (lent i l w t) a
+  unfolding saidAt storesOf laidOn laidOver stored
   stopped n at v e a q =
       record {
         said = q ∙ sym (ap (λ (o : Outcome). o .said) e);
-        instructions-are = r .instructions-are ∙ sym (ap (λ (o : Outcome). sets i₀ 0 (recordsFrom 0 (o .kept))) e);
-        log-is = r .log-is ∙ sym (ap (λ (o : Outcome). sets l₀ 0 (logFrom 0 (o .kept))) e);
-        strings-are = r .strings-are ∙ sym (ap (λ (o : Outcome). sets s₀ 0 (stringStore (o .kept))) e);
-        types-are = r .types-are ∙ sym (ap (λ (o : Outcome). sets t₀ 0 (joined entryWords (o .types))) e);
+        stores = λ j.
+            lent ((r .instructions-are ∙ sym (ap (λ (o : Outcome). sets i₀ 0 (recordsFrom 0 (o .left))) e)) j)
+            ((r .log-is ∙ sym (ap (λ (o : Outcome). sets l₀ 0 (logFrom 0 (o .left))) e)) j)
+            ((r .strings-are ∙ sym (ap (λ (o : Outcome). sets s₀ 0 (stringStore (o .left))) e)) j)
+            ((r .types-are ∙ sym (ap (λ (o : Outcome). sets t₀ 0 (joined entryWords (o .types))) e)) j);
       }
 
   -- no word is left
   pub ends : length s - p .at < 4 → (n : ℕ) → n ≡ endNumber (p .state) → (a : Loaded) → a ≡ saidAt h (usedBy p) n (p .at) 0
-      → Leaves whole i₀ l₀ s₀ t₀ i l w t a
+      → Leaves whole (lent i₀ l₀ s₀ t₀) (lent i l w t) a
   ends none n e a q =
       stopped (endNumber (p .state)) (p .at) 0
       (r .left ∙ load-ends (grammarOf g) room h s (r .kept) (entriesOf (p .types) t) p (r .fuel) none) a
@@ -213,7 +215,7 @@ module _ {s g : List ℕ} {room : Counts} {h : List ℕ} {whole : Outcome} {i₀
   module _ (more : 4 ≤ length s - p .at) (i₁ l₁ w₁ t₁ h₁ : List ℕ) where
     -- the load stops at an instruction
     halts : (y : Refusal) → Halted (readAt s g t p) room i l w t i₁ l₁ w₁ t₁ p y → (a : Loaded)
-        → a ≡ saidAt h (usedBy p) (y .number) (y .place) (y .value) → Leaves whole i₀ l₀ s₀ t₀ i₁ l₁ w₁ t₁ a
+        → a ≡ saidAt h (usedBy p) (y .number) (y .place) (y .value) → Leaves whole (lent i₀ l₀ s₀ t₀) (lent i₁ l₁ w₁ t₁) a
     halts y z a q =
         let e = left-more more ∙ load-stops (grammarOf g) room h s (r .kept) (entriesOf (p .types) t) p (r .fuel - 1) y more (z .why) in
         rw (z .instructions-are, z .log-is, z .strings-are, z .types-are) (stopped (y .number) (y .place) (y .value) e a q)
@@ -291,7 +293,7 @@ module _ {s g : List ℕ} {room : Counts} {h : List ℕ} {whole : Outcome} {i₀
     module _ (v : Step) (z : Steps s (readAt s g t p) room i l w t i₁ l₁ w₁ t₁ h₁ p v) where
       -- it stops the load
       pub step-halts : (y : Refusal) → v ≡ Stop y → (a : Loaded) → a ≡ saidAt h (usedBy p) (y .number) (y .place) (y .value)
-          → Leaves whole i₀ l₀ s₀ t₀ i₁ l₁ w₁ t₁ a
+          → Leaves whole (lent i₀ l₀ s₀ t₀) (lent i₁ l₁ w₁ t₁) a
       unfolding Steps
       step-halts y e a f = halts y (subst (Steps s (readAt s g t p) room i l w t i₁ l₁ w₁ t₁ h₁ p) e z) a f
 

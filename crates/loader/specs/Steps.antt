@@ -21,7 +21,7 @@ use Rattle.spec.specs.Grammar.{grammarOf}
 use Rattle.spec.specs.Layout.{layoutOf}
 use Rattle.spec.specs.Types.{track}
 use Rattle.spec.specs.Match.{readInstr}
-use Rattle.spec.specs.Load.{counts, usedAfter, roomFault, Outcome, storesOf, laidOver}
+use Rattle.spec.specs.Load.{counts, usedAfter, roomFault}
 use Rattle.tracker.specs.Entries.{entriesOf, stored}
 use Rattle.tracker.specs.Hints.{Hinted}
 use Rattle.tracker.specs.Track.{idIs, literalOf, trackOf}
@@ -158,13 +158,3 @@ pub record Halted (x : Read Instr) (room : Counts) (i₀ l₀ s₀ t₀ i₁ l�
 unfoldable pub Steps : List ℕ → Read Instr → Counts → List ℕ → List ℕ → List ℕ → List ℕ → List ℕ → List ℕ → List ℕ → List ℕ → List ℕ → Progress → Step → Type 0
 Steps s x room i₀ l₀ s₀ t₀ i₁ l₁ s₁ t₁ h₁ p (On r) = Keeps s x room i₀ l₀ s₀ t₀ i₁ l₁ s₁ t₁ h₁ p r
 Steps s x room i₀ l₀ s₀ t₀ i₁ l₁ s₁ t₁ h₁ p (Stop y) = Halted x room i₀ l₀ s₀ t₀ i₁ l₁ s₁ t₁ p y
-
--- A LOAD
-
--- what a load of which x became answers, and leaves in the stores
-pub record Leaves (x : Outcome) (i₀ l₀ s₀ t₀ i₁ l₁ s₁ t₁ : List ℕ) (r : Loaded) : Type 0 where
-  pub said : r ≡ x .said
-  pub instructions-are : i₁ ≡ laidOver i₀ (storesOf x .instructions)
-  pub log-is : l₁ ≡ laidOver l₀ (storesOf x .log)
-  pub strings-are : s₁ ≡ laidOver s₀ (storesOf x .strings)
-  pub types-are : t₁ ≡ laidOver t₀ (storesOf x .types)

@@ -1,9 +1,7 @@
 // Loading: a module's instructions into lent stores, each decoded, placed in the layout and given room, or the first fault.
-ghost use mathlib.Core.Path.{_≡_};
-ghost use Rattle.spec.specs.Words.{AllBytes};
 ghost use Rattle.spec.specs.Builtin.{builtin};
-ghost use Rattle.spec.specs.Load.{storesOf, laidOver};
-ghost use Rattle.loader.specs.Loading.{loading};
+ghost use Rattle.spec.specs.Load.{lent};
+ghost use Rattle.loader.specs.Loading.{Loads};
 
 mod parts;
 mod run;
@@ -24,12 +22,9 @@ pub fn load(
     strings: &mut [u8],
     types: &mut [u32],
 ) -> Loaded
-    ensures { λ r. ⌜ r ≡ loading (now («module» .entry)) (now (grammar .entry)) (now (instructions .entry)) (now (log .entry)) (now (strings .entry)) (now (types .entry)) .said ⌝ }
-    ensures { λ _. ⌜ now (instructions .exit) ≡ laidOver (now (instructions .entry)) (storesOf (loading (now («module» .entry)) (now (grammar .entry)) (now (instructions .entry)) (now (log .entry)) (now (strings .entry)) (now (types .entry))) .instructions) ⌝ }
-    ensures { λ _. ⌜ now (log .exit) ≡ laidOver (now (log .entry)) (storesOf (loading (now («module» .entry)) (now (grammar .entry)) (now (instructions .entry)) (now (log .entry)) (now (strings .entry)) (now (types .entry))) .log) ⌝ }
-    ensures { λ _. ⌜ now (strings .exit) ≡ laidOver (now (strings .entry)) (storesOf (loading (now («module» .entry)) (now (grammar .entry)) (now (instructions .entry)) (now (log .entry)) (now (strings .entry)) (now (types .entry))) .strings) ⌝ }
-    ensures { λ _. ⌜ now (types .exit) ≡ laidOver (now (types .entry)) (storesOf (loading (now («module» .entry)) (now (grammar .entry)) (now (instructions .entry)) (now (log .entry)) (now (strings .entry)) (now (types .entry))) .types) ⌝ }
-    ensures { λ _. ⌜ AllBytes (now («module» .entry)) ⌝ }
+    ensures { λ r. ⌜ Loads (now («module» .entry)) (now (grammar .entry))
+        (lent (now (instructions .entry)) (now (log .entry)) (now (strings .entry)) (now (types .entry)))
+        (lent (now (instructions .exit)) (now (log .exit)) (now (strings .exit)) (now (types .exit))) r ⌝ }
 {
     if !grammar::well_formed(grammar) {
         return no_instruction(24, 0);
@@ -50,12 +45,9 @@ pub fn load_builtin(
     strings: &mut [u8],
     types: &mut [u32],
 ) -> Loaded
-    ensures { λ r. ⌜ r ≡ loading (now («module» .entry)) builtin (now (instructions .entry)) (now (log .entry)) (now (strings .entry)) (now (types .entry)) .said ⌝ }
-    ensures { λ _. ⌜ now (instructions .exit) ≡ laidOver (now (instructions .entry)) (storesOf (loading (now («module» .entry)) builtin (now (instructions .entry)) (now (log .entry)) (now (strings .entry)) (now (types .entry))) .instructions) ⌝ }
-    ensures { λ _. ⌜ now (log .exit) ≡ laidOver (now (log .entry)) (storesOf (loading (now («module» .entry)) builtin (now (instructions .entry)) (now (log .entry)) (now (strings .entry)) (now (types .entry))) .log) ⌝ }
-    ensures { λ _. ⌜ now (strings .exit) ≡ laidOver (now (strings .entry)) (storesOf (loading (now («module» .entry)) builtin (now (instructions .entry)) (now (log .entry)) (now (strings .entry)) (now (types .entry))) .strings) ⌝ }
-    ensures { λ _. ⌜ now (types .exit) ≡ laidOver (now (types .entry)) (storesOf (loading (now («module» .entry)) builtin (now (instructions .entry)) (now (log .entry)) (now (strings .entry)) (now (types .entry))) .types) ⌝ }
-    ensures { λ _. ⌜ AllBytes (now («module» .entry)) ⌝ }
+    ensures { λ r. ⌜ Loads (now («module» .entry)) builtin
+        (lent (now (instructions .entry)) (now (log .entry)) (now (strings .entry)) (now (types .entry)))
+        (lent (now (instructions .exit)) (now (log .exit)) (now (strings .exit)) (now (types .exit))) r ⌝ }
 {
     let table = builtin::table();
     let index = builtin::prepared();

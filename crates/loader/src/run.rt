@@ -5,10 +5,10 @@ ghost use lib.ListN.{length};
 ghost use Rattle.spec.specs.declared.Limit.the-variants.{Unlimited};
 ghost use Rattle.spec.specs.Reader.{readerAt};
 ghost use Rattle.spec.specs.Grammar.{grammarOf};
-ghost use Rattle.spec.specs.Load.{roomOf, emptyBook, loadFrom, loadWith};
+ghost use Rattle.spec.specs.Load.{lent, roomIn, emptyBook, loadFrom, loadWith};
 ghost use Rattle.reflect.specs.Column.{layoutTable, kindTable};
 ghost use Rattle.grammar.specs.Index.{Indexed};
-ghost use Rattle.loader.specs.Steps.{Leaves};
+ghost use Rattle.loader.specs.Loading.{Leaves};
 use crate::parts::Progress;
 use crate::parts::end_number;
 use crate::parts::no_instruction;
@@ -51,7 +51,9 @@ fn load_from(
     requires { ⌜ Indexed (now g) (now index) ⌝ }
     requires { ⌜ (20 ≤ length (now s)) × (length (now s) ≤ 67108864) ⌝ }
     requires { ⌜ (now table ≡ layoutTable) × (now kinds ≡ kindTable) ⌝ }
-    ensures { λ r. ⌜ Leaves (loadFrom (grammarOf (now (g .entry))) (roomOf (length (now (instructions .entry))) (length (now (log .entry))) (length (now (strings .entry))) (length (now (types .entry)))) header (length (now (s .entry)) / 4) emptyBook (readerAt (now (s .entry)) 20 Unlimited)) (now (instructions .entry)) (now (log .entry)) (now (strings .entry)) (now (types .entry)) (now (instructions .exit)) (now (log .exit)) (now (strings .exit)) (now (types .exit)) r ⌝ }
+    ensures { λ r. ⌜ Leaves (loadFrom (grammarOf (now (g .entry))) (roomIn (lent (now (instructions .entry)) (now (log .entry)) (now (strings .entry)) (now (types .entry)))) header (length (now (s .entry)) / 4) emptyBook (readerAt (now (s .entry)) 20 Unlimited))
+        (lent (now (instructions .entry)) (now (log .entry)) (now (strings .entry)) (now (types .entry)))
+        (lent (now (instructions .exit)) (now (log .exit)) (now (strings .exit)) (now (types .exit))) r ⌝ }
 {
     let room = room_in(instructions.len(), log.len(), strings.len(), types.len());
     let mut p = Progress {
@@ -106,7 +108,9 @@ fn load_with(
 ) -> Loaded
     requires { ⌜ Indexed (now g) (now index) ⌝ }
     requires { ⌜ (now table ≡ layoutTable) × (now kinds ≡ kindTable) ⌝ }
-    ensures { λ r. ⌜ Leaves (loadWith (grammarOf (now (g .entry))) (roomOf (length (now (instructions .entry))) (length (now (log .entry))) (length (now (strings .entry))) (length (now (types .entry)))) (now (s .entry))) (now (instructions .entry)) (now (log .entry)) (now (strings .entry)) (now (types .entry)) (now (instructions .exit)) (now (log .exit)) (now (strings .exit)) (now (types .exit)) r ⌝ }
+    ensures { λ r. ⌜ Leaves (loadWith (grammarOf (now (g .entry))) (roomIn (lent (now (instructions .entry)) (now (log .entry)) (now (strings .entry)) (now (types .entry)))) (now (s .entry)))
+        (lent (now (instructions .entry)) (now (log .entry)) (now (strings .entry)) (now (types .entry)))
+        (lent (now (instructions .exit)) (now (log .exit)) (now (strings .exit)) (now (types .exit))) r ⌝ }
 {
     if 67108864 < s.len() {
         return no_instruction(31, 0);
@@ -152,7 +156,9 @@ pub fn load_few(
     types: &mut [u32],
 ) -> Loaded
     requires { ⌜ Indexed (now g) (now index) ⌝ }
-    ensures { λ r. ⌜ Leaves (loadWith (grammarOf (now (g .entry))) (roomOf (length (now (instructions .entry))) (length (now (log .entry))) (length (now (strings .entry))) (length (now (types .entry)))) (now (s .entry))) (now (instructions .entry)) (now (log .entry)) (now (strings .entry)) (now (types .entry)) (now (instructions .exit)) (now (log .exit)) (now (strings .exit)) (now (types .exit)) r ⌝ }
+    ensures { λ r. ⌜ Leaves (loadWith (grammarOf (now (g .entry))) (roomIn (lent (now (instructions .entry)) (now (log .entry)) (now (strings .entry)) (now (types .entry)))) (now (s .entry)))
+        (lent (now (instructions .entry)) (now (log .entry)) (now (strings .entry)) (now (types .entry)))
+        (lent (now (instructions .exit)) (now (log .exit)) (now (strings .exit)) (now (types .exit))) r ⌝ }
 {
     let kinds = reflect::kinds();
     let table = reflect::table();
@@ -186,7 +192,9 @@ pub fn load_many(
     types: &mut [u32],
 ) -> Loaded
     requires { ⌜ Indexed (now g) (now index) ⌝ }
-    ensures { λ r. ⌜ Leaves (loadWith (grammarOf (now (g .entry))) (roomOf (length (now (instructions .entry))) (length (now (log .entry))) (length (now (strings .entry))) (length (now (types .entry)))) (now (s .entry))) (now (instructions .entry)) (now (log .entry)) (now (strings .entry)) (now (types .entry)) (now (instructions .exit)) (now (log .exit)) (now (strings .exit)) (now (types .exit)) r ⌝ }
+    ensures { λ r. ⌜ Leaves (loadWith (grammarOf (now (g .entry))) (roomIn (lent (now (instructions .entry)) (now (log .entry)) (now (strings .entry)) (now (types .entry)))) (now (s .entry)))
+        (lent (now (instructions .entry)) (now (log .entry)) (now (strings .entry)) (now (types .entry)))
+        (lent (now (instructions .exit)) (now (log .exit)) (now (strings .exit)) (now (types .exit))) r ⌝ }
 {
     let kinds = reflect::kinds();
     let table = reflect::table();

@@ -16,7 +16,7 @@ returns : tie.Need-returns
 returns c =
     let checked = c .before .before in
     let entry = checked .before .before .before .before .before .before in
-    load-unformed _ _ _ _ _ _ (entry .shared-slice-known .given) (sym (checked .well-formed .ensures) ∙ not-true _ (c .before .if1 .taken)) _
+    load-unformed _ _ _ (entry .shared-slice-known .given) (sym (checked .well-formed .ensures) ∙ not-true _ (c .before .if1 .taken)) _
     (c .no-instruction .ensures)
 
 slice-aggregate-fill-index : tie.Need-slice-aggregate-fill-index
@@ -49,7 +49,7 @@ returns-2 c =
     let well = loaded .before .before .before .before .before .before .before .before .before .before in
     let checked = well .before in
     let entry = checked .before .before .before .before .before .before in
-    load-formed _ _ _ _ _ _ (entry .shared-slice-known .given) (sym (checked .well-formed .ensures) ∙ not-false _ (well .if1 .left)) _ _ _ _ _
+    load-formed _ _ _ (entry .shared-slice-known .given) (sym (checked .well-formed .ensures) ∙ not-false _ (well .if1 .left)) _ _
     (loaded .load-few .ensures)
 
 slice-aggregate-load-many : tie.Need-slice-aggregate-load-many
@@ -76,7 +76,7 @@ returns-3 c =
     let well = loaded .before .before .before .before .before .before .before .before .before .before in
     let checked = well .before in
     let entry = checked .before .before .before .before .before .before in
-    load-formed _ _ _ _ _ _ (entry .shared-slice-known .given) (sym (checked .well-formed .ensures) ∙ not-false _ (well .if1 .left)) _ _ _ _ _
+    load-formed _ _ _ (entry .shared-slice-known .given) (sym (checked .well-formed .ensures) ∙ not-false _ (well .if1 .left)) _ _
     (loaded .load-many .ensures)
 
 pub load-spec : {M : Type 1} → statement M

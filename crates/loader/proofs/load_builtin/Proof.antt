@@ -36,7 +36,7 @@ returns c =
     let loaded = c .before .before .before .before .before .before .before .before in
     let tabled = loaded .before .before .before .before .before .before .before .before .before in
     let entry = tabled .before .before .before .before .before in
-    load-prepared _ _ _ _ _ _ (entry .shared-slice-known .given) (tabled .table .ensures) _ _ _ _ _ (loaded .load-few .ensures)
+    load-prepared _ _ _ (entry .shared-slice-known .given) (tabled .table .ensures) _ _ (loaded .load-few .ensures)
 
 slice-aggregate-load-many : tie.Need-slice-aggregate-load-many
 slice-aggregate-load-many c = search needs
@@ -64,7 +64,7 @@ returns-2 c =
     let loaded = c .before .before .before .before .before .before .before .before in
     let tabled = loaded .before .before .before .before .before .before .before .before .before in
     let entry = tabled .before .before .before .before .before in
-    load-prepared _ _ _ _ _ _ (entry .shared-slice-known .given) (tabled .table .ensures) _ _ _ _ _ (loaded .load-many .ensures)
+    load-prepared _ _ _ (entry .shared-slice-known .given) (tabled .table .ensures) _ _ (loaded .load-many .ensures)
 
 pub load-builtin-spec : {M : Type 1} → statement M
 load-builtin-spec =

@@ -1,7 +1,7 @@
 -- `loader::run::load_from` meets its contract: the invariant is that the load from where it stands is the load of the whole.
 use mathlib.Core.Path.{_≡_, refl, _∙_}
 use Rattle.loader.proofs.Running.{Running, start, same-instructions, same-log, same-strings, same-types, room-now, bounded, few-kept, ends, step-halts, step-goes, step-fewer}
-use Rattle.spec.specs.Load.{roomOf, emptyBook, loadFrom}
+use Rattle.spec.specs.Load.{lent, roomIn, emptyBook, loadFrom}
 use Rattle.spec.specs.Grammar.{grammarOf}
 use Rattle.spec.specs.Reader.{readerAt}
 use Rattle.spec.specs.declared.Limit.the-variants.{Unlimited}
@@ -14,7 +14,7 @@ use Rattle.loader.proofs.run.load_from.Tie as tie
 abbrev Inv-loop : tie.InvT-loop
 Inv-loop kinds table s g index header instructions₀ log₀ strings₀ types₀ hints₀ scratch₀ spare₀ room p₀ instructions log strings types hints scratch spare p =
     Running s g room header
-    (loadFrom (grammarOf g) (roomOf (length instructions₀) (length log₀) (length strings₀) (length types₀)) header (length s / 4) emptyBook (readerAt s 20 Unlimited))
+    (loadFrom (grammarOf g) (roomIn (lent instructions₀ log₀ strings₀ types₀)) header (length s / 4) emptyBook (readerAt s 20 Unlimited))
     instructions₀ log₀ strings₀ types₀ hints₀ instructions log strings types hints p
     × ((length scratch ≡ length scratch₀) × (length spare ≡ length spare₀))
 

@@ -8,7 +8,7 @@ no-instruction-requires : tie.Need-no-instruction-requires
 no-instruction-requires c κs = search needs
 
 returns : tie.Need-returns
-returns c = with-long _ _ _ (c .before .if1 .taken) _ _ _ _ _ (c .no-instruction .ensures)
+returns c = with-long _ _ _ (c .before .if1 .taken) _ _ (c .no-instruction .ensures)
 
 header-requires : tie.Need-header-requires
 header-requires c κs = search needs
@@ -17,7 +17,7 @@ no-instruction-requires-2 : tie.Need-no-instruction-requires-2
 no-instruction-requires-2 c κs = search needs
 
 returns-2 : tie.Need-returns-2
-returns-2 c = with-headless _ _ _ (c .before .before .before .before .before .if1 .left) _ (c .before .before .before .before .header .ensures) (c .before .if2 .taken) _ _ _ _ _ (c .no-instruction2 .ensures)
+returns-2 c = with-headless _ _ _ (c .before .before .before .before .before .if1 .left) _ (c .before .before .before .before .header .ensures) (c .before .if2 .taken) _ _ (c .no-instruction2 .ensures)
 
 load-from-requires : tie.Need-load-from-requires
 load-from-requires c κs =
@@ -47,7 +47,7 @@ same-length-7 c = search needs
 
 returns-3 : tie.Need-returns-3
 returns-3 c =
-    with-header _ _ _ (c .before .before .before .before .before .before .before .before .before .before .before .before .before .before .before .before .before .before .before .before .before .before .before .before .before .before .before .if1 .left) _ (c .before .before .before .before .before .before .before .before .before .before .before .before .before .before .before .before .before .before .before .before .before .before .before .before .before .before .header .ensures) (c .before .before .before .before .before .before .before .before .before .before .before .before .before .before .before .before .before .before .before .before .before .before .before .if2 .left) _ _ _ _ _ _ _ _ _ (c .before .before .before .before .before .before .before .before .before .before .before .before .before .before .load-from .ensures)
+    with-header _ _ _ (c .before .before .before .before .before .before .before .before .before .before .before .before .before .before .before .before .before .before .before .before .before .before .before .before .before .before .before .if1 .left) _ (c .before .before .before .before .before .before .before .before .before .before .before .before .before .before .before .before .before .before .before .before .before .before .before .before .before .before .header .ensures) (c .before .before .before .before .before .before .before .before .before .before .before .before .before .before .before .before .before .before .before .before .before .before .before .if2 .left) _ _ _ (c .before .before .before .before .before .before .before .before .before .before .before .before .before .before .load-from .ensures)
 
 pub load-with-spec : {M : Type 1} → statement M
 load-with-spec =
