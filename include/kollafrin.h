@@ -1,9 +1,11 @@
 /* kollafrin: a SPIR-V module into records in lent stores, and back into bytes.
  *
- * The functions are in libkollafrin.a (`rt staticlib kollafrin`). Each is proved against its contract in
- * crates/kollafrin/src/lib.rt: the number that it returns, each word of `answer` and each store after it follow from what goes in,
- * refused or not. None allocates, fails in another way than by its number, or keeps what it is lent. What each takes of the stack is
- * in kollafrin_stack: a thread that has less left ends with a fault.
+ * The functions are in libkollafrin.a (`rt staticlib kollafrin`). docs/REFERENCE.md has all that a caller has to know on one page:
+ * the stores, the kinds of operands, grammars, what is refused and in which order, and what to do about it.
+ *
+ * Each function is proved against its contract in crates/kollafrin/src/lib.rt: the number that it returns, each word of `answer` and
+ * each store after it follow from what goes in, refused or not. None allocates, fails in another way than by its number, or keeps what
+ * it is lent. What each takes of the stack is in kollafrin_stack: a thread that has less left ends with a fault.
  *
  * A store passes as a pointer and the number of its elements (words of a uint32_t store, bytes of a uint8_t store). What a caller
  * owes: every pointer is valid for its length and aligned for its type; and a store that is written (no `const`) overlaps no other
@@ -28,8 +30,8 @@ extern "C" {
  * with kollafrin_version() before any other call: where they differ, this header is not that of the library. */
 #define KOLLAFRIN_VERSION 1
 
-/* The numbers that the functions return. The offset of a load's answer is where each is found; where nothing is said of offset or
- * value, they are 0. "Its instruction" is where the instruction starts. */
+/* The numbers that the functions return; docs/REFERENCE.md ("The numbers") says more of each. The offset of a load's answer is where
+ * each is found; where nothing is said of offset or value, they are 0. "Its instruction" is where the instruction starts. */
 enum kollafrin_number {
     KOLLAFRIN_ACCEPTED = 0,                     /* Accepted. Load: the offset is the end of the whole words. */
     KOLLAFRIN_HEADER_INCOMPLETE = 1,            /* The header has less than five words. Offset of the missing word. */
@@ -105,7 +107,7 @@ size_t kollafrin_builtin(uint8_t *out, size_t out_length);
  * result id; section tag; byte offset; result type or 0; result id or 0; start in the log; operand count; word count). `log` takes
  * for each operand its kind in a byte, then 4 bytes, or 8 for a 64-bit literal and for a string (start and length in `strings`).
  * `strings` takes the bytes of the strings without their zero. `types` takes three words for each type entry (id; width; 1 unsigned,
- * 2 signed, 3 float).
+ * 2 signed, 3 float). docs/REFERENCE.md has the section tags (1 to 16), the kinds of operands (1 to 45) and two examples.
  *
  * Sizes that always suffice, with W whole words after the header (W = module_length / 4 - 5): 8 W words of instructions, 9 W bytes
  * of log, 4 W bytes of strings, 3 W words of types.
@@ -113,7 +115,8 @@ size_t kollafrin_builtin(uint8_t *out, size_t out_length);
  * A refusal leaves in the stores, up to the counts in `answer`, the records of the instructions before the one refused; after 1, 2, 3,
  * 24 and 31 there are none. Accepted or refused, no store is changed past its count.
  *
- * The grammar is checked at each call; kollafrin_load_builtin has no need to. `answer`: see kollafrin_load_word. */
+ * A grammar is bytes: docs/REFERENCE.md ("Grammars") has its items and the rules of a well-formed one. It is checked at each call;
+ * kollafrin_load_builtin has no need to. `answer`: see kollafrin_load_word. */
 uint32_t kollafrin_load(const uint8_t *module_bytes, size_t module_length, const uint8_t *grammar, size_t grammar_length,
                         uint32_t *instructions, size_t instructions_length, uint8_t *log, size_t log_length, uint8_t *strings,
                         size_t strings_length, uint32_t *types, size_t types_length, uint32_t answer[16]);
@@ -124,7 +127,7 @@ uint32_t kollafrin_load_builtin(const uint8_t *module_bytes, size_t module_lengt
                                 size_t types_length, uint32_t answer[16]);
 
 /* Writes the header words and the instructions in the order read, and returns 0, 29 or 30. The counts are those of a load's answer
- * (words 4, 5 and 6), or of records made otherwise, which are checked first: 30.
+ * (words 4, 5 and 6), or of records made otherwise, which are checked first: 30, and docs/REFERENCE.md ("Writing") says what is bad.
  *
  * The records of an accepted module are written as its whole words: 4 * (module_length / 4) bytes.
  *

@@ -6,6 +6,8 @@
  *     cc -std=c99 -O2 -Iinclude examples/c/roundtrip.c -Ltarget/staticlib -lkollafrin -o target/roundtrip
  *     target/roundtrip in.spv out.spv
  *
+ * include/kollafrin.h says what each function does, docs/REFERENCE.md what stands in the stores and what each number means.
+ *
  * The exit status is 0 for a module that is accepted and written, 1 for one that is refused, 2 where a file or memory lacks or the
  * library has another version than the header.
  */

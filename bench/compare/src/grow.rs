@@ -30,7 +30,7 @@ pub fn bytes_of(words: &[u32]) -> Vec<u8> {
     words.iter().flat_map(|w| w.to_le_bytes()).collect()
 }
 
-/// The paper's H.
+/// The header that docs/REFERENCE.md calls H.
 pub const H: [u32; 5] = [MAGIC, 0x0001_0000, 0, 0, 0];
 
 /// H and these words, as bytes.

@@ -7,7 +7,7 @@ use rspirv::{binary, dr, grammar, spirv};
 /// The crate's answers.
 pub mod krate;
 
-/// A plain reading of the scope paper.
+/// A separate reading of what a load and a write are to do.
 pub mod reading;
 
 /// Seeded inputs: modules grown from a grammar, damaged copies.

@@ -1,4 +1,4 @@
-//! The library against the crate rspirv and a separate reading of the scope paper. See README.md.
+//! The library against the crate rspirv and a separate reading of what it is to do. See README.md.
 //!
 //!     compare [--seed S] [--threads T] [--million N | --minutes M] [--samples FOLDER]...
 

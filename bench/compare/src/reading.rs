@@ -1,4 +1,4 @@
-//! The scope paper (01-scope.md), read plainly in Rust: one part per section of the paper.
+//! What a load and a write are to do (docs/REFERENCE.md), read plainly in Rust, part by part.
 //!
 //! Nothing here is fast or clever, and nothing is shared with the crate rspirv; the numbers of
 //! opcodes are the standard's. `against` runs this reading against the crate, `cases` prints what
@@ -6,7 +6,7 @@
 
 use std::cmp::min;
 
-/// A refusal: the paper's number, its place (a byte offset) and its value.
+/// A refusal: its number, its place (a byte offset) and its value.
 #[derive(Clone, Copy, Debug, PartialEq, Eq)]
 pub struct Refusal {
     pub number: u32,

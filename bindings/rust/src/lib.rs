@@ -21,6 +21,9 @@
 //!
 //! Linking needs the archive `libkollafrin.a`, made by `rt staticlib kollafrin` for x86-64. It is looked for in the folder
 //! `target/staticlib` of the repository, or where the environment variable `KOLLAFRIN_LIB` says.
+//!
+//! The stores, the kinds of operands, grammars, the order of faults, both orders of writing and what to do about each refusal are
+//! told on one page, docs/REFERENCE.md of the repository.
 
 #![warn(missing_docs)]
 
@@ -62,7 +65,7 @@ pub struct Module {
 }
 
 impl Module {
-    /// Loads a module by the bytes of a grammar.
+    /// Loads a module by the bytes of a grammar, as docs/REFERENCE.md says ("Grammars"); 24 where they are not well-formed.
     pub fn load(bytes: &[u8], grammar: &[u8]) -> Result<Module, Error> {
         whole(Module::load_kept(bytes, grammar)?)
     }
@@ -111,7 +114,7 @@ impl Module {
     }
 
     /// A module of records from elsewhere. Nothing is checked here: the writers and [`Module::standing`] refuse with 30 what
-    /// breaks the layout of the stores. Words past the last whole record of eight are left out.
+    /// breaks the layout of the stores (docs/REFERENCE.md, "Writing"). Words past the last whole record of eight are left out.
     pub fn from_stores(header: [u32; 5], mut instructions: Vec<u32>, log: Vec<u8>, strings: Vec<u8>, types: Vec<u32>) -> Module {
         instructions.truncate(instructions.len() / 8 * 8);
         Module { header, instructions, log, strings, types }
@@ -123,7 +126,8 @@ impl Module {
         self.write(door::write_parse_order)
     }
 
-    /// The bytes of the module in the order of its sections, with the header that the crate rspirv writes.
+    /// The bytes of the module in the order of its sections, then function by function, with the header that the crate rspirv writes:
+    /// of the version major and minor alone, the bound, and constants. Of several memory models the last alone is written.
     pub fn write_module_order(&self) -> Result<Vec<u8>, Error> {
         self.write(door::write_module_order)
     }

@@ -5,7 +5,9 @@
 pub struct Instruction<'a> {
     /// The opcode.
     pub opcode: u16,
-    /// The section: 1 to 11 module sections, 12 function, 13 parameter, 14 label, 15 in a block, 16 function end.
+    /// The section: 1 capabilities, 2 extensions, 3 imports, 4 memory model, 5 entry points, 6 execution modes, 7 strings and sources,
+    /// 8 names, 9 notes of what processed the module, 10 annotations, 11 types, constants and globals; 12 function, 13 parameter,
+    /// 14 label, 15 in a block, 16 function end.
     pub tag: u32,
     /// The byte offset in the module.
     pub offset: u32,
@@ -66,7 +68,7 @@ impl ExactSizeIterator for Instructions<'_> {}
 /// One operand.
 #[derive(Clone, Copy, Debug, PartialEq, Eq)]
 pub struct Operand<'a> {
-    /// The operand kind, 1 to 45, in the order of the arms of rspirv's `Operand`; 33 is an id.
+    /// The operand kind, 1 to 45; 33 is an id. docs/REFERENCE.md of the repository has a table of all of them.
     pub kind: u8,
     /// Its value.
     pub value: Value<'a>,

@@ -1,4 +1,4 @@
-//! Refusals: a number, a place, a value, and a sentence for each number.
+//! Refusals: a number, a place, a value, and a sentence for each number. What to do about each is in docs/REFERENCE.md.
 
 use std::error::Error;
 use std::fmt;
