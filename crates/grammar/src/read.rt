@@ -12,6 +12,7 @@ use crate::rules::well_formed;
 use decoder::Decoder;
 use decoder::WordRead;
 use spec::Refusal;
+use spec::refusals;
 
 // A refusal, with the decoder after it.
 fn refused(number: u32, place: usize, value: u32, d: Decoder) -> WordRead
@@ -40,11 +41,11 @@ pub fn enumerant(d: Decoder, s: &[u8], g: &[u8], kind: u8) -> WordRead
     ensures { λ r. ⌜ r ≡ enumerantFrom (now (g .entry)) (now (s .entry)) kind d ⌝ }
 {
     if !well_formed(g) {
-        return refused(24, 0, 0, d);
+        return refused(refusals::BAD_GRAMMAR, 0, 0, d);
     }
     let at = d.offset();
     if d.limit_reached() {
-        return refused(9, at, 0, d);
+        return refused(refusals::STREAM_ENDED, at, 0, d);
     }
     let word = d.word(s);
     let WordRead::Got(value, next) = word else {
@@ -53,5 +54,5 @@ pub fn enumerant(d: Decoder, s: &[u8], g: &[u8], kind: u8) -> WordRead
     if knows(g, kind, value) {
         return word;
     }
-    refused(10, at, value, next)
+    refused(refusals::ENUMERANT_UNKNOWN, at, value, next)
 }

@@ -16,6 +16,13 @@ use crate::kinds::is_mask;
 use crate::kinds::is_result;
 use crate::kinds::may_be_operand;
 use crate::kinds::may_be_parameter;
+use spec::kinds;
+use spec::opcodes;
+
+// Two of the quantifiers; ZeroOrOne stands between them.
+const ONE: u8 = 0;
+
+const ZERO_OR_MORE: u8 = 2;
 
 // What the check keeps of a row's operands so far: how many (4: four or more), whether the first is 46 and One, whether one of them is no
 // result, and whether the first of those is 33 and One.
@@ -37,8 +44,8 @@ enum Before {
 fn result_rule(p: Passed, k: u8, q: u8) -> bool
     ensures { λ r. ⌜ ((before : List Slot) → p ≡ passedOf before → r ≡ resultRule before k q) ⌝ }
 {
-    ((k != 46) | ((p.count == 0) & (q == 0)))
-        & ((k != 47) | (((p.count == 0) | ((p.count == 1) & p.typed)) & (q == 0)))
+    ((k != kinds::RESULT_TYPE) | ((p.count == 0) & (q == ONE)))
+        & ((k != kinds::RESULT_ID) | (((p.count == 0) | ((p.count == 1) & p.typed)) & (q == ONE)))
 }
 
 // "48 only in rows 43 and 50, One, after 46. 49 only in row 251, ZeroOrMore, after a first non-result operand of kind 33 and One. 39 only in
@@ -46,9 +53,11 @@ fn result_rule(p: Passed, k: u8, q: u8) -> bool
 fn literal_rule(op: u16, p: Passed, k: u8, q: u8) -> bool
     ensures { λ r. ⌜ ((before : List Slot) → p ≡ passedOf before → r ≡ literalRule op before k q) ⌝ }
 {
-    ((k != 48) | (((op == 43) | (op == 50)) & (q == 0) & p.typed))
-        & ((k != 49) | ((op == 251) & (q == 2) & p.selects))
-        & ((k != 39) | ((op == 52) & (q == 0)))
+    ((k != kinds::TYPED_LITERAL)
+        | (((op == opcodes::CONSTANT) | (op == opcodes::SPEC_CONSTANT)) & (q == ONE) & p.typed))
+        & ((k != kinds::LITERAL_AND_ID)
+            | ((op == opcodes::SWITCH) & (q == ZERO_OR_MORE) & p.selects))
+        & ((k != kinds::EMBEDDED) | ((op == opcodes::SPEC_CONSTANT_OP) & (q == ONE)))
 }
 
 // The kind that stands after so many operands in a row of n: 47, then 34; 0 past its end.
@@ -58,18 +67,22 @@ fn fixed_kind(count: u8, n: u8) -> u8
     if n <= count {
         return 0;
     }
-    if count == 0 { 47 } else { 34 }
+    if count == 0 {
+        kinds::RESULT_ID
+    } else {
+        kinds::INT32
+    }
 }
 
 // "Rows 21 and 22, where present, are 47, 34, 34 and 47, 34, all One": the next operand.
 fn fixed_rule(op: u16, p: Passed, k: u8, q: u8) -> bool
     ensures { λ r. ⌜ ((before : List Slot) → p ≡ passedOf before → r ≡ fixedNext (fixedRow op) before k q) ⌝ }
 {
-    if op == 21 {
-        return (q == 0) & (k == fixed_kind(p.count, 3));
+    if op == opcodes::TYPE_INT {
+        return (q == ONE) & (k == fixed_kind(p.count, 3));
     }
-    if op == 22 {
-        return (q == 0) & (k == fixed_kind(p.count, 2));
+    if op == opcodes::TYPE_FLOAT {
+        return (q == ONE) & (k == fixed_kind(p.count, 2));
     }
     true
 }
@@ -78,10 +91,10 @@ fn fixed_rule(op: u16, p: Passed, k: u8, q: u8) -> bool
 fn row_end(op: u16, p: Passed) -> bool
     ensures { λ r. ⌜ ((before : List Slot) → p ≡ passedOf before → r ≡ rowEnd op before) ⌝ }
 {
-    if op == 21 {
+    if op == opcodes::TYPE_INT {
         return p.count == 3;
     }
-    if op == 22 {
+    if op == opcodes::TYPE_FLOAT {
         return p.count == 2;
     }
     true
@@ -92,7 +105,7 @@ fn operand_rule(op: u16, p: Passed, k: u8, q: u8) -> bool
     ensures { λ r. ⌜ ((before : List Slot) → p ≡ passedOf before → r ≡ operandRule op before k q) ⌝ }
 {
     may_be_operand(k)
-        & (q <= 2)
+        & (q <= ZERO_OR_MORE)
         & result_rule(p, k, q)
         & literal_rule(op, p, k, q)
         & fixed_rule(op, p, k, q)
@@ -190,9 +203,9 @@ fn with_one(p: Passed, k: u8, q: u8) -> Passed
     let lead = !p.led & !is_result(k);
     Passed {
         count: one_more(p.count),
-        typed: p.typed | ((p.count == 0) & ((k == 46) & (q == 0))),
+        typed: p.typed | ((p.count == 0) & ((k == kinds::RESULT_TYPE) & (q == ONE))),
         led: p.led | lead,
-        selects: p.selects | (lead & ((k == 33) & (q == 0))),
+        selects: p.selects | (lead & ((k == kinds::ID_REF) & (q == ONE))),
     }
 }
 

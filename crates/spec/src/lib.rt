@@ -1,5 +1,6 @@
-// The answers that several crates share, and the names of kinds, tags and refusals. Declarations alone: what they mean is said in specs/.
+// The answers that several crates share, and the names of kinds, opcodes, tags and refusals. Declarations alone: what they mean is said in specs/.
 pub mod kinds;
+pub mod opcodes;
 pub mod refusals;
 pub mod tags;
 
