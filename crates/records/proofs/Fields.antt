@@ -22,8 +22,8 @@ use Rattle.spec.specs.Records.{fieldsAt}
 use Rattle.spec.specs.Layout.{layoutOf}
 use Rattle.spec.specs.Check.{fieldsGood}
 use Rattle.text.specs.Zero.{zeroAfter, zeroIn}
-use Rattle.records.specs.declared.Offset.the-variants.{Broken as NoOffset, Next as NextOffset}
-use Rattle.records.specs.declared.Tagging.the-variants.{Broken as NoTag, Next as NextState}
+use Rattle.records.specs.declared.Offset.the-variants as offset
+use Rattle.records.specs.declared.Tagging.the-variants as tagging
 use Rattle.records.specs.Steps.{fieldsHold, offsetAfter, isString, tagBy, tagAfter, wordIf, atMost}
 
 -- the words of the record at a place
@@ -47,48 +47,48 @@ fields-drop ws at = sym (simp (getD-drop, add-zero))
 module _ (at : ℕ) (f : Fields) where
   -- the three tests decide
   offset-by : (t u v : Bool) → fieldsHold f ≡ t → eqb (f .offset) at ≡ u → leb (f .words) 65535 ≡ v
-      → (if t && u && v then NextOffset (at + 4 * f .words) else NoOffset) ≡ offsetAfter at f
+      → (if t && u && v then offset.Got (at + 4 * f .words) else offset.Refused) ≡ offsetAfter at f
   unfolding offsetAfter fieldsGood fieldsHold
   offset-by t u v d e g =
-      ap (λ (x : Bool). if x && u && v then NextOffset (at + 4 * f .words) else NoOffset) (sym d)
-      ∙ ap (λ (x : Bool). if fieldsHold f && x && v then NextOffset (at + 4 * f .words) else NoOffset) (sym e)
-      ∙ ap (λ (x : Bool). if fieldsHold f && eqb (f .offset) at && x then NextOffset (at + 4 * f .words) else NoOffset) (sym g)
+      ap (λ (x : Bool). if x && u && v then offset.Got (at + 4 * f .words) else offset.Refused) (sym d)
+      ∙ ap (λ (x : Bool). if fieldsHold f && x && v then offset.Got (at + 4 * f .words) else offset.Refused) (sym e)
+      ∙ ap (λ (x : Bool). if fieldsHold f && eqb (f .offset) at && x then offset.Got (at + 4 * f .words) else offset.Refused) (sym g)
 
   -- unknown presence bits, or a result field without its bit
-  pub offset-fields : fieldsHold f ≡ false → NoOffset ≡ offsetAfter at f
+  pub offset-fields : fieldsHold f ≡ false → offset.Refused ≡ offsetAfter at f
   offset-fields d = offset-by false (eqb (f .offset) at) (leb (f .words) 65535) d refl refl
 
   -- an offset that does not follow on
-  pub offset-other : fieldsHold f ≡ true → (f .offset ≡ at → ⊥) → NoOffset ≡ offsetAfter at f
+  pub offset-other : fieldsHold f ≡ true → (f .offset ≡ at → ⊥) → offset.Refused ≡ offsetAfter at f
   offset-other d n = offset-by true false (leb (f .words) 65535) d (ne-eqb (f .offset) at n) refl
 
   -- a word count over 65,535
-  pub offset-long : fieldsHold f ≡ true → f .offset ≡ at → 65535 < f .words → NoOffset ≡ offsetAfter at f
+  pub offset-long : fieldsHold f ≡ true → f .offset ≡ at → 65535 < f .words → offset.Refused ≡ offsetAfter at f
   offset-long d e h = offset-by true true false d (eq-eqb (f .offset) at e) (lt-leb (f .words) 65535 h)
 
   -- the offset after the record
-  pub offset-next : fieldsHold f ≡ true → f .offset ≡ at → f .words ≤ 65535 → NextOffset (at + 4 * f .words) ≡ offsetAfter at f
+  pub offset-next : fieldsHold f ≡ true → f .offset ≡ at → f .words ≤ 65535 → offset.Got (at + 4 * f .words) ≡ offsetAfter at f
   offset-next d e h = offset-by true true true d (eq-eqb (f .offset) at e) (le-leb (f .words) 65535 h)
 
 -- TAGS
 
 module _ (s : State) (f : Fields) (cell : Cell) (p : cell ≡ layoutOf (f .head % 65536) s) where
   -- a cell that refuses
-  pub tag-refused : (n : ℕ) → cell ≡ Refuses n → NoTag ≡ tagAfter s f
+  pub tag-refused : (n : ℕ) → cell ≡ Refuses n → tagging.Refused ≡ tagAfter s f
   unfolding tagAfter tagBy
   tag-refused n q = ap (tagBy (f .tag)) (sym q ∙ p)
 
   -- another tag than the cell's
-  pub tag-other : (t : ℕ) (x : State) → cell ≡ Tagged t x → (f .tag ≡ t → ⊥) → NoTag ≡ tagAfter s f
+  pub tag-other : (t : ℕ) (x : State) → cell ≡ Tagged t x → (f .tag ≡ t → ⊥) → tagging.Refused ≡ tagAfter s f
   unfolding tagAfter tagBy
   tag-other t x q n =
-      ap (λ (b : Bool). if b then NextState x else NoTag) (sym (ne-eqb (f .tag) t n)) ∙ ap (tagBy (f .tag)) (sym q ∙ p)
+      ap (λ (b : Bool). if b then tagging.Got x else tagging.Refused) (sym (ne-eqb (f .tag) t n)) ∙ ap (tagBy (f .tag)) (sym q ∙ p)
 
   -- the cell's tag
-  pub tag-right : (t : ℕ) (x : State) → cell ≡ Tagged t x → f .tag ≡ t → NextState x ≡ tagAfter s f
+  pub tag-right : (t : ℕ) (x : State) → cell ≡ Tagged t x → f .tag ≡ t → tagging.Got x ≡ tagAfter s f
   unfolding tagAfter tagBy
   tag-right t x q e =
-      ap (λ (b : Bool). if b then NextState x else NoTag) (sym (eq-eqb (f .tag) t e)) ∙ ap (tagBy (f .tag)) (sym q ∙ p)
+      ap (λ (b : Bool). if b then tagging.Got x else tagging.Refused) (sym (eq-eqb (f .tag) t e)) ∙ ap (tagBy (f .tag)) (sym q ∙ p)
 
 -- STRINGS
 

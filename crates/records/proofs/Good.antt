@@ -114,19 +114,19 @@ records-if true n f fs e = (refl, omega (arith, e))
 records-if false n f fs e = absurd (omega (arith, e))
 
 -- each record of those asked for, where none is missing
-records-said : (n : ℕ) (ws : List ℕ) → length (recordsOf n ws) ≡ n → (k : ℕ) → k < n
-    → (drop k (recordsOf n ws) ≡ fieldsAt (drop (recordSize * k) ws) ∷ drop (suc k) (recordsOf n ws)) × (recordSize * k + recordSize ≤ length ws)
+records-said : (n : ℕ) (ws : List ℕ) → length (recordsOf recordSize n ws) ≡ n → (k : ℕ) → k < n
+    → (drop k (recordsOf recordSize n ws) ≡ fieldsAt (drop (recordSize * k) ws) ∷ drop (suc k) (recordsOf recordSize n ws)) × (recordSize * k + recordSize ≤ length ws)
 unfolding recordsOf
 records-said zero ws e k h = absurd (omega arith)
 records-said (suc n) ws e zero h =
-    let r = records-if (has recordSize ws) n (fieldsAt ws) (recordsOf n (drop recordSize ws)) e in
-    (first-said (has recordSize ws) (r .0) (fieldsAt ws) (recordsOf n (drop recordSize ws)), omega (arith, has-true recordSize ws (r .0)))
+    let r = records-if (has recordSize ws) n (fieldsAt ws) (recordsOf recordSize n (drop recordSize ws)) e in
+    (first-said (has recordSize ws) (r .0) (fieldsAt ws) (recordsOf recordSize n (drop recordSize ws)), omega (arith, has-true recordSize ws (r .0)))
 records-said (suc n) ws e (suc k) h =
-    let r = records-if (has recordSize ws) n (fieldsAt ws) (recordsOf n (drop recordSize ws)) e in
+    let r = records-if (has recordSize ws) n (fieldsAt ws) (recordsOf recordSize n (drop recordSize ws)) e in
     let x = records-said n (drop recordSize ws) (r .1) k (omega arith) in
     let q : recordSize + recordSize * k ≡ recordSize * suc k = omega arith in (
-      later-said (has recordSize ws) (r .0) (fieldsAt ws) (recordsOf n (drop recordSize ws)) k (fieldsAt (drop (recordSize * suc k) ws))
-          (x .0 ∙ ap (λ (l : List ℕ). fieldsAt l ∷ drop (suc k) (recordsOf n (drop recordSize ws))) (drop-drop (recordSize * k) recordSize ws ∙ ap (λ (j : ℕ). drop j ws) q)),
+      later-said (has recordSize ws) (r .0) (fieldsAt ws) (recordsOf recordSize n (drop recordSize ws)) k (fieldsAt (drop (recordSize * suc k) ws))
+          (x .0 ∙ ap (λ (l : List ℕ). fieldsAt l ∷ drop (suc k) (recordsOf recordSize n (drop recordSize ws))) (drop-drop (recordSize * k) recordSize ws ∙ ap (λ (j : ℕ). drop j ws) q)),
       omega (arith, x .1, length-drop recordSize ws, has-true recordSize ws (r .0)),
     )
 
@@ -136,18 +136,18 @@ records-said (suc n) ws e (suc k) h =
 pub record GoodAt (x : Given) (i : ℕ) : Type 0 where
   pub inStore : recordSize * i + recordSize ≤ length (x .instructions)
   pub few : fieldsAt (drop (recordSize * i) (x .instructions)) .words ≤ 65535
-  pub said : SaidAt (take (x .logCount) (x .log)) (take (x .stringCount) (x .strings)) (fieldsAt (drop (recordSize * i) (x .instructions))) (scanOf x .instrs) i
+  pub said : SaidAt (take (x .logCount) (x .log)) (take (x .stringCount) (x .strings)) (fieldsAt (drop (recordSize * i) (x .instructions))) (scanOf recordSize x .instrs) i
 
 module _ (x : Given) (good-x : Good x) where
   -- no fold finds a fault
-  faultless : Faultless false x
+  faultless : Faultless recordSize false x
   unfolding Good
-  faultless = no-faults false x good-x
+  faultless = no-faults recordSize false x good-x
 
   -- as many records as are asked for
-  record-count : length (recordsIn x) ≡ x .count
+  record-count : length (recordsIn recordSize x) ≡ x .count
   unfolding missing
-  record-count = eqb-true _ _ (none-if (length (recordsIn x) + 1) (eqb (length (recordsIn x)) (x .count)) none (faultless .present) .0)
+  record-count = eqb-true _ _ (none-if (length (recordsIn recordSize x) + 1) (eqb (length (recordsIn recordSize x)) (x .count)) none (faultless .present) .0)
 
   -- log and strings from their first bytes on
   abbrev whole-left : Left
@@ -158,12 +158,12 @@ module _ (x : Given) (good-x : Good x) where
   whole-inside = left-inside _ _ 0 0 (omega arith) (omega arith)
 
   -- what the records say
-  all-scans : Scans (x .logCount) (x .stringCount) whole-left (recordsIn x) (scanOf x .instrs)
+  all-scans : Scans (x .logCount) (x .stringCount) whole-left (recordsIn recordSize x) (scanOf recordSize x .instrs)
   unfolding leftAt
-  all-scans = scans (x .logCount) (x .stringCount) (recordsIn x) 1 _ (faultless .scan)
+  all-scans = scans (x .logCount) (x .stringCount) (recordsIn recordSize x) 1 _ (faultless .scan)
 
   -- the instructions are as many as the count
-  pub good-length : length (scanOf x .instrs) ≡ x .count
+  pub good-length : length (scanOf recordSize x .instrs) ≡ x .count
   good-length = scan-length all-scans ∙ record-count
 
   -- both counts lie in the stores
@@ -178,37 +178,37 @@ module _ (x : Given) (good-x : Good x) where
       let r = records-said (x .count) (x .instructions) record-count i h in
       record {
         inStore = r .1;
-        few = fields-said (recordsIn x) 1 20 (faultless .fields) i _ _ (r .0);
+        few = fields-said (recordsIn recordSize x) 1 20 (faultless .fields) i _ _ (r .0);
         said = scan-said _ _ _ _ all-scans whole-inside i _ _ (r .0);
       }
 
   -- the first record is behind a header
   pub good-first : 0 < x .count → fieldsAt (drop (recordSize * 0) (x .instructions)) .offset ≡ 20
-  good-first h = fields-first (recordsIn x) 1 20 (faultless .fields) _ _ (records-said (x .count) (x .instructions) record-count 0 h .0)
+  good-first h = fields-first (recordsIn recordSize x) 1 20 (faultless .fields) _ _ (records-said (x .count) (x .instructions) record-count 0 h .0)
 
   -- each later one is behind the one before it
   pub good-next : (i : ℕ) → suc i < x .count
       → fieldsAt (drop (recordSize * suc i) (x .instructions)) .offset
       ≡ fieldsAt (drop (recordSize * i) (x .instructions)) .offset + 4 * fieldsAt (drop (recordSize * i) (x .instructions)) .words
   good-next i h =
-      fields-next (recordsIn x) 1 20 (faultless .fields) i
+      fields-next (recordsIn recordSize x) 1 20 (faultless .fields) i
       _ _ (records-said (x .count) (x .instructions) record-count i (omega arith) .0)
       _ _ (records-said (x .count) (x .instructions) record-count (suc i) h .0)
 
 -- WHAT THE CHECK SAYS
 
 -- the answer that all is good
-pub check-is-good : (whole : Bool) (x : Given) (r : Checked) → checkedIs r ≡ faultOf whole x → r ≡ AllGood → check whole x ≡ good (scanOf x .instrs)
+pub check-is-good : (whole : Bool) (x : Given) (r : Checked) → checkedIs r ≡ faultOf recordSize whole x → r ≡ AllGood → check recordSize whole x ≡ good (scanOf recordSize x .instrs)
 unfolding check checkedIs
-check-is-good whole x r e q = ap (λ (o : Option ℕ). checkedBy o (scanOf x .instrs)) (sym e ∙ ap checkedIs q)
+check-is-good whole x r e q = ap (λ (o : Option ℕ). checkedBy o (scanOf recordSize x .instrs)) (sym e ∙ ap checkedIs q)
 
 -- the answer that a record is bad
-pub check-is-bad : (whole : Bool) (x : Given) (r : Checked) (i : ℕ) → checkedIs r ≡ faultOf whole x → r ≡ Bad i → check whole x ≡ bad i
+pub check-is-bad : (whole : Bool) (x : Given) (r : Checked) (i : ℕ) → checkedIs r ≡ faultOf recordSize whole x → r ≡ Bad i → check recordSize whole x ≡ bad i
 unfolding check checkedIs
-check-is-bad whole x r i e q = ap (λ (o : Option ℕ). checkedBy o (scanOf x .instrs)) (sym e ∙ ap checkedIs q)
+check-is-bad whole x r i e q = ap (λ (o : Option ℕ). checkedBy o (scanOf recordSize x .instrs)) (sym e ∙ ap checkedIs q)
 
 -- whatever the order, records that pass are good
-pub good-by : (whole : Bool) (x : Given) (r : Checked) → checkedIs r ≡ faultOf whole x → r ≡ AllGood → Good x
+pub good-by : (whole : Bool) (x : Given) (r : Checked) → checkedIs r ≡ faultOf recordSize whole x → r ≡ AllGood → Good x
 unfolding Good checkedIs
 good-by false x r e q = sym e ∙ ap checkedIs q
-good-by true x r e q = part-faultless x (sym e ∙ ap checkedIs q)
+good-by true x r e q = part-faultless recordSize x (sym e ∙ ap checkedIs q)

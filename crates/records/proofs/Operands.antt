@@ -19,12 +19,13 @@ use Rattle.spec.specs.Records.{Operand, narrow, wide, text, Placed, operandSize
 use Rattle.spec.specs.Check.{Left, takeOperand, takeOperands, bitsIn, fieldIn, placedOf, wordsGood, takeRecord}
 use Rattle.operand.specs.Parts.{isTwo}
 use Rattle.records.specs.declared.Passed.{Passed}
-use Rattle.records.specs.declared.Passed.the-variants.{Broken as NotPassed, Past}
+use Rattle.records.specs.declared.Passed.the-variants as passed
 use Rattle.text.specs.AsciiText.{isAsciiText}
 use Rattle.records.specs.Steps.{leftAt, isString, textGood, textPassed, passedBy, passedOne, passedAll, wordIf, resultWords, operandsAfter}
 use Rattle.records.specs.Good.{Whole, operandBy, operandAt}
 use Rattle.spec.proofs.Choice.{left, right, cases, either, IfSome, if-then}
 use Rattle.spec.proofs.Faultless.{Said, record-said}
+use Rattle.spec.proofs.Range.{below-at}
 use Rattle.records.proofs.Fields.{word-few}
 use Rattle.records.proofs.AsciiText.{part-string}
 
@@ -219,7 +220,7 @@ module _ {A : Type 0} (size : A → ℕ) where
   -- where something was passed
   passes : (log strings : List ℕ) (l : Left) (P : A × Left → Type 0)
       → ((x : A × Left) → P x → Reached log strings l (size (x .0)) (x .1)) → (y : Option (A × Left)) → IfSome P y
-      → (x : Passed) (a' b' w : ℕ) → x ≡ passedBy size y → x ≡ Past a' b' w → Passes size log strings l a' b' w y
+      → (x : Passed) (a' b' w : ℕ) → x ≡ passedBy size y → x ≡ passed.Got a' b' w → Passes size log strings l a' b' w y
   unfolding passedBy
   passes log strings l P reach none p x a' b' w e f = let z : _≡_ {A = ℕ} 0 1 = cc in absurd (omega arith)
   passes log strings l P reach (some z) p x a' b' w e f =
@@ -238,13 +239,13 @@ module _ {A : Type 0} (size : A → ℕ) where
       })
 
   -- where nothing was
-  pub passes-none : (y : Option (A × Left)) (x : Passed) → x ≡ passedBy size y → x ≡ NotPassed → y ≡ none
+  pub passes-none : (y : Option (A × Left)) (x : Passed) → x ≡ passedBy size y → x ≡ passed.Refused → y ≡ none
   unfolding passedBy
   passes-none none x e f = refl
   passes-none (some z) x e f = let z : _≡_ {A = ℕ} 0 1 = cc in absurd (omega arith)
 
   -- where nothing can be
-  not-passed : (P : A × Left → Type 0) (y : Option (A × Left)) → IfSome P y → ((x : A × Left) → P x → ⊥) → NotPassed ≡ passedBy size y
+  not-passed : (P : A × Left → Type 0) (y : Option (A × Left)) → IfSome P y → ((x : A × Left) → P x → ⊥) → passed.Refused ≡ passedBy size y
   unfolding passedBy
   not-passed P none p n = refl
   not-passed P (some x) p n = absurd (n x p)
@@ -259,7 +260,7 @@ unknown-high k h = rw (lt-leb k 45 h, and-false)
 
 -- the kinds below 36 have one word
 pub one-below : (k : ℕ) → k < 36 → isTwo k ≡ false
-one-below k h = simp (ne-eqb k 36 (λ e. omega arith), ne-eqb k 38 (λ e. omega arith), ne-eqb k 40 (λ e. omega arith))
+one-below k h = not-true (isTwo k) (below-at (λ x. not (isTwo x)) 36 k refl h)
 
 -- a kind of the log
 pub known : (k : ℕ) → 1 ≤ k → k ≤ 45 → isLogged k ≡ true
@@ -268,25 +269,25 @@ known k h g = rw (le-leb 1 k h, le-leb k 45 g)
 -- a string of the log, by its tests
 module _ (strings : List ℕ) (a b start n : ℕ) where
   -- it starts elsewhere
-  pub string-elsewhere : (start ≡ b → ⊥) → NotPassed ≡ textPassed strings a b start n
+  pub string-elsewhere : (start ≡ b → ⊥) → passed.Refused ≡ textPassed strings a b start n
   unfolding textPassed textGood
   string-elsewhere h = rw (ne-eqb start b h)
 
   -- it goes past the store
-  pub string-outside : start ≡ b → length strings - b < n → NotPassed ≡ textPassed strings a b start n
+  pub string-outside : start ≡ b → length strings - b < n → passed.Refused ≡ textPassed strings a b start n
   unfolding textPassed textGood
   string-outside h g = rw (eq-eqb start b h, has-no n (drop b strings) (omega (arith, length-drop b strings)))
 
   -- its bytes decide
   pub string-bytes : start ≡ b → n ≤ length strings - b → (v x : Bool) → x ≡ isString (take (b + n - b) (drop b strings)) → x ≡ v
-      → (if v then Past (a + 9) (b + n) (textWords n) else NotPassed) ≡ textPassed strings a b start n
+      → (if v then passed.Got (a + 9) (b + n) (textWords n) else passed.Refused) ≡ textPassed strings a b start n
   unfolding textPassed textGood
   string-bytes h g v x e f =
       let q : b + n - b ≡ n = omega arith in
       rw (eq-eqb start b h, has-yes n (drop b strings) (omega (arith, length-drop b strings)), sym (rw q at e), f)
 
   -- it is a part of ASCII text
-  pub string-ascii : start ≡ b → n ≤ length strings - b → isAsciiText strings ≡ true → Past (a + 9) (b + n) (textWords n) ≡ textPassed strings a b start n
+  pub string-ascii : start ≡ b → n ≤ length strings - b → isAsciiText strings ≡ true → passed.Got (a + 9) (b + n) (textWords n) ≡ textPassed strings a b start n
   unfolding textPassed textGood
   string-ascii h g p =
       rw (eq-eqb start b h, has-yes n (drop b strings) (omega (arith, length-drop b strings)), part-string strings n b p)
@@ -295,35 +296,35 @@ module _ (strings : List ℕ) (a b start n : ℕ) where
 module _ (log strings : List ℕ) (a b : ℕ) (inLog : a ≤ length log) (inStrings : b ≤ length strings) where
   -- one that cannot be
   no-operand : ((x : Operand × Left) → Taken log strings (leftAt log strings a b) x → ⊥)
-      → NotPassed ≡ passedOne (takeOperand (leftAt log strings a b))
+      → passed.Refused ≡ passedOne (takeOperand (leftAt log strings a b))
   unfolding passedOne
   no-operand = not-passed operandSize (Taken log strings (leftAt log strings a b)) _ (here-taken log strings a b inLog inStrings)
 
   -- fewer than five bytes
-  pub operand-few : length log - a < 5 → NotPassed ≡ passedOne (takeOperand (leftAt log strings a b))
+  pub operand-few : length log - a < 5 → passed.Refused ≡ passedOne (takeOperand (leftAt log strings a b))
   unfolding leftAt
   operand-few h = no-operand (λ x t. omega (arith, t .whole .five))
 
   -- an unknown kind
-  pub operand-unknown : isLogged (getD log a 0) ≡ false → NotPassed ≡ passedOne (takeOperand (leftAt log strings a b))
+  pub operand-unknown : isLogged (getD log a 0) ≡ false → passed.Refused ≡ passedOne (takeOperand (leftAt log strings a b))
   unfolding leftAt
   operand-unknown h = no-operand (λ x t. clash _ (t .whole .known) h)
 
   -- one word
   pub operand-one : 5 ≤ length log - a → isLogged (getD log a 0) ≡ true → isTwo (getD log a 0) ≡ false
-      → Past (a + 5) b 1 ≡ passedOne (takeOperand (leftAt log strings a b))
+      → passed.Got (a + 5) b 1 ≡ passedOne (takeOperand (leftAt log strings a b))
   unfolding passedOne passedBy leftAt operandSize
   operand-one h k t = rw (operand-by log strings a b, has-yes 5 (drop a log) (omega (arith, length-drop a log)), k, t)
 
   -- fewer than nine bytes for two words
   pub operand-cut : isTwo (getD log a 0) ≡ true → length log - a < 9
-      → NotPassed ≡ passedOne (takeOperand (leftAt log strings a b))
+      → passed.Refused ≡ passedOne (takeOperand (leftAt log strings a b))
   unfolding leftAt
   operand-cut t h = no-operand (λ x u. omega (arith, u .whole .nine t))
 
   -- a literal of two words
   pub operand-two : 9 ≤ length log - a → isLogged (getD log a 0) ≡ true → isTwo (getD log a 0) ≡ true
-      → (getD log a 0 ≡ 40 → ⊥) → Past (a + 9) b 2 ≡ passedOne (takeOperand (leftAt log strings a b))
+      → (getD log a 0 ≡ 40 → ⊥) → passed.Got (a + 9) b 2 ≡ passedOne (takeOperand (leftAt log strings a b))
   unfolding passedOne passedBy leftAt operandSize
   operand-two h k t n =
       rw (
@@ -357,9 +358,9 @@ module _ (log strings : List ℕ) (a b : ℕ) (inLog : a ≤ length log) (inStri
 -- HOW THE LOOP OVER OPERANDS GOES
 
 -- at two places, with some operands passed: the answer is that of the rest
-pub record Passing (log strings : List ℕ) (count a₀ b₀ a b words passed : ℕ) : Type 0 where
+pub record Passing (log strings : List ℕ) (count a₀ b₀ a b words done : ℕ) : Type 0 where
   pub whole : passedAll 0 (takeOperands count (leftAt log strings a₀ b₀))
-      ≡ passedAll words (takeOperands (count - passed) (leftAt log strings a b))
+      ≡ passedAll words (takeOperands (count - done) (leftAt log strings a b))
   pub inLog : a ≤ length log
   pub inStrings : b ≤ length strings
   pub few : 4 * words ≤ a + b
@@ -375,21 +376,21 @@ passed-add : (w : ℕ) (o : Operand) (y : Option (List Operand × Left))
     → passedAll w (andThen y (λ xs. some (o ∷ xs .0, xs .1))) ≡ passedAll (w + operandSize o) y
 unfolding passedAll passedBy operandsSize
 passed-add w o none = refl
-passed-add w o (some x) = ap (Past (x .1 .logAt) (x .1 .stringsAt)) (omega arith)
+passed-add w o (some x) = ap (passed.Got (x .1 .logAt) (x .1 .stringsAt)) (omega arith)
 
-module _ {log strings : List ℕ} {count a₀ b₀ a b words passed : ℕ} (r : Passing log strings count a₀ b₀ a b words passed) where
-  module _ (h : passed < count) (x : Passed) (e : x ≡ passedOne (takeOperand (leftAt log strings a b))) where
+module _ {log strings : List ℕ} {count a₀ b₀ a b words done : ℕ} (r : Passing log strings count a₀ b₀ a b words done) where
+  module _ (h : done < count) (x : Passed) (e : x ≡ passedOne (takeOperand (leftAt log strings a b))) where
     -- the operand at the places decides
     pass-here : (y : Option (Operand × Left)) → takeOperand (leftAt log strings a b) ≡ y
         → passedAll 0 (takeOperands count (leftAt log strings a₀ b₀))
-        ≡ passedAll words (andThen y (λ z. andThen (takeOperands (count - (passed + 1)) (z .1)) (λ xs. some (z .0 ∷ xs .0, xs .1))))
+        ≡ passedAll words (andThen y (λ z. andThen (takeOperands (count - (done + 1)) (z .1)) (λ xs. some (z .0 ∷ xs .0, xs .1))))
     unfolding takeOperands
     pass-here y f =
-        let q : count - passed ≡ suc (count - (passed + 1)) = omega arith in
+        let q : count - done ≡ suc (count - (done + 1)) = omega arith in
         rw (← f) (r .whole ∙ ap (λ (n : ℕ). passedAll words (takeOperands n (leftAt log strings a b))) q)
 
     -- past a good operand
-    pub pass-goes-on : (a' b' w : ℕ) → x ≡ Past a' b' w → Passing log strings count a₀ b₀ a' b' (words + w) (passed + 1)
+    pub pass-goes-on : (a' b' w : ℕ) → x ≡ passed.Got a' b' w → Passing log strings count a₀ b₀ a' b' (words + w) (done + 1)
     unfolding passedOne leftAt
     pass-goes-on a' b' w f =
         let p =
@@ -397,28 +398,28 @@ module _ {log strings : List ℕ} {count a₀ b₀ a b words passed : ℕ} (r : 
         (here-taken log strings a b (r .inLog) (r .inStrings)) x a' b' w e f in
         record {
           whole =
-              pass-here _ (p .is) ∙ passed-add words (p .value) (takeOperands (count - (passed + 1)) (leftAt log strings a' b'))
-              ∙ ap (λ (k : ℕ). passedAll (words + k) (takeOperands (count - (passed + 1)) (leftAt log strings a' b'))) (p .words);
+              pass-here _ (p .is) ∙ passed-add words (p .value) (takeOperands (count - (done + 1)) (leftAt log strings a' b'))
+              ∙ ap (λ (k : ℕ). passedAll (words + k) (takeOperands (count - (done + 1)) (leftAt log strings a' b'))) (p .words);
           inLog = p .inLog;
           inStrings = p .inStrings;
           few = omega (arith, p .few, r .few);
         }
 
     -- the room for its words
-    pub pass-room : (a' b' w : ℕ) → x ≡ Past a' b' w → 4 * (words + w) ≤ length log + length strings
+    pub pass-room : (a' b' w : ℕ) → x ≡ passed.Got a' b' w → 4 * (words + w) ≤ length log + length strings
     pass-room a' b' w f = let p = pass-goes-on a' b' w f in omega (arith, p .few, p .inLog, p .inStrings)
 
     -- at one that is not good
-    pub pass-fails : x ≡ NotPassed → NotPassed ≡ passedAll 0 (takeOperands count (leftAt log strings a₀ b₀))
+    pub pass-fails : x ≡ passed.Refused → passed.Refused ≡ passedAll 0 (takeOperands count (leftAt log strings a₀ b₀))
     unfolding passedAll passedBy passedOne
     pass-fails f = sym (pass-here none (passes-none operandSize _ x e f))
 
   -- at the end
-  pub pass-ends : count ≤ passed → Past a b words ≡ passedAll 0 (takeOperands count (leftAt log strings a₀ b₀))
+  pub pass-ends : count ≤ done → passed.Got a b words ≡ passedAll 0 (takeOperands count (leftAt log strings a₀ b₀))
   unfolding passedAll passedBy takeOperands operandsSize leftAt
   pass-ends h =
-      let q : count - passed ≡ 0 = omega arith in
-      sym (r .whole ∙ ap (λ (n : ℕ). passedAll words (takeOperands n (leftAt log strings a b))) q ∙ ap (Past a b) (add-zero words))
+      let q : count - done ≡ 0 = omega arith in
+      sym (r .whole ∙ ap (λ (n : ℕ). passedAll words (takeOperands n (leftAt log strings a b))) q ∙ ap (passed.Got a b) (add-zero words))
 
 -- A RECORD'S OPERANDS
 
@@ -447,22 +448,22 @@ results-few f = omega (arith, word-few (eqb (bitsIn f % 2) 1), word-few (leb 2 (
 
 module _ (log strings : List ℕ) (a b : ℕ) (f : Fields) where
   -- a record that cannot be
-  no-record : ((x : Placed × Left) → Said f (leftAt log strings a b) x → ⊥) → NotPassed ≡ operandsAfter f (leftAt log strings a b)
+  no-record : ((x : Placed × Left) → Said f (leftAt log strings a b) x → ⊥) → passed.Refused ≡ operandsAfter f (leftAt log strings a b)
   unfolding operandsAfter
   no-record = not-passed _ (Said f (leftAt log strings a b)) _ (record-said f (leftAt log strings a b))
 
   -- its operands start elsewhere
-  pub after-elsewhere : (f .start ≡ a → ⊥) → NotPassed ≡ operandsAfter f (leftAt log strings a b)
+  pub after-elsewhere : (f .start ≡ a → ⊥) → passed.Refused ≡ operandsAfter f (leftAt log strings a b)
   unfolding leftAt
   after-elsewhere h = no-record (λ x s. h (s .start))
 
   module _ (x : Passed) (e : x ≡ passedAll 0 (takeOperands (f .count) (leftAt log strings a b))) where
     -- one of them is bad
-    pub after-bad : x ≡ NotPassed → NotPassed ≡ operandsAfter f (leftAt log strings a b)
+    pub after-bad : x ≡ passed.Refused → passed.Refused ≡ operandsAfter f (leftAt log strings a b)
     unfolding passedAll
     after-bad g = no-record (λ y s. Option·none-ne-some _ (sym (passes-none _ _ x e g) ∙ s .taken))
 
-    module _ (inLog : a ≤ length log) (inStrings : b ≤ length strings) (a' b' w : ℕ) (g : x ≡ Past a' b' w) where
+    module _ (inLog : a ≤ length log) (inStrings : b ≤ length strings) (a' b' w : ℕ) (g : x ≡ passed.Got a' b' w) where
       -- they were passed
       all-pass : Passes (λ os. 0 + operandsSize os) log strings (leftAt log strings a b) a' b' w (takeOperands (f .count) (leftAt log strings a b))
       unfolding passedAll
@@ -476,7 +477,7 @@ module _ (log strings : List ℕ) (a b : ℕ) (f : Fields) where
 
       -- the word count is right
       pub after-right : f .start ≡ a → (r : ℕ) → r ≡ resultWords f → f .words ≡ 1 + r + w
-          → Past a' b' w ≡ operandsAfter f (leftAt log strings a b)
+          → passed.Got a' b' w ≡ operandsAfter f (leftAt log strings a b)
       unfolding operandsAfter takeRecord passedBy leftAt placedOf
       after-right h r q k =
           let os = all-pass .value in
@@ -490,7 +491,7 @@ module _ (log strings : List ℕ) (a b : ℕ) (f : Fields) where
           )
 
       -- it is wrong
-      pub after-wrong : (r : ℕ) → r ≡ resultWords f → (f .words ≡ 1 + r + w → ⊥) → NotPassed ≡ operandsAfter f (leftAt log strings a b)
+      pub after-wrong : (r : ℕ) → r ≡ resultWords f → (f .words ≡ 1 + r + w → ⊥) → passed.Refused ≡ operandsAfter f (leftAt log strings a b)
       after-wrong r q k =
           no-record
           (λ y s. let same = Option·some-injective _ _ (sym (s .taken) ∙ all-pass .is) in
@@ -499,7 +500,7 @@ module _ (log strings : List ℕ) (a b : ℕ) (f : Fields) where
 
   -- they were passed with their record
   pub record-passes : a ≤ length log → b ≤ length strings → (x : Passed) (a' b' w : ℕ) → x ≡ operandsAfter f (leftAt log strings a b)
-      → x ≡ Past a' b' w
+      → x ≡ passed.Got a' b' w
       → Passes (λ p. operandsSize (p .instr .operands)) log strings (leftAt log strings a b) a' b' w (takeRecord f (leftAt log strings a b))
   unfolding operandsAfter placedOf
   record-passes h g =

@@ -4,7 +4,7 @@ use mathlib.Core.Path.{_≡_, refl, ap, sym, _∙_}
 use mathlib.Core.Bool.{Bool, true, false, not, _&&_, _||_}
 use mathlib.Core.List.{List, [], _∷_}
 use mathlib.Core.Option.{Option, none, some}
-use native.Mathlib.Nat.{zero-add}
+use native.Mathlib.Nat.{zero-add, le-div-iff-mul-le, div-lt-iff-lt-mul}
 use native.Mathlib.Numerals.{add-one}
 use native.Mathlib.Omega.{arith}
 use lib.Dec.{eqb, eqb·zero-suc, eqb·suc-suc}
@@ -19,45 +19,54 @@ use Rattle.spec.specs.Base.{if_then_else_}
 use Rattle.spec.specs.Records.{Placed, recordSize, fieldsAt}
 use Rattle.spec.specs.Layout.{layoutOf, endNumber}
 use Rattle.spec.specs.Check.{lower, recordsOf, missing, fieldsGood, fieldsFault, Left, takeRecord, onRecord, scanFrom, onTag, tagsFault, faultOf}
+use Rattle.records.specs.declared.Asked.{Asked}
 use Rattle.records.specs.declared.Checked.{Checked}
 use Rattle.records.specs.declared.Checked.the-variants.{Good, Bad}
 use Rattle.records.specs.declared.Offset.{Offset}
-use Rattle.records.specs.declared.Offset.the-variants.{Broken as NoOffset, Next as NextOffset}
+use Rattle.records.specs.declared.Offset.the-variants as offset
 use Rattle.records.specs.declared.Passed.{Passed}
-use Rattle.records.specs.declared.Passed.the-variants.{Broken as NotPassed, Past}
+use Rattle.records.specs.declared.Passed.the-variants as passed
 use Rattle.records.specs.declared.Tagging.{Tagging}
-use Rattle.records.specs.declared.Tagging.the-variants.{Broken as NoTag, Next as NextState}
-use Rattle.records.specs.Steps.{given, checkedIs, endAnswer, atMost, leftAt, offsetAfter, operandsAfter, tagBy, tagAfter, isOutside, missingFrom, faultsFrom, isFree}
+use Rattle.records.specs.declared.Tagging.the-variants as tagging
+use Rattle.records.specs.Steps.{given, checkedIs, endAnswer, atMost, leftAt, offsetAfter, operandsAfter, tagBy, tagAfter, isOutside, missingFrom, faultsFrom, faultIn, isFree}
 use Rattle.records.proofs.Fields.{take-most}
 use Rattle.records.proofs.Operands.{has-yes, has-no, passes-none, record-passes}
 use Rattle.records.proofs.Lowest.{lowest-1, lowest-2, lowest-3, lowest-4, both-ends, missing-late, fields-late, scan-late, tags-late}
 
 -- THE RECORDS
 
-module _ (ws : List ℕ) (i : ℕ) where
-  -- a record that lies wholly in the store, and those after it
-  records-by : (n m : ℕ) → m ≡ suc n → recordSize * i + recordSize ≤ length ws
-      → recordsOf m (drop (recordSize * i) ws) ≡ fieldsAt (drop (recordSize * i) ws) ∷ recordsOf n (drop (recordSize * (i + 1)) ws)
+-- a record that lies wholly in the store
+pub in-store : (size i n : ℕ) → recordSize ≤ size → i < n / size → size * i + size ≤ n
+in-store size i n h g =
+    let z : 0 < size = omega arith in
+    let m : suc i * size ≤ n = le-div-iff-mul-le z .0 g in
+    omega arith
+
+-- one that does not
+past-store : (size i n : ℕ) → recordSize ≤ size → n / size ≤ i → n < size * i + size
+past-store size i n h g =
+    let z : 0 < size = omega arith in
+    let m : n < suc i * size = div-lt-iff-lt-mul z .0 (omega arith) in
+    omega arith
+
+module _ (size : ℕ) (ws : List ℕ) (i : ℕ) where
+  -- the first of those left, and those after it
+  records-by : (n m : ℕ) → m ≡ suc n → size * i + size ≤ length ws
+      → recordsOf size m (drop (size * i) ws) ≡ fieldsAt (drop (size * i) ws) ∷ recordsOf size n (drop (size * (i + 1)) ws)
   unfolding recordsOf
   records-by n m e h =
-      let k : recordSize * i + recordSize ≡ recordSize * (i + 1) = omega arith in
-      ap (λ (x : ℕ). recordsOf x (drop (recordSize * i) ws)) e
-      ∙ ap (λ (t : Bool). if t then fieldsAt (drop (recordSize * i) ws) ∷ recordsOf n (drop recordSize (drop (recordSize * i) ws)) else [])
-      (has-yes recordSize (drop (recordSize * i) ws) (omega (arith, length-drop (recordSize * i) ws)))
-      ∙ ap (λ (x : List ℕ). fieldsAt (drop (recordSize * i) ws) ∷ recordsOf n x) (drop-drop recordSize (recordSize * i) ws ∙ ap (λ (x : ℕ). drop x ws) k)
+      let k : size * i + size ≡ size * (i + 1) = omega arith in
+      rw (e, has-yes size (drop (size * i) ws) (omega (arith, length-drop (size * i) ws)), drop-drop, k)
 
-  -- one that does not
-  records-none : (n m : ℕ) → m ≡ suc n → length ws < recordSize * i + recordSize → recordSize * i ≤ length ws → recordsOf m (drop (recordSize * i) ws) ≡ []
+  -- it does not lie in the store
+  records-none : (n m : ℕ) → m ≡ suc n → recordSize ≤ size → length ws < size * i + size → recordsOf size m (drop (size * i) ws) ≡ []
   unfolding recordsOf
-  records-none n m e h g =
-      ap (λ (x : ℕ). recordsOf x (drop (recordSize * i) ws)) e
-      ∙ ap (λ (t : Bool). if t then fieldsAt (drop (recordSize * i) ws) ∷ recordsOf n (drop recordSize (drop (recordSize * i) ws)) else [])
-      (has-no recordSize (drop (recordSize * i) ws) (omega (arith, length-drop (recordSize * i) ws)))
+  records-none n m e z h = rw (e, has-no size (drop (size * i) ws) (omega (arith, length-drop (size * i) ws)))
 
-  -- no more are asked for
-  records-end : (m : ℕ) → m ≡ 0 → recordsOf m (drop (recordSize * i) ws) ≡ []
-  unfolding recordsOf
-  records-end m e = ap (λ (x : ℕ). recordsOf x (drop (recordSize * i) ws)) e
+-- no more are asked for
+records-end : (size : ℕ) (ws : List ℕ) (m : ℕ) → m ≡ 0 → recordsOf size m ws ≡ []
+unfolding recordsOf
+records-end size ws m e = rw e
 
 -- ONE STEP OF EACH FOLD
 
@@ -78,22 +87,22 @@ missing-here i n m e =
     ∙ ap some (zero-add i)
 
 -- fields and offset
-offset-told : (i at n : ℕ) (fs : List Fields) (t : Bool) (x : Offset) → x ≡ (if t then NextOffset n else NoOffset)
-    → (x ≡ NextOffset at → (if t then fieldsFault (suc i) n fs else some i) ≡ fieldsFault (suc i) at fs)
-    × (x ≡ NoOffset → (if t then fieldsFault (suc i) n fs else some i) ≡ some i)
+offset-told : (i at n : ℕ) (fs : List Fields) (t : Bool) (x : Offset) → x ≡ (if t then offset.Got n else offset.Refused)
+    → (x ≡ offset.Got at → (if t then fieldsFault (suc i) n fs else some i) ≡ fieldsFault (suc i) at fs)
+    × (x ≡ offset.Refused → (if t then fieldsFault (suc i) n fs else some i) ≡ some i)
 offset-told i at n fs true x e =
     (λ g. let q : n ≡ at = cc in ap (λ (k : ℕ). fieldsFault (suc i) k fs) q, λ g. let z : _≡_ {A = ℕ} 0 1 = cc in absurd (omega arith))
 offset-told i at n fs false x e = (λ g. let z : _≡_ {A = ℕ} 0 1 = cc in absurd (omega arith), λ g. refl)
 
 -- tags
-tag-if : (i : ℕ) (s : State) (more : State → Option ℕ) (t : Bool) (u : State) (x : Tagging) → x ≡ (if t then NextState u else NoTag)
-    → (x ≡ NextState s → (if t then more u else some i) ≡ more s) × (x ≡ NoTag → (if t then more u else some i) ≡ some i)
+tag-if : (i : ℕ) (s : State) (more : State → Option ℕ) (t : Bool) (u : State) (x : Tagging) → x ≡ (if t then tagging.Got u else tagging.Refused)
+    → (x ≡ tagging.Got s → (if t then more u else some i) ≡ more s) × (x ≡ tagging.Refused → (if t then more u else some i) ≡ some i)
 tag-if i s more true u x e = (λ g. let q : u ≡ s = cc in ap more q, λ g. let z : _≡_ {A = ℕ} 0 1 = cc in absurd (omega arith))
 tag-if i s more false u x e = (λ g. let z : _≡_ {A = ℕ} 0 1 = cc in absurd (omega arith), λ g. refl)
 
 -- by the cell of the table
 tag-told : (i tag : ℕ) (s : State) (more : State → Option ℕ) (c : Cell) (x : Tagging) → x ≡ tagBy tag c
-    → (x ≡ NextState s → onTag i tag c more ≡ more s) × (x ≡ NoTag → onTag i tag c more ≡ some i)
+    → (x ≡ tagging.Got s → onTag i tag c more ≡ more s) × (x ≡ tagging.Refused → onTag i tag c more ≡ some i)
 unfolding tagBy
 tag-told i tag s more (Tagged t u) x e = tag-if i s more (eqb tag t) u x e
 tag-told i tag s more (Refuses n) x e = (λ g. let z : _≡_ {A = ℕ} 0 1 = cc in absurd (omega arith), λ g. refl)
@@ -102,78 +111,76 @@ tag-told i tag s more (Refuses n) x e = (λ g. let z : _≡_ {A = ℕ} 0 1 = cc 
 
 -- four folds that go on
 lower-same : (m f s t m' f' s' t' : Option ℕ) → m ≡ m' → f ≡ f' → s ≡ s' → t ≡ t' → lower m (lower f (lower s t)) ≡ lower m' (lower f' (lower s' t'))
-lower-same m f s t m' f' s' t' d e g h =
-    ap (λ (x : Option ℕ). lower x (lower f (lower s t))) d
-    ∙ ap (λ (x : Option ℕ). lower m' (lower x (lower s t))) e
-    ∙ ap (λ (x : Option ℕ). lower m' (lower f' (lower x t))) g
-    ∙ ap (λ (x : Option ℕ). lower m' (lower f' (lower s' x))) h
+lower-same m f s t m' f' s' t' d e g h = rw (d, e, g, h)
 
-module _ (whole : Bool) (log strings : List ℕ) (lc sc i at a b : ℕ) (s : State) (f : Fields) (fs : List Fields) (n : ℕ) where
+-- one fold names the record at the index: no other names one before it
+module _ (q : Asked) (i n at : ℕ) (l : Left) (s : State) (fs : List Fields) where
+  by-missing : missingFrom i n fs ≡ some i → faultsFrom q i n at l s fs ≡ some i
+  unfolding faultsFrom
+  by-missing = lowest-1 i _ _ _ _ (missing-late i n fs) (fields-late i at fs) (scan-late (q .log) (q .strings) i l fs) (tags-late (q .whole) i s fs)
+
+  by-fields : fieldsFault i at fs ≡ some i → faultsFrom q i n at l s fs ≡ some i
+  unfolding faultsFrom
+  by-fields = lowest-2 i _ _ _ _ (missing-late i n fs) (fields-late i at fs) (scan-late (q .log) (q .strings) i l fs) (tags-late (q .whole) i s fs)
+
+  by-scan : scanFrom (q .log) (q .strings) i l fs .fault ≡ some i → faultsFrom q i n at l s fs ≡ some i
+  unfolding faultsFrom
+  by-scan = lowest-3 i _ _ _ _ (missing-late i n fs) (fields-late i at fs) (scan-late (q .log) (q .strings) i l fs) (tags-late (q .whole) i s fs)
+
+  by-tags : tagsFault (q .whole) i s fs ≡ some i → faultsFrom q i n at l s fs ≡ some i
+  unfolding faultsFrom
+  by-tags = lowest-4 i _ _ _ _ (missing-late i n fs) (fields-late i at fs) (scan-late (q .log) (q .strings) i l fs) (tags-late (q .whole) i s fs)
+
+module _ (q : Asked) (log strings : List ℕ) (i at a b : ℕ) (s : State) (f : Fields) (fs : List Fields) (n : ℕ) where
   -- a record whose fields are bad
-  faults-fields : (x : Offset) → x ≡ offsetAfter at f → x ≡ NoOffset
-      → faultsFrom whole lc sc i (suc n) at (leftAt log strings a b) s (f ∷ fs) ≡ some i
-  unfolding faultsFrom offsetAfter fieldsFault
+  faults-fields : (x : Offset) → x ≡ offsetAfter at f → x ≡ offset.Refused
+      → faultsFrom q i (suc n) at (leftAt log strings a b) s (f ∷ fs) ≡ some i
+  unfolding offsetAfter fieldsFault
   faults-fields x e g =
-      lowest-2 i (missingFrom i (suc n) (f ∷ fs)) (fieldsFault i at (f ∷ fs)) (scanFrom lc sc i (leftAt log strings a b) (f ∷ fs) .fault) (tagsFault whole i s (f ∷ fs))
-      (missing-late i (suc n) (f ∷ fs)) (fields-late i at (f ∷ fs)) (scan-late lc sc i (leftAt log strings a b) (f ∷ fs)) (tags-late whole i s (f ∷ fs))
-      (offset-told i at (at + 4 * f .words) fs (fieldsGood at f) x e .1 g)
+      by-fields q i (suc n) at (leftAt log strings a b) s (f ∷ fs) (offset-told i at (at + 4 * f .words) fs (fieldsGood at f) x e .1 g)
 
   -- one whose operands are bad
-  faults-operands : (x : Passed) → x ≡ operandsAfter f (leftAt log strings a b) → x ≡ NotPassed
-      → faultsFrom whole lc sc i (suc n) at (leftAt log strings a b) s (f ∷ fs) ≡ some i
-  unfolding faultsFrom operandsAfter scanFrom
+  faults-operands : (x : Passed) → x ≡ operandsAfter f (leftAt log strings a b) → x ≡ passed.Refused
+      → faultsFrom q i (suc n) at (leftAt log strings a b) s (f ∷ fs) ≡ some i
+  unfolding operandsAfter scanFrom
   faults-operands x e g =
-      lowest-3 i (missingFrom i (suc n) (f ∷ fs)) (fieldsFault i at (f ∷ fs)) (scanFrom lc sc i (leftAt log strings a b) (f ∷ fs) .fault) (tagsFault whole i s (f ∷ fs))
-      (missing-late i (suc n) (f ∷ fs)) (fields-late i at (f ∷ fs)) (scan-late lc sc i (leftAt log strings a b) (f ∷ fs)) (tags-late whole i s (f ∷ fs))
-      (ap (λ (o : Option (Placed × Left)). onRecord i o (λ m. scanFrom lc sc (suc i) m fs) .fault) (passes-none _ _ x e g))
+      by-scan q i (suc n) at (leftAt log strings a b) s (f ∷ fs)
+      (ap (λ (o : Option (Placed × Left)). onRecord i o (λ m. scanFrom (q .log) (q .strings) (suc i) m fs) .fault) (passes-none _ _ x e g))
 
   -- one whose tag is bad
-  faults-tag : (x : Tagging) → x ≡ tagAfter s f → x ≡ NoTag
-      → faultsFrom whole lc sc i (suc n) at (leftAt log strings a b) s (f ∷ fs) ≡ some i
-  unfolding faultsFrom tagAfter tagsFault
+  faults-tag : (x : Tagging) → x ≡ tagAfter s f → x ≡ tagging.Refused
+      → faultsFrom q i (suc n) at (leftAt log strings a b) s (f ∷ fs) ≡ some i
+  unfolding tagAfter tagsFault
   faults-tag x e g =
-      lowest-4 i (missingFrom i (suc n) (f ∷ fs)) (fieldsFault i at (f ∷ fs)) (scanFrom lc sc i (leftAt log strings a b) (f ∷ fs) .fault) (tagsFault whole i s (f ∷ fs))
-      (missing-late i (suc n) (f ∷ fs)) (fields-late i at (f ∷ fs)) (scan-late lc sc i (leftAt log strings a b) (f ∷ fs)) (tags-late whole i s (f ∷ fs))
-      (tag-told i (f .tag) s (λ t. tagsFault whole (suc i) t fs) (layoutOf (f .head % 65536) s) x e .1 g)
+      by-tags q i (suc n) at (leftAt log strings a b) s (f ∷ fs)
+      (tag-told i (f .tag) s (λ t. tagsFault (q .whole) (suc i) t fs) (layoutOf (f .head % 65536) s) x e .1 g)
 
   -- one that is good in each fold
-  faults-next : (x : Offset) (at' : ℕ) → x ≡ offsetAfter at f → x ≡ NextOffset at'
+  faults-next : (x : Offset) (at' : ℕ) → x ≡ offsetAfter at f → x ≡ offset.Got at'
       → (y : Placed) (a' b' : ℕ) → takeRecord f (leftAt log strings a b) ≡ some (y, leftAt log strings a' b')
-      → (z : Tagging) (s' : State) → z ≡ tagAfter s f → z ≡ NextState s'
-      → faultsFrom whole lc sc i (suc n) at (leftAt log strings a b) s (f ∷ fs)
-      ≡ faultsFrom whole lc sc (suc i) n at' (leftAt log strings a' b') s' fs
+      → (z : Tagging) (s' : State) → z ≡ tagAfter s f → z ≡ tagging.Got s'
+      → faultsFrom q i (suc n) at (leftAt log strings a b) s (f ∷ fs) ≡ faultsFrom q (suc i) n at' (leftAt log strings a' b') s' fs
   unfolding faultsFrom offsetAfter fieldsFault scanFrom tagAfter tagsFault
   faults-next x at' ex gx y a' b' ey z s' ez gz =
-      lower-same (missingFrom i (suc n) (f ∷ fs)) (fieldsFault i at (f ∷ fs)) (scanFrom lc sc i (leftAt log strings a b) (f ∷ fs) .fault) (tagsFault whole i s (f ∷ fs))
-      (missingFrom (suc i) n fs) (fieldsFault (suc i) at' fs) (scanFrom lc sc (suc i) (leftAt log strings a' b') fs .fault) (tagsFault whole (suc i) s' fs)
+      lower-same _ _ _ _ _ _ _ _
       (missing-next i n f fs)
       (offset-told i at' (at + 4 * f .words) fs (fieldsGood at f) x ex .0 gx)
-      (ap (λ (o : Option (Placed × Left)). onRecord i o (λ m. scanFrom lc sc (suc i) m fs) .fault) ey)
-      (tag-told i (f .tag) s' (λ t. tagsFault whole (suc i) t fs) (layoutOf (f .head % 65536) s) z ez .0 gz)
+      (ap (λ (o : Option (Placed × Left)). onRecord i o (λ m. scanFrom (q .log) (q .strings) (suc i) m fs) .fault) ey)
+      (tag-told i (f .tag) s' (λ t. tagsFault (q .whole) (suc i) t fs) (layoutOf (f .head % 65536) s) z ez .0 gz)
 
-module _ (whole : Bool) (log strings : List ℕ) (lc sc i at a b : ℕ) (s : State) where
-  -- a record that does not lie in the store
-  faults-missing : (n m : ℕ) → m ≡ suc n → faultsFrom whole lc sc i m at (leftAt log strings a b) s [] ≡ some i
-  unfolding faultsFrom
-  faults-missing n m e =
-      lowest-1 i (missingFrom i m []) (fieldsFault i at []) (scanFrom lc sc i (leftAt log strings a b) [] .fault) (tagsFault whole i s [])
-      (missing-late i m []) (fields-late i at []) (scan-late lc sc i (leftAt log strings a b) []) (tags-late whole i s [])
-      (missing-here i n m e)
-
-  -- the end
-  faults-end : (m : ℕ) → m ≡ 0 → faultsFrom whole lc sc i m at (leftAt log strings a b) s []
-      ≡ (if eqb a lc && eqb b sc && (not whole || isOutside s) then none else some i)
-  unfolding faultsFrom missingFrom fieldsFault scanFrom tagsFault leftAt isOutside
-  faults-end m e =
-      ap (λ (x : ℕ). faultsFrom whole lc sc i x at (leftAt log strings a b) s []) e
-      ∙ both-ends i (eqb a lc && eqb b sc) (not whole || eqb (endNumber s) 0)
+-- the end: log, strings and state decide
+faults-end : (q : Asked) (log strings : List ℕ) (i at a b : ℕ) (s : State) (m : ℕ) → m ≡ 0
+    → faultsFrom q i m at (leftAt log strings a b) s []
+    ≡ (if eqb a (q .log) && eqb b (q .strings) && (not (q .whole) || isOutside s) then none else some i)
+unfolding faultsFrom missingFrom fieldsFault scanFrom tagsFault leftAt isOutside
+faults-end q log strings i at a b s m e = rw e (both-ends i (eqb a (q .log) && eqb b (q .strings)) (not (q .whole) || eqb (endNumber s) 0))
 
 -- at a record: the fault is that of the records from it on
-pub record Checking (whole : Bool) (ws log strings : List ℕ) (count lc sc i at a b : ℕ) (s : State) : Type 0 where
-  pub fault : faultsFrom whole lc sc 1 count 20 (leftAt log strings 0 0) Outside (recordsOf count ws)
-      ≡ faultsFrom whole lc sc (suc i) (count - i) at (leftAt log strings a b) s (recordsOf (count - i) (drop (recordSize * i) ws))
-  pub within : recordSize * i ≤ length ws
-  pub few : i ≤ count
+pub record Checking (q : Asked) (ws log strings : List ℕ) (i at a b : ℕ) (s : State) : Type 0 where
+  pub fault : faultIn q ws log strings
+      ≡ faultsFrom q (suc i) (q .count - i) at (leftAt log strings a b) s (recordsOf (q .size) (q .count - i) (drop (q .size * i) ws))
+  pub within : i ≤ length ws / q .size
+  pub few : i ≤ q .count
   pub inLog : a ≤ length log
   pub inStrings : b ≤ length strings
 
@@ -201,75 +208,77 @@ free-by true i = refl
 free-by false i = refl
 
 -- before the first
-pub check-starts : (whole : Bool) (ws log strings : List ℕ) (count lc sc : ℕ) → Checking whole ws log strings count lc sc 0 20 0 0 Outside
-check-starts whole ws log strings count lc sc =
-    let q : count ≡ count - 0 = omega arith in
+pub check-starts : (q : Asked) (ws log strings : List ℕ) → Checking q ws log strings 0 20 0 0 Outside
+unfolding faultIn
+check-starts q ws log strings =
+    let n : q .count ≡ q .count - 0 = omega arith in
+    let z : 0 ≡ q .size * 0 = omega arith in
     record {
-      fault = ap (λ (n : ℕ). faultsFrom whole lc sc 1 n 20 (leftAt log strings 0 0) Outside (recordsOf n ws)) q;
+      fault =
+          ap (λ (n : ℕ). faultsFrom q 1 n 20 (leftAt log strings 0 0) Outside (recordsOf (q .size) n ws)) n
+          ∙ ap (λ (k : ℕ). faultsFrom q 1 (q .count - 0) 20 (leftAt log strings 0 0) Outside (recordsOf (q .size) (q .count - 0) (drop k ws))) z;
       within = omega arith;
       few = omega arith;
       inLog = omega arith;
       inStrings = omega arith;
     }
 
-module _ {whole : Bool} {ws log strings : List ℕ} {count lc sc i at a b : ℕ} {s : State}
-    (r : Checking whole ws log strings count lc sc i at a b s) where
+module _ {q : Asked} {ws log strings : List ℕ} {i at a b : ℕ} {s : State} (some-size : recordSize ≤ q .size)
+    (r : Checking q ws log strings i at a b s) where
   -- an answer that names the record
-  bad-here : faultsFrom whole lc sc (suc i) (count - i) at (leftAt log strings a b) s (recordsOf (count - i) (drop (recordSize * i) ws)) ≡ some (suc i)
-      → checkedIs (Bad (i + 1)) ≡ faultsFrom whole lc sc 1 count 20 (leftAt log strings 0 0) Outside (recordsOf count ws)
+  bad-here : faultsFrom q (suc i) (q .count - i) at (leftAt log strings a b) s (recordsOf (q .size) (q .count - i) (drop (q .size * i) ws)) ≡ some (suc i)
+      → checkedIs (Bad (i + 1)) ≡ faultIn q ws log strings
   unfolding checkedIs
   bad-here e = ap some (add-one i) ∙ sym (r .fault ∙ e)
 
   -- a record that does not lie wholly in the store
-  pub check-missing : i < count → length ws / recordSize ≤ i
-      → checkedIs (Bad (i + 1)) ≡ faultsFrom whole lc sc 1 count 20 (leftAt log strings 0 0) Outside (recordsOf count ws)
+  pub check-missing : i < q .count → length ws / q .size ≤ i → checkedIs (Bad (i + 1)) ≡ faultIn q ws log strings
   check-missing h g =
-      let q : count - i ≡ suc (count - (i + 1)) = omega arith in
+      let n : q .count - i ≡ suc (q .count - (i + 1)) = omega arith in
       bad-here
-      (ap (faultsFrom whole lc sc (suc i) (count - i) at (leftAt log strings a b) s)
-      (records-none ws i (count - (i + 1)) (count - i) q (omega arith) (r .within))
-      ∙ faults-missing whole log strings lc sc (suc i) at a b s (count - (i + 1)) (count - i) q)
+      (ap (faultsFrom q (suc i) (q .count - i) at (leftAt log strings a b) s)
+      (records-none (q .size) ws i (q .count - (i + 1)) (q .count - i) n some-size (past-store _ _ _ some-size g))
+      ∙ by-missing q (suc i) (q .count - i) at (leftAt log strings a b) s [] (missing-here (suc i) (q .count - (i + 1)) (q .count - i) n))
 
-  module _ (h : i < count) (g : i < length ws / recordSize) (f : Fields) (e : f ≡ fieldsAt (drop (recordSize * i) ws)) where
+  module _ (h : i < q .count) (g : i < length ws / q .size) (f : Fields) (e : f ≡ fieldsAt (drop (q .size * i) ws)) where
     -- the record is the first of those that are left
-    first : faultsFrom whole lc sc (suc i) (count - i) at (leftAt log strings a b) s (recordsOf (count - i) (drop (recordSize * i) ws))
-        ≡ faultsFrom whole lc sc (suc i) (suc (count - (i + 1))) at (leftAt log strings a b) s (f ∷ recordsOf (count - (i + 1)) (drop (recordSize * (i + 1)) ws))
+    first : faultsFrom q (suc i) (q .count - i) at (leftAt log strings a b) s (recordsOf (q .size) (q .count - i) (drop (q .size * i) ws))
+        ≡ faultsFrom q (suc i) (suc (q .count - (i + 1))) at (leftAt log strings a b) s
+        (f ∷ recordsOf (q .size) (q .count - (i + 1)) (drop (q .size * (i + 1)) ws))
     first =
-        let q : count - i ≡ suc (count - (i + 1)) = omega arith in
-        ap (faultsFrom whole lc sc (suc i) (count - i) at (leftAt log strings a b) s)
-        (records-by ws i (count - (i + 1)) (count - i) q (omega arith)
-        ∙ ap (λ (x : Fields). x ∷ recordsOf (count - (i + 1)) (drop (recordSize * (i + 1)) ws)) (sym e))
-        ∙ ap (λ (n : ℕ). faultsFrom whole lc sc (suc i) n at (leftAt log strings a b) s (f ∷ recordsOf (count - (i + 1)) (drop (recordSize * (i + 1)) ws))) q
+        let n : q .count - i ≡ suc (q .count - (i + 1)) = omega arith in
+        ap (faultsFrom q (suc i) (q .count - i) at (leftAt log strings a b) s)
+        (records-by (q .size) ws i (q .count - (i + 1)) (q .count - i) n (in-store _ _ _ some-size g)
+        ∙ ap (λ (x : Fields). x ∷ recordsOf (q .size) (q .count - (i + 1)) (drop (q .size * (i + 1)) ws)) (sym e))
+        ∙ ap (λ (n : ℕ). faultsFrom q (suc i) n at (leftAt log strings a b) s (f ∷ recordsOf (q .size) (q .count - (i + 1)) (drop (q .size * (i + 1)) ws))) n
 
     -- its fields are bad
-    pub check-fields : (x : Offset) → x ≡ offsetAfter at f → x ≡ NoOffset
-        → checkedIs (Bad (i + 1)) ≡ faultsFrom whole lc sc 1 count 20 (leftAt log strings 0 0) Outside (recordsOf count ws)
-    check-fields x p q = bad-here (first ∙ faults-fields whole log strings lc sc (suc i) at a b s f _ (count - (i + 1)) x p q)
+    pub check-fields : (x : Offset) → x ≡ offsetAfter at f → x ≡ offset.Refused → checkedIs (Bad (i + 1)) ≡ faultIn q ws log strings
+    check-fields x c d = bad-here (first ∙ faults-fields q log strings (suc i) at a b s f _ (q .count - (i + 1)) x c d)
 
     -- its operands are bad
-    pub check-operands : (x : Passed) → x ≡ operandsAfter f (leftAt log strings a b) → x ≡ NotPassed
-        → checkedIs (Bad (i + 1)) ≡ faultsFrom whole lc sc 1 count 20 (leftAt log strings 0 0) Outside (recordsOf count ws)
-    check-operands x p q = bad-here (first ∙ faults-operands whole log strings lc sc (suc i) at a b s f _ (count - (i + 1)) x p q)
+    pub check-operands : (x : Passed) → x ≡ operandsAfter f (leftAt log strings a b) → x ≡ passed.Refused
+        → checkedIs (Bad (i + 1)) ≡ faultIn q ws log strings
+    check-operands x c d = bad-here (first ∙ faults-operands q log strings (suc i) at a b s f _ (q .count - (i + 1)) x c d)
 
     -- its tag is bad
-    pub check-tag : (x : Tagging) → x ≡ tagAfter s f → x ≡ NoTag
-        → checkedIs (Bad (i + 1)) ≡ faultsFrom whole lc sc 1 count 20 (leftAt log strings 0 0) Outside (recordsOf count ws)
-    check-tag x p q = bad-here (first ∙ faults-tag whole log strings lc sc (suc i) at a b s f _ (count - (i + 1)) x p q)
+    pub check-tag : (x : Tagging) → x ≡ tagAfter s f → x ≡ tagging.Refused → checkedIs (Bad (i + 1)) ≡ faultIn q ws log strings
+    check-tag x c d = bad-here (first ∙ faults-tag q log strings (suc i) at a b s f _ (q .count - (i + 1)) x c d)
 
     -- it is good
-    pub check-goes-on : (x : Offset) (at' : ℕ) → x ≡ offsetAfter at f → x ≡ NextOffset at'
-        → (y : Passed) (a' b' w : ℕ) → y ≡ operandsAfter f (leftAt log strings a b) → y ≡ Past a' b' w
-        → (z : Tagging) (s' : State) → z ≡ tagAfter s f → z ≡ NextState s'
-        → Checking whole ws log strings count lc sc (i + 1) at' a' b' s'
+    pub check-goes-on : (x : Offset) (at' : ℕ) → x ≡ offsetAfter at f → x ≡ offset.Got at'
+        → (y : Passed) (a' b' w : ℕ) → y ≡ operandsAfter f (leftAt log strings a b) → y ≡ passed.Got a' b' w
+        → (z : Tagging) (s' : State) → z ≡ tagAfter s f → z ≡ tagging.Got s'
+        → Checking q ws log strings (i + 1) at' a' b' s'
     check-goes-on x at' ex gx y a' b' w ey gy z s' ez gz =
         let k : suc i ≡ i + 1 = omega arith in
+        let fs : List Fields = recordsOf (q .size) (q .count - (i + 1)) (drop (q .size * (i + 1)) ws) in
         let p = record-passes log strings a b f (r .inLog) (r .inStrings) y a' b' w ey gy in
         record {
           fault =
               r .fault ∙ first
-              ∙ faults-next whole log strings lc sc (suc i) at a b s f (recordsOf (count - (i + 1)) (drop (recordSize * (i + 1)) ws)) (count - (i + 1))
-              x at' ex gx (p .value) a' b' (p .is) z s' ez gz
-              ∙ ap (λ (n : ℕ). faultsFrom whole lc sc (suc n) (count - (i + 1)) at' (leftAt log strings a' b') s' (recordsOf (count - (i + 1)) (drop (recordSize * (i + 1)) ws))) k;
+              ∙ faults-next q log strings (suc i) at a b s f fs (q .count - (i + 1)) x at' ex gx (p .value) a' b' (p .is) z s' ez gz
+              ∙ ap (λ (n : ℕ). faultsFrom q (suc n) (q .count - (i + 1)) at' (leftAt log strings a' b') s' fs) k;
           within = omega arith;
           few = omega arith;
           inLog = p .inLog;
@@ -277,35 +286,34 @@ module _ {whole : Bool} {ws log strings : List ℕ} {count lc sc i at a b : ℕ}
         }
 
   -- all are passed: log, strings and state decide
-  module _ (h : count ≤ i) (o : Bool) (e : o ≡ isOutside s) where
-    -- the three tests decide
-    ends : (t : Bool) → (eqb a lc && eqb b sc && (not whole || o)) ≡ t
-        → (if t then none else some (suc i)) ≡ faultsFrom whole lc sc 1 count 20 (leftAt log strings 0 0) Outside (recordsOf count ws)
-    ends t q =
-        let z : count - i ≡ 0 = omega arith in
+  module _ (h : q .count ≤ i) (o : Bool) (e : o ≡ isOutside s) where
+    -- the test of the end
+    abbrev ended : Bool
+    ended = eqb a (q .log) && eqb b (q .strings) && (not (q .whole) || o)
+
+    -- it decides
+    ends : (if ended then none else some (suc i)) ≡ faultIn q ws log strings
+    ends =
+        let z : q .count - i ≡ 0 = omega arith in
         sym (r .fault
-        ∙ ap (faultsFrom whole lc sc (suc i) (count - i) at (leftAt log strings a b) s) (records-end ws i (count - i) z)
-        ∙ faults-end whole log strings lc sc (suc i) at a b s (count - i) z
-        ∙ ap (λ (x : Bool). if eqb a lc && eqb b sc && (not whole || x) then none else some (suc i)) (sym e)
-        ∙ ap (λ (x : Bool). if x then none else some (suc i)) q)
+        ∙ ap (faultsFrom q (suc i) (q .count - i) at (leftAt log strings a b) s) (records-end (q .size) (drop (q .size * i) ws) (q .count - i) z)
+        ∙ faults-end q log strings (suc i) at a b s (q .count - i) z
+        ∙ ap (λ (x : Bool). if eqb a (q .log) && eqb b (q .strings) && (not (q .whole) || x) then none else some (suc i)) (sym e))
 
     -- whether there is a fault
-    pub check-free : (eqb a lc && eqb b sc && (not whole || o)) ≡ isFree (faultsFrom whole lc sc 1 count 20 (leftAt log strings 0 0) Outside (recordsOf count ws))
-    check-free = free-by (eqb a lc && eqb b sc && (not whole || o)) i ∙ ap isFree (ends (eqb a lc && eqb b sc && (not whole || o)) refl)
+    pub check-free : ended ≡ isFree (faultIn q ws log strings)
+    check-free = free-by ended i ∙ ap isFree ends
 
     -- the answer
-    pub check-ends : (x : Checked) → x ≡ endAnswer (eqb a lc && eqb b sc && (not whole || o)) (i + 1)
-        → checkedIs x ≡ faultsFrom whole lc sc 1 count 20 (leftAt log strings 0 0) Outside (recordsOf count ws)
-    check-ends x q = ap checkedIs q ∙ end-is (eqb a lc && eqb b sc && (not whole || o)) i ∙ ends (eqb a lc && eqb b sc && (not whole || o)) refl
+    pub check-ends : (x : Checked) → x ≡ endAnswer ended (i + 1) → checkedIs x ≡ faultIn q ws log strings
+    check-ends x c = ap checkedIs c ∙ end-is ended i ∙ ends
 
 -- log and strings up to their counts
-pub check-whole : (whole : Bool) (ws log strings : List ℕ) (count lc sc le se : ℕ) → le ≡ atMost lc (length log) → se ≡ atMost sc (length strings)
-    → (x : Checked) → checkedIs x ≡ faultsFrom whole lc sc 1 count 20 (leftAt (take le log) (take se strings) 0 0) Outside (recordsOf count ws)
-    → checkedIs x ≡ faultOf whole (given ws log strings count lc sc)
-unfolding faultOf faultsFrom missingFrom missing leftAt
-check-whole whole ws log strings count lc sc le se p q x e =
-    let a : take le log ≡ take lc log = ap (λ (n : ℕ). take n log) p ∙ take-most lc log in
-    let b : take se strings ≡ take sc strings = ap (λ (n : ℕ). take n strings) q ∙ take-most sc strings in
-    e
-    ∙ ap (λ (l : List ℕ). faultsFrom whole lc sc 1 count 20 (leftAt l (take se strings) 0 0) Outside (recordsOf count ws)) a
-    ∙ ap (λ (l : List ℕ). faultsFrom whole lc sc 1 count 20 (leftAt (take lc log) l 0 0) Outside (recordsOf count ws)) b
+pub check-whole : (q : Asked) (ws log strings : List ℕ) (le se : ℕ) → le ≡ atMost (q .log) (length log) → se ≡ atMost (q .strings) (length strings)
+    → (x : Checked) → checkedIs x ≡ faultIn q ws (take le log) (take se strings)
+    → checkedIs x ≡ faultOf (q .size) (q .whole) (given ws log strings (q .count) (q .log) (q .strings))
+unfolding faultOf faultIn faultsFrom missingFrom missing leftAt
+check-whole q ws log strings le se c d x e =
+    let a : take le log ≡ take (q .log) log = ap (λ (n : ℕ). take n log) c ∙ take-most (q .log) log in
+    let b : take se strings ≡ take (q .strings) strings = ap (λ (n : ℕ). take n strings) d ∙ take-most (q .strings) strings in
+    e ∙ ap (λ (l : List ℕ). faultIn q ws l (take se strings)) a ∙ ap (faultIn q ws (take (q .log) log)) b

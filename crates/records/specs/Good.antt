@@ -7,14 +7,14 @@ use mathlib.Core.Option.{none}
 use lib.ListN.{length, take, drop, getD}
 use Rattle.spec.specs.Words.{fourAt, long}
 use Rattle.spec.specs.Kinds.{isLogged, isLong}
-use Rattle.spec.specs.Records.{Operand, narrow, wide, text}
+use Rattle.spec.specs.Records.{Operand, narrow, wide, text, recordSize}
 use Rattle.spec.specs.Check.{Given, faultOf}
 use Rattle.operand.specs.declared.Parts.{Parts}
 use Rattle.operand.specs.Parts.{parts, isTwo, Fits}
 
 -- the stores are good for the counts, in the order read
 unfoldable pub Good : Given → Type 0
-Good x = faultOf false x ≡ none
+Good x = faultOf recordSize false x ≡ none
 
 -- a whole operand of a known kind at a place of the log
 pub record Whole (log : List ℕ) (at : ℕ) : Type 0 where

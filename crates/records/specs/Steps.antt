@@ -6,6 +6,7 @@ use mathlib.Core.Option.{Option, none, some}
 use lib.Dec.{leb, ltb, eqb}
 use lib.ListN.{length, take, drop}
 use Rattle.spec.specs.declared.State.{State}
+use Rattle.spec.specs.declared.State.the-variants.{Outside}
 use Rattle.spec.specs.declared.Cell.{Cell}
 use Rattle.spec.specs.declared.Cell.the-variants.{Tagged, Refuses}
 use Rattle.spec.specs.declared.Fields.{Fields}
@@ -13,15 +14,16 @@ use Rattle.spec.specs.Base.{if_then_else_, implies, has, every}
 use Rattle.spec.specs.Text.{isUtf8, textWords}
 use Rattle.spec.specs.Records.{Operand, operandSize, operandsSize}
 use Rattle.spec.specs.Layout.{layoutOf, endNumber}
-use Rattle.spec.specs.Check.{Given, lower, bitsIn, fieldsGood, fieldsFault, Left, takeRecord, scanFrom, tagsFault}
+use Rattle.spec.specs.Check.{Given, lower, recordsOf, bitsIn, fieldsGood, fieldsFault, Left, takeRecord, scanFrom, tagsFault}
+use Rattle.records.specs.declared.Asked.{Asked}
 use Rattle.records.specs.declared.Checked.{Checked}
 use Rattle.records.specs.declared.Checked.the-variants.{Good, Bad}
 use Rattle.records.specs.declared.Offset.{Offset}
-use Rattle.records.specs.declared.Offset.the-variants.{Broken as NoOffset, Next as NextOffset}
+use Rattle.records.specs.declared.Offset.the-variants as offset
 use Rattle.records.specs.declared.Passed.{Passed}
-use Rattle.records.specs.declared.Passed.the-variants.{Broken as NotPassed, Past}
+use Rattle.records.specs.declared.Passed.the-variants as passed
 use Rattle.records.specs.declared.Tagging.{Tagging}
-use Rattle.records.specs.declared.Tagging.the-variants.{Broken as NoTag, Next as NextState}
+use Rattle.records.specs.declared.Tagging.the-variants as tagging
 
 -- stores and counts that are given
 abbrev pub given : List ℕ → List ℕ → List ℕ → ℕ → ℕ → ℕ → Given
@@ -58,7 +60,7 @@ fieldsHold f =
 
 -- the offset after a record that should stand at one
 unfoldable pub offsetAfter : ℕ → Fields → Offset
-offsetAfter at f = if fieldsGood at f then NextOffset (at + 4 * f .words) else NoOffset
+offsetAfter at f = if fieldsGood at f then offset.Got (at + 4 * f .words) else offset.Refused
 
 -- 2. LOG AND STRINGS
 
@@ -76,12 +78,12 @@ textGood strings b start n = eqb start b && has n (drop b strings) && isString (
 
 -- past such a string
 unfoldable pub textPassed : List ℕ → ℕ → ℕ → ℕ → ℕ → Passed
-textPassed strings a b start n = if textGood strings b start n then Past (a + 9) (b + n) (textWords n) else NotPassed
+textPassed strings a b start n = if textGood strings b start n then passed.Got (a + 9) (b + n) (textWords n) else passed.Refused
 
 -- past what was taken, with its words
 unfoldable pub passedBy : {A : Type 0} → (A → ℕ) → Option (A × Left) → Passed
-passedBy size none = NotPassed
-passedBy size (some x) = Past (x .1 .logAt) (x .1 .stringsAt) (size (x .0))
+passedBy size none = passed.Refused
+passedBy size (some x) = passed.Got (x .1 .logAt) (x .1 .stringsAt) (size (x .0))
 
 -- past an operand
 unfoldable pub passedOne : Option (Operand × Left) → Passed
@@ -108,8 +110,8 @@ operandsAfter f l = passedBy (λ p. operandsSize (p .instr .operands)) (takeReco
 
 -- the state after a tag that a cell of the table gives
 unfoldable pub tagBy : ℕ → Cell → Tagging
-tagBy tag (Tagged t s) = if eqb tag t then NextState s else NoTag
-tagBy tag (Refuses n) = NoTag
+tagBy tag (Tagged t s) = if eqb tag t then tagging.Got s else tagging.Refused
+tagBy tag (Refuses n) = tagging.Refused
 
 -- the state after a record's tag
 unfoldable pub tagAfter : State → Fields → Tagging
@@ -125,11 +127,17 @@ isOutside s = eqb (endNumber s) 0
 unfoldable pub missingFrom : ℕ → ℕ → List Fields → Option ℕ
 missingFrom index count fs = if eqb (length fs) count then none else some (length fs + index)
 
--- the lowest fault of the records from an index on: so many are asked for, at an offset, with so much left and in a state
-unfoldable pub faultsFrom : Bool → ℕ → ℕ → ℕ → ℕ → ℕ → Left → State → List Fields → Option ℕ
-faultsFrom whole logCount stringCount index count at l s fs =
+-- the lowest fault of the records from an index on, by what is asked for: so many are left, at an offset, with so much left and in a
+-- state
+unfoldable pub faultsFrom : Asked → ℕ → ℕ → ℕ → Left → State → List Fields → Option ℕ
+faultsFrom q index count at l s fs =
     lower (missingFrom index count fs)
-    (lower (fieldsFault index at fs) (lower (scanFrom logCount stringCount index l fs .fault) (tagsFault whole index s fs)))
+    (lower (fieldsFault index at fs) (lower (scanFrom (q .log) (q .strings) index l fs .fault) (tagsFault (q .whole) index s fs)))
+
+-- the lowest fault in records, log and strings that go to their ends
+unfoldable pub faultIn : Asked → List ℕ → List ℕ → List ℕ → Option ℕ
+faultIn q instructions log strings =
+    faultsFrom q 1 (q .count) 20 (leftAt log strings 0 0) Outside (recordsOf (q .size) (q .count) instructions)
 
 -- free of faults
 unfoldable pub isFree : Option ℕ → Bool

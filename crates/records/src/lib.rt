@@ -8,8 +8,8 @@ ghost use lib.Seq.{sets};
 ghost use Rattle.spec.specs.Records.{recordSize, fieldWords, fieldsAt};
 ghost use Rattle.text.specs.AsciiText.{isAsciiText};
 ghost use Rattle.reflect.specs.Column.{layoutTable, kindTable};
-ghost use Rattle.spec.specs.Check.{takeOperand, takeOperands, faultOf, recordsOf};
-ghost use Rattle.records.specs.Steps.{given, checkedIs, endAnswer, leftAt, fieldsHold, offsetAfter, wordIf, resultWords, isString, textPassed, passedOne, passedAll, operandsAfter, tagAfter, isOutside, atMost, faultsFrom, isFree};
+ghost use Rattle.spec.specs.Check.{takeOperand, takeOperands, faultOf};
+ghost use Rattle.records.specs.Steps.{given, checkedIs, endAnswer, leftAt, fieldsHold, offsetAfter, wordIf, resultWords, isString, textPassed, passedOne, passedAll, operandsAfter, tagAfter, isOutside, atMost, faultIn, isFree};
 ghost use Rattle.records.specs.Good.{Whole, Logged};
 use operand::Parts;
 use operand::is_two;
@@ -17,6 +17,7 @@ use spec::Cell;
 use spec::Fields;
 use spec::Found;
 use spec::State;
+use spec::kinds;
 
 // How many words an instruction record has.
 pub const RECORD: usize = 8;
@@ -73,8 +74,8 @@ pub enum Checked {
 
 // A record's fields are bad, or the offset after it.
 enum Offset {
-    Broken,
-    Next(usize),
+    Refused,
+    Got(usize),
 }
 
 // Whether the presence bits are known, and no result field is there without its bit.
@@ -90,23 +91,23 @@ fn offset_after(at: usize, f: Fields) -> Offset
     ensures { λ r. ⌜ r ≡ offsetAfter at f ⌝ }
 {
     if !fields_hold(f) {
-        return Offset::Broken;
+        return Offset::Refused;
     }
     if (f.offset as usize) != at {
-        return Offset::Broken;
+        return Offset::Refused;
     }
     if 65535 < f.words {
-        return Offset::Broken;
+        return Offset::Refused;
     }
-    Offset::Next(at + 4 * (f.words as usize))
+    Offset::Got(at + 4 * (f.words as usize))
 }
 
 // 2. LOG AND STRINGS
 
 // Operands are bad; or where log and strings go on after them, and how many words they take.
 enum Passed {
-    Broken,
-    Past(usize, usize, usize),
+    Refused,
+    Got(usize, usize, usize),
 }
 
 // Whether the bytes may be a string: no zero byte, and UTF-8, as ASCII text is.
@@ -138,20 +139,20 @@ fn pass_text(
     ensures { λ r. ⌜ r ≡ textPassed (now (strings .entry)) «log_at» «strings_at» start size ⌝ }
 {
     if (start as usize) != strings_at {
-        return Passed::Broken;
+        return Passed::Refused;
     }
     let n = size as usize;
     if strings.len() - strings_at < n {
-        return Passed::Broken;
+        return Passed::Refused;
     }
     let end = strings_at + n;
     if ascii {
-        return Passed::Past(log_at + 9, end, n / 4 + 1);
+        return Passed::Got(log_at + 9, end, n / 4 + 1);
     }
     if is_string(&strings[strings_at..end]) {
-        return Passed::Past(log_at + 9, end, n / 4 + 1);
+        return Passed::Got(log_at + 9, end, n / 4 + 1);
     }
-    Passed::Broken
+    Passed::Refused
 }
 
 // The operand at a place of the log.
@@ -162,30 +163,30 @@ fn pass_operand(ascii: bool, log: &[u8], strings: &[u8], log_at: usize, strings_
 {
     let left = log.len() - log_at;
     if left < 5 {
-        return Passed::Broken;
+        return Passed::Refused;
     }
     let kind = log[log_at];
     if kind < 1 {
-        return Passed::Broken;
+        return Passed::Refused;
     }
-    if kind < 36 {
-        return Passed::Past(log_at + 5, strings_at, 1);
+    if kind < kinds::INT64 {
+        return Passed::Got(log_at + 5, strings_at, 1);
     }
     if 45 < kind {
-        return Passed::Broken;
+        return Passed::Refused;
     }
     if !is_two(kind) {
-        return Passed::Past(log_at + 5, strings_at, 1);
+        return Passed::Got(log_at + 5, strings_at, 1);
     }
     if left < 9 {
-        return Passed::Broken;
+        return Passed::Refused;
     }
-    if kind == 40 {
+    if kind == kinds::STRING {
         let start = decoder::word_at(log, log_at + 1);
         let size = decoder::word_at(log, log_at + 5);
         return pass_text(ascii, strings, log_at, strings_at, start, size);
     }
-    Passed::Past(log_at + 9, strings_at, 2)
+    Passed::Got(log_at + 9, strings_at, 2)
 }
 
 // So many operands from a place of the log on.
@@ -207,15 +208,15 @@ fn pass_operands(
     let mut passed = 0;
     while passed < count {
         let step = pass_operand(ascii, log, strings, a, b);
-        let Passed::Past(next_a, next_b, more) = step else {
-            return Passed::Broken;
+        let Passed::Got(next_a, next_b, more) = step else {
+            return Passed::Refused;
         };
         a = next_a;
         b = next_b;
         words += more;
         passed += 1;
     }
-    Passed::Past(a, b, words)
+    Passed::Got(a, b, words)
 }
 
 // One word for what is there.
@@ -250,25 +251,25 @@ fn operands_after(
     ensures { λ r. ⌜ r ≡ operandsAfter f (leftAt (now (log .entry)) (now (strings .entry)) «log_at» «strings_at») ⌝ }
 {
     if (f.start as usize) != log_at {
-        return Passed::Broken;
+        return Passed::Refused;
     }
     let count = f.count as usize;
     let passed = pass_operands(ascii, log, strings, count, log_at, strings_at);
-    let Passed::Past(a, b, words) = passed else {
-        return Passed::Broken;
+    let Passed::Got(a, b, words) = passed else {
+        return Passed::Refused;
     };
     if (f.words as usize) == 1 + result_words(f) + words {
-        return Passed::Past(a, b, words);
+        return Passed::Got(a, b, words);
     }
-    Passed::Broken
+    Passed::Refused
 }
 
 // 3. TAGS
 
 // A record's tag is bad, or the state after it.
 enum Tagging {
-    Broken,
-    Next(State),
+    Refused,
+    Got(State),
 }
 
 // The tag that the table gives for the record's opcode.
@@ -278,12 +279,12 @@ fn tag_after(kinds: &[u8; 256], table: &[[u8; 3]; 19], s: State, f: Fields) -> T
 {
     let cell = reflect::place(kinds, table, (f.head % 65536) as u16, s);
     let Cell::Tagged(tag, next) = cell else {
-        return Tagging::Broken;
+        return Tagging::Refused;
     };
     if f.tag == (tag as u32) {
-        return Tagging::Next(next);
+        return Tagging::Got(next);
     }
-    Tagging::Broken
+    Tagging::Refused
 }
 
 // THE PASS
@@ -309,38 +310,48 @@ fn at_end(good: bool, index: usize) -> Checked
     Checked::Bad(index)
 }
 
+// What is asked for: whether the records are to end outside functions, how many words a record has, how many records, log bytes and
+// string bytes there are.
+struct Asked {
+    whole: bool,
+    size: usize,
+    count: usize,
+    log: usize,
+    strings: usize,
+}
+
 // One pass over the records: each is held to its fields and offset, its operands and its tag.
 fn first_fault(
     kinds: &[u8; 256],
     table: &[[u8; 3]; 19],
-    whole: bool,
+    asked: Asked,
     instructions: &[u32],
     log: &[u8],
     strings: &[u8],
-    count: usize,
-    log_count: usize,
-    string_count: usize,
 ) -> Checked
     requires { ⌜ (now table ≡ layoutTable) × (now kinds ≡ kindTable) ⌝ }
-    ensures { λ r. ⌜ checkedIs r ≡ faultsFrom whole «log_count» «string_count» 1 count 20 (leftAt (now (log .entry)) (now (strings .entry)) 0 0) State.Outside (recordsOf count (now (instructions .entry))) ⌝ }
+    requires { ⌜ recordSize ≤ asked .size ⌝ }
+    ensures { λ r. ⌜ checkedIs r ≡ faultIn asked (now (instructions .entry)) (now (log .entry)) (now (strings .entry)) ⌝ }
 {
+    let size = asked.size;
+    let there = instructions.len() / size;
     let mut i = 0;
     let mut at = 20;
     let mut a = 0;
     let mut b = 0;
     let mut s = State::Outside;
-    while i < count {
-        if instructions.len() / RECORD <= i {
+    while i < asked.count {
+        if there <= i {
             return Checked::Bad(i + 1);
         }
-        let f = record_at(instructions, i);
-        let Offset::Next(next_at) = offset_after(at, f) else {
+        let f = fields_at(instructions, size * i);
+        let Offset::Got(next_at) = offset_after(at, f) else {
             return Checked::Bad(i + 1);
         };
-        let Passed::Past(next_a, next_b, _) = operands_after(false, log, strings, a, b, f) else {
+        let Passed::Got(next_a, next_b, _) = operands_after(false, log, strings, a, b, f) else {
             return Checked::Bad(i + 1);
         };
-        let Tagging::Next(next_s) = tag_after(kinds, table, s, f) else {
+        let Tagging::Got(next_s) = tag_after(kinds, table, s, f) else {
             return Checked::Bad(i + 1);
         };
         at = next_at;
@@ -349,7 +360,7 @@ fn first_fault(
         s = next_s;
         i += 1;
     }
-    let good = (a == log_count) & (b == string_count) & (!whole | is_outside(s));
+    let good = (a == asked.log) & (b == asked.strings) & (!asked.whole | is_outside(s));
     at_end(good, i + 1)
 }
 
@@ -357,34 +368,33 @@ fn first_fault(
 fn finds_nothing(
     kinds: &[u8; 256],
     table: &[[u8; 3]; 19],
-    whole: bool,
+    asked: Asked,
     instructions: &[u32],
     log: &[u8],
     strings: &[u8],
-    count: usize,
-    log_count: usize,
-    string_count: usize,
 ) -> bool
     requires { ⌜ (now table ≡ layoutTable) × (now kinds ≡ kindTable) ⌝ }
+    requires { ⌜ recordSize ≤ asked .size ⌝ }
     requires { ⌜ isAsciiText (now strings) ≡ true ⌝ }
-    ensures { λ r. ⌜ r ≡ isFree (faultsFrom whole «log_count» «string_count» 1 count 20 (leftAt (now (log .entry)) (now (strings .entry)) 0 0) State.Outside (recordsOf count (now (instructions .entry)))) ⌝ }
+    ensures { λ r. ⌜ r ≡ isFree (faultIn asked (now (instructions .entry)) (now (log .entry)) (now (strings .entry))) ⌝ }
 {
-    let most = at_most(count, instructions.len() / RECORD);
+    let size = asked.size;
+    let most = at_most(asked.count, instructions.len() / size);
     let mut i = 0;
     let mut at = 20;
     let mut a = 0;
     let mut b = 0;
     let mut s = State::Outside;
     while i < most {
-        let f = record_at(instructions, i);
-        let Tagging::Next(next_s) = tag_after(kinds, table, s, f) else {
+        let f = fields_at(instructions, size * i);
+        let Tagging::Got(next_s) = tag_after(kinds, table, s, f) else {
             return false;
         };
-        let Offset::Next(next_at) = offset_after(at, f) else {
+        let Offset::Got(next_at) = offset_after(at, f) else {
             return false;
         };
         let passed = operands_after(true, log, strings, a, b, f);
-        let Passed::Past(next_a, next_b, _) = passed else {
+        let Passed::Got(next_a, next_b, _) = passed else {
             return false;
         };
         at = next_at;
@@ -393,10 +403,10 @@ fn finds_nothing(
         s = next_s;
         i += 1;
     }
-    if i < count {
+    if i < asked.count {
         return false;
     }
-    (a == log_count) & (b == string_count) & (!whole | is_outside(s))
+    (a == asked.log) & (b == asked.strings) & (!asked.whole | is_outside(s))
 }
 
 // The lower of two numbers.
@@ -420,7 +430,7 @@ pub fn check(
     log_count: usize,
     string_count: usize,
 ) -> Checked
-    ensures { λ r. ⌜ checkedIs r ≡ faultOf whole (given (now (instructions .entry)) (now (log .entry)) (now (strings .entry)) count «log_count» «string_count») ⌝ }
+    ensures { λ r. ⌜ checkedIs r ≡ faultOf recordSize whole (given (now (instructions .entry)) (now (log .entry)) (now (strings .entry)) count «log_count» «string_count») ⌝ }
 {
     let log_end = at_most(log_count, log.len());
     let strings_end = at_most(string_count, strings.len());
@@ -428,33 +438,19 @@ pub fn check(
     let table = reflect::table();
     let log = &log[..log_end];
     let strings = &strings[..strings_end];
+    let asked = Asked {
+        whole,
+        size: RECORD,
+        count,
+        log: log_count,
+        strings: string_count,
+    };
     if text::is_ascii_text(strings) {
-        let nothing = finds_nothing(
-            &kinds,
-            &table,
-            whole,
-            instructions,
-            log,
-            strings,
-            count,
-            log_count,
-            string_count,
-        );
-        if nothing {
+        if finds_nothing(&kinds, &table, asked, instructions, log, strings) {
             return Checked::Good;
         }
     }
-    first_fault(
-        &kinds,
-        &table,
-        whole,
-        instructions,
-        log,
-        strings,
-        count,
-        log_count,
-        string_count,
-    )
+    first_fault(&kinds, &table, asked, instructions, log, strings)
 }
 
 // GOOD RECORDS

@@ -2,7 +2,8 @@
 ghost use mathlib.Core.Path.{_≡_};
 ghost use Prim.Native.Nat.{_≤_, _<_};
 ghost use Rattle.reflect.specs.Column.{codeOf, columnOf, layoutTable, kindTable};
-ghost use Rattle.spec.specs.Layout.{opcodeKind, isType, layoutAt, layoutOf};
+ghost use Rattle.spec.specs.Layout.{opcodeKind, layoutAt, layoutOf};
+ghost use Rattle.spec.specs.Types.{isType};
 use spec::Cell;
 use spec::State;
 use spec::State::Block;
@@ -103,7 +104,7 @@ fn kind_by(kinds: &[u8; 256], opcode: u16) -> u8
     opcode_kind(opcode)
 }
 
-// Does the opcode declare a type.
+// Does the opcode declare a type, as type tracking asks: the layout has a list of its own.
 pub fn is_type(opcode: u16) -> bool
     ensures { λ r. ⌜ r ≡ isType opcode ⌝ }
 {

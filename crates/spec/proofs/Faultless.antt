@@ -35,28 +35,28 @@ none-if i true x e = (refl, e)
 none-if i false x e = absurd (Option·some-ne-none i e)
 
 -- where there is no fault, no fold finds one
-pub record Faultless (whole : Bool) (x : Given) : Type 0 where
-  pub present : missing (x .count) (recordsIn x) ≡ none
-  pub fields : fieldsFault 1 20 (recordsIn x) ≡ none
-  pub scan : scanOf x .fault ≡ none
-  pub tags : tagsFault whole 1 Outside (recordsIn x) ≡ none
+pub record Faultless (size : ℕ) (whole : Bool) (x : Given) : Type 0 where
+  pub present : missing (x .count) (recordsIn size x) ≡ none
+  pub fields : fieldsFault 1 20 (recordsIn size x) ≡ none
+  pub scan : scanOf size x .fault ≡ none
+  pub tags : tagsFault whole 1 Outside (recordsIn size x) ≡ none
 
 -- that is what no fault says
-pub no-faults : (whole : Bool) (x : Given) → faultOf whole x ≡ none → Faultless whole x
+pub no-faults : (size : ℕ) (whole : Bool) (x : Given) → faultOf size whole x ≡ none → Faultless size whole x
 unfolding faultOf
-no-faults whole x e =
-    let others = none-lower (missing (x .count) (recordsIn x)) _ e in
-    let scans = none-lower (fieldsFault 1 20 (recordsIn x)) _ (others .1) in
-    let tags = none-lower (scanOf x .fault) _ (scans .1) in
+no-faults size whole x e =
+    let others = none-lower (missing (x .count) (recordsIn size x)) _ e in
+    let scans = none-lower (fieldsFault 1 20 (recordsIn size x)) _ (others .1) in
+    let tags = none-lower (scanOf size x .fault) _ (scans .1) in
     record { present = others .0; fields = scans .0; scan = tags .0; tags = tags .1 }
 
 -- where the check is passed, there is no fault
-pub good-told : (whole : Bool) (x : Given) (is : List Placed) → check whole x ≡ good is
-    → (faultOf whole x ≡ none) × (scanOf x .instrs ≡ is)
+pub good-told : (size : ℕ) (whole : Bool) (x : Given) (is : List Placed) → check size whole x ≡ good is
+    → (faultOf size whole x ≡ none) × (scanOf size x .instrs ≡ is)
 unfolding check
-good-told whole x is e = by (faultOf whole x) e
+good-told size whole x is e = by (faultOf size whole x) e
   where
-    by : (o : Option ℕ) → checkedBy o (scanOf x .instrs) ≡ good is → (o ≡ none) × (scanOf x .instrs ≡ is)
+    by : (o : Option ℕ) → checkedBy o (scanOf size x .instrs) ≡ good is → (o ≡ none) × (scanOf size x .instrs ≡ is)
     by none e = (refl, (cc))
     by (some i) e = let z : _≡_ {A = ℕ} 0 1 = cc in absurd (omega arith)
 
@@ -141,8 +141,8 @@ tags-part (f ∷ fs) index s e =
     rw (t .1, eq-eqb (f .tag) (f .tag) refl) (tags-part fs (suc index) (t .0) (t .2))
 
 -- so are the records
-pub part-faultless : (x : Given) → faultOf true x ≡ none → faultOf false x ≡ none
+pub part-faultless : (size : ℕ) (x : Given) → faultOf size true x ≡ none → faultOf size false x ≡ none
 unfolding faultOf
-part-faultless x e =
-    let z = no-faults true x e in
-    rw (z .present, z .fields, z .scan, tags-part (recordsIn x) 1 Outside (z .tags))
+part-faultless size x e =
+    let z = no-faults size true x e in
+    rw (z .present, z .fields, z .scan, tags-part (recordsIn size x) 1 Outside (z .tags))

@@ -2,6 +2,7 @@
 --
 -- Three folds over the records, each with its own running state, name the first record that each finds bad. A record is bad when one
 -- of them finds it so, and each judges it by itself and the records before it: so the first bad record is the lowest that they name.
+-- How long a record is, is a number that the check is given: `recordSize` for the records of today.
 use Prim.Native.Nat.{ℕ, zero, suc, _+_, _*_, _/_, _%_}
 use mathlib.Core.Bool.{Bool, true, false, not, _&&_, _||_}
 use mathlib.Core.List.{List, [], _∷_}
@@ -18,7 +19,7 @@ use Rattle.spec.specs.Base.{if_then_else_, implies, has, every, andThen 
 use Rattle.spec.specs.Words.{fourAt, long}
 use Rattle.spec.specs.Text.{isUtf8}
 use Rattle.spec.specs.Kinds.{isLogged, isLong, isText}
-use Rattle.spec.specs.Records.{Operand, narrow, wide, text, Placed, operandsSize, idSize, recordSize, fieldsAt}
+use Rattle.spec.specs.Records.{Operand, narrow, wide, text, Placed, operandsSize, idSize, fieldsAt}
 use Rattle.spec.specs.Layout.{layoutOf, endNumber}
 use Rattle.spec.specs.Load.{Stores}
 
@@ -51,12 +52,12 @@ lower (some i) (some j) = if leb i j then some i else some j
 
 -- THE RECORDS
 
--- so many records, as far as they lie wholly in the store
-unfoldable pub recordsOf : ℕ → List ℕ → List Fields
-recordsOf zero ws = []
-recordsOf (suc n) ws =
-    let more = recordsOf n (drop recordSize ws) in
-    if has recordSize ws then fieldsAt ws ∷ more else []
+-- so many records of a length, as far as they lie wholly in the store
+unfoldable pub recordsOf : ℕ → ℕ → List ℕ → List Fields
+recordsOf size zero ws = []
+recordsOf size (suc n) ws =
+    let more = recordsOf size n (drop size ws) in
+    if has size ws then fieldsAt ws ∷ more else []
 
 -- the first record that does not
 unfoldable pub missing : ℕ → List Fields → Option ℕ
@@ -192,22 +193,22 @@ tagsFault whole index s (f ∷ fs) =
 
 -- THE CHECK
 
--- the records, log and strings of what is given, up to their counts
-abbrev pub recordsIn : Given → List Fields
-recordsIn x = recordsOf (x .count) (x .instructions)
+-- the records of a length in what is given, up to their count
+abbrev pub recordsIn : ℕ → Given → List Fields
+recordsIn size x = recordsOf size (x .count) (x .instructions)
 
--- the operands of what is given
-abbrev pub scanOf : Given → Scan
-scanOf x =
+-- their operands, in log and strings up to their counts
+abbrev pub scanOf : ℕ → Given → Scan
+scanOf size x =
     scanFrom (x .logCount) (x .stringCount) 1
     (record { logAt = 0; log = take (x .logCount) (x .log); stringsAt = 0; strings = take (x .stringCount) (x .strings) })
-    (recordsIn x)
+    (recordsIn size x)
 
 -- the index of the first bad record, or count + 1 for the end; whole as for module order and standing, not for any other call
-unfoldable pub faultOf : Bool → Given → Option ℕ
-faultOf whole x =
-    lower (missing (x .count) (recordsIn x))
-    (lower (fieldsFault 1 20 (recordsIn x)) (lower (scanOf x .fault) (tagsFault whole 1 Outside (recordsIn x))))
+unfoldable pub faultOf : ℕ → Bool → Given → Option ℕ
+faultOf size whole x =
+    lower (missing (x .count) (recordsIn size x))
+    (lower (fieldsFault 1 20 (recordsIn size x)) (lower (scanOf size x .fault) (tagsFault whole 1 Outside (recordsIn size x))))
 
 -- what a check comes to: the index of the first bad record, or the instructions
 pub data Checked : Type 0 where
@@ -219,6 +220,6 @@ abbrev pub checkedBy : Option ℕ → List Placed → Checked
 checkedBy none is = good is
 checkedBy (some i) is = bad i
 
--- the check of given records
-unfoldable pub check : Bool → Given → Checked
-check whole x = checkedBy (faultOf whole x) (scanOf x .instrs)
+-- the check of given records of a length
+unfoldable pub check : ℕ → Bool → Given → Checked
+check size whole x = checkedBy (faultOf size whole x) (scanOf size x .instrs)

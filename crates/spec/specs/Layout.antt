@@ -1,6 +1,5 @@
 -- The layout: "a fixed table of nineteen kinds against three states" (the standard, 2.4, as reflect.rs and loader.rs read it).
 use Prim.Native.Nat.{ℕ, suc, _-_}
-use mathlib.Core.Bool.{Bool}
 use mathlib.Core.List.{List, [], _∷_, _++_}
 use lib.ListN.{getD}
 use Rattle.spec.specs.declared.State.{State}
@@ -11,14 +10,10 @@ use Rattle.spec.specs.Base.{if_then_else_, isIn}
 
 -- OPCODES
 
--- `is_type`
+-- the types of section 11
 abbrev pub typeOpcodes : List ℕ
 typeOpcodes =
     19 ∷ 20 ∷ 21 ∷ 22 ∷ 23 ∷ 24 ∷ 25 ∷ 26 ∷ 27 ∷ 28 ∷ 29 ∷ 30 ∷ 31 ∷ 32 ∷ 33 ∷ 34 ∷ 35 ∷ 36 ∷ 37 ∷ 38 ∷ 39 ∷ 4472 ∷ 5341 ∷ []
-
--- does the opcode declare a type
-abbrev pub isType : ℕ → Bool
-isType op = isIn op typeOpcodes
 
 -- `is_constant`
 abbrev pub constantOpcodes : List ℕ

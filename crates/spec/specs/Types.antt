@@ -1,11 +1,20 @@
 -- The types of ids, as `TypeTracker::track` keeps them.
 use Prim.Native.Nat.{ℕ}
+use mathlib.Core.Bool.{Bool}
 use mathlib.Core.List.{List, [], _∷_}
 use mathlib.Core.Option.{Option, none, some}
 use lib.Dec.{eqb}
-use Rattle.spec.specs.Base.{if_then_else_}
+use Rattle.spec.specs.Base.{if_then_else_, isIn}
 use Rattle.spec.specs.Records.{Operand, narrow, wide, text, Instr, Entry, entry}
-use Rattle.spec.specs.Layout.{isType}
+
+-- `is_type`: the opcodes whose results `track` takes for types
+abbrev pub trackedTypes : List ℕ
+trackedTypes =
+    19 ∷ 20 ∷ 21 ∷ 22 ∷ 23 ∷ 24 ∷ 25 ∷ 26 ∷ 27 ∷ 28 ∷ 29 ∷ 30 ∷ 31 ∷ 32 ∷ 33 ∷ 34 ∷ 35 ∷ 36 ∷ 37 ∷ 38 ∷ 39 ∷ 4472 ∷ 5341 ∷ []
+
+-- does the opcode declare a type
+abbrev pub isType : ℕ → Bool
+isType op = isIn op trackedTypes
 
 -- `resolve`: the entry of an id
 unfoldable pub entryOf : ℕ → List Entry → Option Entry

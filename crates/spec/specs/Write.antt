@@ -8,7 +8,7 @@ use Rattle.spec.specs.declared.Written.{Written}
 use Rattle.spec.specs.declared.Stands.{Stands}
 use Rattle.spec.specs.Base.{if_then_else_, joined, only}
 use Rattle.spec.specs.Words.{bytesOf, major, minor}
-use Rattle.spec.specs.Records.{Placed, instrBytes}
+use Rattle.spec.specs.Records.{Placed, instrBytes, recordSize}
 use Rattle.spec.specs.Load.{Outcome, laidOver}
 use Rattle.spec.specs.Check.{Given, Checked, bad, good, check}
 
@@ -89,11 +89,11 @@ writeBy (good is) f out = put out (f is)
 
 -- writing in the order read
 unfoldable pub writeParse : List ℕ → Given → List ℕ → Writing
-writeParse h x out = writeBy (check false x) (parseBytes h) out
+writeParse h x out = writeBy (check recordSize false x) (parseBytes h) out
 
 -- writing in module order
 unfoldable pub writeModule : List ℕ → Given → List ℕ → Writing
-writeModule h x out = writeBy (check true x) (moduleBytes h) out
+writeModule h x out = writeBy (check recordSize true x) (moduleBytes h) out
 
 -- bytes were written into an output: the number is 0, and past them stands what was there
 abbrev pub wrote : List ℕ → List ℕ → Writing
@@ -127,4 +127,4 @@ standsBy (good is) = record { number = 0; index = 0; yes = isStanding is }
 
 -- "Standing gives 30 as module order does"
 unfoldable pub standing : Given → Stands
-standing x = standsBy (check true x)
+standing x = standsBy (check recordSize true x)

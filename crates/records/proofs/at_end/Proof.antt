@@ -6,13 +6,6 @@ use mathlib.Core.Path.{sym, ap}
 use Rattle.records.proofs.at_end.Statement.{statement}
 use Rattle.records.proofs.at_end.Tie as tie
 
-returns : tie.Need-returns
-unfolding endAnswer
-returns c = sym (ap (λ (t : Bool). endAnswer t (c .before .args .index)) (c .if1 .taken))
-
-returns-2 : tie.Need-returns-2
-unfolding endAnswer
-returns-2 c = sym (ap (λ (t : Bool). endAnswer t (c .before .args .index)) (c .if1 .left))
-
 pub at-end-spec : {M : Type 1} → statement M
-at-end-spec = tie.close (tie.spec returns returns-2)
+unfolding endAnswer
+at-end-spec = tie.close (tie.spec (λ c. sym (ap (λ (t : Bool). endAnswer t (c .before .args .index)) (c .if1 .taken))) (λ c. sym (ap (λ (t : Bool). endAnswer t (c .before .args .index)) (c .if1 .left))))

@@ -5,13 +5,6 @@ use borrow.Author.Tests.{le-leb, lt-leb}
 use Rattle.records.proofs.at_most.Statement.{statement}
 use Rattle.records.proofs.at_most.Tie as tie
 
-returns : tie.Need-returns
-unfolding atMost
-returns c = simp (le-leb _ _ (c .if1 .taken))
-
-returns-2 : tie.Need-returns-2
-unfolding atMost
-returns-2 c = simp (lt-leb _ _ (c .if1 .left))
-
 pub at-most-spec : {M : Type 1} → statement M
-at-most-spec = tie.close (tie.spec returns returns-2)
+unfolding atMost
+at-most-spec = tie.close (tie.spec (λ c. simp (le-leb _ _ (c .if1 .taken))) (λ c. simp (lt-leb _ _ (c .if1 .left))))

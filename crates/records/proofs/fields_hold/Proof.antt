@@ -5,9 +5,6 @@ use mathlib.Core.Path.{refl}
 use Rattle.records.proofs.fields_hold.Statement.{statement}
 use Rattle.records.proofs.fields_hold.Tie as tie
 
-returns : tie.Need-returns
-unfolding fieldsHold
-returns c = refl
-
 pub fields-hold-spec : {M : Type 1} → statement M
-fields-hold-spec = tie.close (tie.spec returns)
+unfolding fieldsHold
+fields-hold-spec = tie.close (tie.spec (λ c. refl))

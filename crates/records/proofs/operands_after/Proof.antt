@@ -6,32 +6,8 @@ use borrow.Author.Needs.{needs}
 use Rattle.records.proofs.operands_after.Statement.{statement}
 use Rattle.records.proofs.operands_after.Tie as tie
 
-cast-if1 : tie.Need-cast-if1
-cast-if1 c = search needs
-
-returns : tie.Need-returns
-returns c = after-elsewhere _ _ _ _ _ (c .if1 .taken)
-
-cast-count : tie.Need-cast-count
-cast-count c = search needs
-
-pass-operands-requires : tie.Need-pass-operands-requires
-pass-operands-requires c κs = search needs
-
-enum-known-passed : tie.Need-enum-known-passed
-enum-known-passed c = search needs
-
-enum-told : tie.Need-enum-told
-enum-told c = search needs
-
 returns-2 : tie.Need-returns-2
 returns-2 c = after-bad _ _ _ _ _ _ (c .before .before .pass-operands .ensures) (c .enum-told .given .1)
-
-cast-if2 : tie.Need-cast-if2
-cast-if2 c = search needs
-
-result-words-requires : tie.Need-result-words-requires
-result-words-requires c κs = search needs
 
 add-if2 : tie.Need-add-if2
 add-if2 c =
@@ -62,15 +38,15 @@ pub operands-after-spec : {M : Type 1} → statement M
 operands-after-spec =
     tie.close
     (tie.spec
-    cast-if1
-    returns
-    cast-count
-    pass-operands-requires
-    enum-known-passed
-    enum-told
+    (λ c. search needs)
+    (λ c. after-elsewhere _ _ _ _ _ (c .if1 .taken))
+    (λ c. search needs)
+    (λ c κs. search needs)
+    (λ c. search needs)
+    (λ c. search needs)
     returns-2
-    cast-if2
-    result-words-requires
+    (λ c. search needs)
+    (λ c κs. search needs)
     add-if2
     add-if2-2
     returns-3

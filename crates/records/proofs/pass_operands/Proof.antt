@@ -13,35 +13,14 @@ Inv-loop ascii log strings count log-at strings-at a₀ b₀ words₀ passed₀ 
 abbrev μ-loop : tie.MeasureT-loop
 μ-loop ascii log strings count log-at strings-at a₀ b₀ words₀ passed₀ a b words passed = count - passed
 
-loop-holds : tie.Need-loop-holds Inv-loop μ-loop
-loop-holds c = pass-starts _ _ _ _ _ (c .before .before .pre .0 .0) (c .before .before .pre .0 .1)
-
-pass-operand-requires : tie.Need-pass-operand-requires Inv-loop μ-loop
-pass-operand-requires c κs = ((c .before .loop .inv .inLog, c .before .loop .inv .inStrings), c .before .before .before .before .pre .1)
-
-enum-known-step : tie.Need-enum-known-step Inv-loop μ-loop
-enum-known-step c = search needs
-
-enum-told : tie.Need-enum-told Inv-loop μ-loop
-enum-told c = search needs
-
 returns : tie.Need-returns Inv-loop μ-loop
 returns c = pass-fails (c .before .before .before .before .loop .inv) (c .before .before .before .loop-test .taken) _ (c .before .before .pass-operand .ensures) (c .enum-told .given .1)
 
 add-words : tie.Need-add-words Inv-loop μ-loop
 add-words c = omega (arith, pass-room (c .before .before .before .before .before .loop .inv) (c .before .before .before .before .loop-test .taken) _ (c .before .before .before .pass-operand .ensures) _ _ _ (c .before .step .given .1))
 
-add-passed : tie.Need-add-passed Inv-loop μ-loop
-add-passed c = omega arith
-
-loop-less : tie.Need-loop-less Inv-loop μ-loop
-loop-less c = omega arith
-
 loop-again : tie.Need-loop-again Inv-loop μ-loop
 loop-again c = pass-goes-on (c .before .before .before .before .before .loop .inv) (c .before .before .before .before .loop-test .taken) _ (c .before .before .before .pass-operand .ensures) _ _ _ (c .before .step .given .1)
-
-returns-2 : tie.Need-returns-2 Inv-loop μ-loop
-returns-2 c = pass-ends (c .before .loop .inv) (c .loop-test .left)
 
 pub pass-operands-spec : {M : Type 1} → statement M
 pass-operands-spec =
@@ -49,13 +28,13 @@ pass-operands-spec =
     (tie.spec
     Inv-loop
     μ-loop
-    loop-holds
-    pass-operand-requires
-    enum-known-step
-    enum-told
+    (λ c. pass-starts _ _ _ _ _ (c .before .before .pre .0 .0) (c .before .before .pre .0 .1))
+    (λ c κs. ((c .before .loop .inv .inLog, c .before .loop .inv .inStrings), c .before .before .before .before .pre .1))
+    (λ c. search needs)
+    (λ c. search needs)
     returns
     add-words
-    add-passed
-    loop-less
+    (λ c. omega arith)
+    (λ c. omega arith)
     loop-again
-    returns-2)
+    (λ c. pass-ends (c .before .loop .inv) (c .loop-test .left)))

@@ -5,24 +5,6 @@ use borrow.Author.Needs.{needs}
 use Rattle.records.proofs.tag_after.Statement.{statement}
 use Rattle.records.proofs.tag_after.Tie as tie
 
-cast-place : tie.Need-cast-place
-cast-place c = search needs
-
-place-requires : tie.Need-place-requires
-place-requires c κs = search needs
-
-enum-known-cell : tie.Need-enum-known-cell
-enum-known-cell c = search needs
-
-enum-told : tie.Need-enum-told
-enum-told c = search needs
-
-returns : tie.Need-returns
-returns c = tag-refused _ _ _ (c .before .before .place .ensures) _ (c .enum-told .given .1)
-
-cast-if1 : tie.Need-cast-if1
-cast-if1 c = search needs
-
 returns-2 : tie.Need-returns-2
 returns-2 c = tag-right _ _ _ (c .before .before .before .before .before .place .ensures) _ _ (c .before .before .before .cell .given .1) (c .if1 .taken)
 
@@ -33,11 +15,11 @@ pub tag-after-spec : {M : Type 1} → statement M
 tag-after-spec =
     tie.close
     (tie.spec
-    cast-place
-    place-requires
-    enum-known-cell
-    enum-told
-    returns
-    cast-if1
+    (λ c. search needs)
+    (λ c κs. search needs)
+    (λ c. search needs)
+    (λ c. search needs)
+    (λ c. tag-refused _ _ _ (c .before .before .place .ensures) _ (c .enum-told .given .1))
+    (λ c. search needs)
     returns-2
     returns-3)

@@ -6,7 +6,7 @@ use mathlib.Core.List.{List, [], _∷_}
 use mathlib.Core.Logic.{⊎-elim}
 use native.Mathlib.Omega.{arith}
 use lib.Ieee.Bits.{is-true}
-use Rattle.spec.specs.Layout.{typeOpcodes, isType}
+use Rattle.spec.specs.Types.{trackedTypes, isType}
 use Rattle.reflect.proofs.Arms.{passed, absent}
 use Rattle.reflect.proofs.is_type.Statement.{statement}
 use Rattle.reflect.proofs.is_type.Tie as tie
@@ -19,7 +19,7 @@ pub is-type-spec : {M : Type 1} → statement M
 is-type-spec =
     tie.close
     (tie.spec
-    (λ c. sym (absent own {a = 0} (c .before .match .rest) (omega arith) (c .if1 .taken) typeOpcodes tt))
-    (λ c. sym (absent own {b = 65536} (c .before .before .match .rest) (c .if2 .left) (omega arith) typeOpcodes tt))
+    (λ c. sym (absent own {a = 0} (c .before .match .rest) (omega arith) (c .if1 .taken) trackedTypes tt))
+    (λ c. sym (absent own {b = 65536} (c .before .before .match .rest) (c .if2 .left) (omega arith) trackedTypes tt))
     (λ c. ⊎-elim (λ e. sym (ap isType e)) (λ e. sym (ap isType e)) (c .match .keys1))
     (λ c. sym (is-true _ (passed own (c .before .before .match .rest) (c .before .if1 .left) (c .if2 .taken) isType tt))))

@@ -6,9 +6,6 @@ use Rattle.reflect.specs.Column.{kindTable}
 use Rattle.reflect.proofs.kinds.Statement.{statement}
 use Rattle.reflect.proofs.kinds.Tie as tie
 
-returns : tie.Need-returns
-unfolding kindTable opcodeKind kindFrom
-returns c = refl
-
 pub kinds-spec : {M : Type 1} → statement M
-kinds-spec = tie.close (tie.spec returns)
+unfolding kindTable opcodeKind kindFrom
+kinds-spec = tie.close (tie.spec (λ c. refl))

@@ -5,14 +5,5 @@ use Rattle.reflect.proofs.Laws.{kind-given, place-by}
 use Rattle.reflect.proofs.place.Statement.{statement}
 use Rattle.reflect.proofs.place.Tie as tie
 
-kind-by-requires : tie.Need-kind-by-requires
-kind-by-requires c κs = search needs
-
-place-of-requires : tie.Need-place-of-requires
-place-of-requires c κs = (c .before .pre .0, kind-given _ _ (c .kind-by .ensures))
-
-returns : tie.Need-returns
-returns c = place-by _ _ _ _ (c .before .kind-by .ensures) (c .place-of .ensures)
-
 pub place-spec : {M : Type 1} → statement M
-place-spec = tie.close (tie.spec kind-by-requires place-of-requires returns)
+place-spec = tie.close (tie.spec (λ c κs. search needs) (λ c κs. (c .before .pre .0, kind-given _ _ (c .kind-by .ensures))) (λ c. place-by _ _ _ _ (c .before .kind-by .ensures) (c .place-of .ensures)))

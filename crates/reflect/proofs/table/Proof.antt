@@ -6,9 +6,6 @@ use Rattle.reflect.specs.Column.{codeOf, layoutTable}
 use Rattle.reflect.proofs.table.Statement.{statement}
 use Rattle.reflect.proofs.table.Tie as tie
 
-returns : tie.Need-returns
-unfolding layoutTable codeOf layoutAt
-returns c = refl
-
 pub table-spec : {M : Type 1} → statement M
-table-spec = tie.close (tie.spec returns)
+unfolding layoutTable codeOf layoutAt
+table-spec = tie.close (tie.spec (λ c. refl))
