@@ -70,25 +70,25 @@ stands-more o p ps =
 
 -- good records of which some are passed: all stand where those that are left stand after them
 pub record Passing (x : Given) (o : Order) (i : ℕ) : Type 0 where
-  pub checked : check true x ≡ good (scanOf x .instrs)
+  pub checked : check recordSize true x ≡ good (scanOf recordSize x .instrs)
   pub good-x : Good x
   pub within : i ≤ x .count
-  pub whole : isStanding (scanOf x .instrs) ≡ standsAfter o (drop i (scanOf x .instrs))
+  pub whole : isStanding (scanOf recordSize x .instrs) ≡ standsAfter o (drop i (scanOf recordSize x .instrs))
 
 -- a yes or no, where the check is passed
-stands-by : (x : Given) (is : List Placed) → check true x ≡ good is → (b : Bool) → isStanding is ≡ b
+stands-by : (x : Given) (is : List Placed) → check recordSize true x ≡ good is → (b : Bool) → isStanding is ≡ b
     → record { number = 0; index = 0; yes = b } ≡ standing x
 unfolding standing
 stands-by x is e b h = rw (e, h)
 
 -- where the check finds a fault
-pub stands-bad : (x : Given) (r : Checked) (i : ℕ) → checkedIs r ≡ faultOf true x → r ≡ Bad i
+pub stands-bad : (x : Given) (r : Checked) (i : ℕ) → checkedIs r ≡ faultOf recordSize true x → r ≡ Bad i
     → record { number = 30; index = i; yes = false } ≡ standing x
 unfolding standing
 stands-bad x r i e q = rw (check-is-bad true x r i e q)
 
 -- before the first record
-pub pass-starts : (x : Given) (r : Checked) → checkedIs r ≡ faultOf true x → r ≡ AllGood
+pub pass-starts : (x : Given) (r : Checked) → checkedIs r ≡ faultOf recordSize true x → r ≡ AllGood
     → Passing x (record { before = 0; label = false; model = false }) 0
 unfolding isStanding standsAfter
 pass-starts x r e q =
@@ -101,12 +101,12 @@ module _ {x : Given} {o : Order} {i : ℕ} (w : Passing x o i) where
 
   -- the records stand where this one's tag may come, and those after it stand
   whole-more : i < x .count → (f : Fields) → f ≡ fieldsAt (drop (recordSize * i) (x .instructions))
-      → isStanding (scanOf x .instrs)
-      ≡ (mayCome o (f .tag) && standsAfter (orderAfter o (f .tag)) (drop (suc i) (scanOf x .instrs)))
+      → isStanding (scanOf recordSize x .instrs)
+      ≡ (mayCome o (f .tag) && standsAfter (orderAfter o (f .tag)) (drop (suc i) (scanOf recordSize x .instrs)))
   unfolding placedOf
   whole-more h f e =
       let s = good-at x (w .good-x) i h .said in
-      let more : List Placed = drop (suc i) (scanOf x .instrs) in
+      let more : List Placed = drop (suc i) (scanOf recordSize x .instrs) in
       w .whole
       ∙ ap (standsAfter o) (s .here)
       ∙ stands-more o (s .next .0) more
@@ -116,7 +116,7 @@ module _ {x : Given} {o : Order} {i : ℕ} (w : Passing x o i) where
   -- a tag that may not come: no
   pub pass-stops : i < x .count → (f : Fields) → f ≡ fieldsAt (drop (recordSize * i) (x .instructions))
       → mayCome o (f .tag) ≡ false → record { number = 0; index = 0; yes = false } ≡ standing x
-  pass-stops h f e n = stands-by x (scanOf x .instrs) (w .checked) false (whole-more h f e ∙ rw n)
+  pass-stops h f e n = stands-by x (scanOf recordSize x .instrs) (w .checked) false (whole-more h f e ∙ rw n)
 
   -- one that may: on
   pub pass-goes-on : i < x .count → (f : Fields) → f ≡ fieldsAt (drop (recordSize * i) (x .instructions))
@@ -132,11 +132,11 @@ module _ {x : Given} {o : Order} {i : ℕ} (w : Passing x o i) where
   pub pass-ends : x .count ≤ i → record { number = 0; index = 0; yes = true } ≡ standing x
   unfolding standsAfter neverFalls parametersFirst
   pass-ends h =
-      let n : i ≡ length (scanOf x .instrs) = omega (arith, w .within, good-length x (w .good-x)) in
-      stands-by x (scanOf x .instrs) (w .checked) true
+      let n : i ≡ length (scanOf recordSize x .instrs) = omega (arith, w .within, good-length x (w .good-x)) in
+      stands-by x (scanOf recordSize x .instrs) (w .checked) true
       (w .whole
-      ∙ ap (λ (k : ℕ). standsAfter o (drop k (scanOf x .instrs))) n
-      ∙ ap (standsAfter o) (drop-length (scanOf x .instrs))
+      ∙ ap (λ (k : ℕ). standsAfter o (drop k (scanOf recordSize x .instrs))) n
+      ∙ ap (standsAfter o) (drop-length (scanOf recordSize x .instrs))
       ∙ none-left (o .model))
     where
       -- no MemoryModel is few enough

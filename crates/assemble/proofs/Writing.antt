@@ -1,6 +1,6 @@
 -- Laws of the writers: the header, the output that is too small, the bytes written, and the stores cut at their counts.
 use Prim.Native.Nat.{ℕ, _+_, _*_, _<_, _≤_}
-use mathlib.Core.Path.{_≡_, refl, ap, sym, _∙_}
+use mathlib.Core.Path.{_≡_, refl, ap, sym, subst, _∙_}
 use mathlib.Core.Bool.{Bool, true, false}
 use mathlib.Core.List.{List, [], _∷_}
 use native.Mathlib.Omega.{arith}
@@ -12,7 +12,7 @@ use Rattle.spec.specs.declared.Written.{Written}
 use Rattle.spec.specs.declared.State.the-variants.{Outside}
 use Rattle.spec.specs.Base.{if_then_else_, joined}
 use Rattle.spec.specs.Words.{bytesOf, major, minor}
-use Rattle.spec.specs.Records.{Placed}
+use Rattle.spec.specs.Records.{Placed, recordSize}
 use Rattle.spec.specs.Load.{laidOver}
 use Rattle.spec.specs.Check.{Given, lower, missing, fieldsFault, Scan, scanFrom, scanOf, tagsFault, recordsOf, faultOf, Checked, good, check}
 use Rattle.spec.specs.Write.{bytesOfAll, parseBytes, moduleHeader, moduleOrder, moduleBytes, Writing, unwritten, writeBy, writeParse, writeModule}
@@ -24,6 +24,7 @@ use Rattle.records.specs.Steps.{given, checkedIs}
 use Rattle.records.specs.Good.{Good}
 use Rattle.records.proofs.Good.{good-by, good-counts, check-is-good, check-is-bad}
 use Rattle.assemble.specs.Placing.{fullStores, GoodStores, instrsOf, ordered, largest, Room, Wrote, orderBytes, writtenOver, writeOrder}
+use Rattle.assemble.specs.Writes.{Writes}
 
 -- THE HEADER
 
@@ -66,6 +67,10 @@ module-words h e =
     ap (λ (l : List ℕ). set (set (set (set l 0 0x07230203) 1 (65536 * major (getD h 1 0) + 256 * minor (getD h 1 0))) 2 0x000F0000) 4 0) (five-words h e)
 
 -- GOOD STORES
+
+-- what one writing comes to, another comes to that is it
+pub writes-as : {x y : Writing} {out : List ℕ} {w : Written} → x ≡ y → Writes x out w → Writes y out w
+writes-as {out = out} {w = w} e h = subst (λ (z : Writing). Writes z out w) e h
 
 -- measuring needs no room
 pub measure-room : (out : List ℕ) (at : ℕ) (ps : List Placed) → length out < largest → Room false out at ps
@@ -115,10 +120,9 @@ module _ (whole : Bool) (h : List ℕ) (five : length h ≡ 5) (is ps : List Pla
 
   -- "29, exactly when the bytes needed exceed the output"
   pub write-full : (w : Written) (l : List ℕ) → w ≡ record { number = 29; index = 0; bytes = 0 } → l ≡ out → length out < 20 + length (bytesOfAll ps)
-      → (w ≡ writtenOver out (orderBytes whole h is) .said) × (l ≡ writtenOver out (orderBytes whole h is) .output)
+      → Writes (writtenOver out (orderBytes whole h is)) l w
   write-full w l a b g =
-      let q = over-full out (orderBytes whole h is) (omega (arith, g, order-length)) in
-      (a ∙ ap (λ (x : Writing). x .said) q, b ∙ ap (λ (x : Writing). x .output) q)
+      writes-as (over-full out (orderBytes whole h is) (omega (arith, g, order-length))) (record { said = a; output = b })
 
   module _ (l₁ l₂ : List ℕ) (e₁ : l₁ ≡ sets out 0 (joined bytesOf h)) (e₂ : l₂ ≡ sets l₁ 20 (bytesOfAll ps)) where
     -- the output with header and instructions
@@ -133,13 +137,10 @@ module _ (whole : Bool) (h : List ℕ) (five : length h ≡ 5) (is ps : List Pla
 
     -- "Output past the bytes written stays"
     pub write-done : (n : ℕ) → n ≡ 20 + length (bytesOfAll ps) → n ≤ length out
-        → (_≡_ {A = Written} (record { number = 0; index = 0; bytes = n }) (writtenOver out (orderBytes whole h is) .said))
-        × (l₂ ≡ writtenOver out (orderBytes whole h is) .output)
+        → Writes (writtenOver out (orderBytes whole h is)) l₂ (record { number = 0; index = 0; bytes = n })
     write-done n e g =
-        let q = over-done out (orderBytes whole h is) (omega (arith, e, g, order-length)) in (
-          ap (λ (k : ℕ). record { number = 0; index = 0; bytes = k }) (e ∙ sym order-length) ∙ ap (λ (x : Writing). x .said) q,
-          end-out ∙ ap (λ (x : Writing). x .output) q,
-        )
+        writes-as (over-done out (orderBytes whole h is) (omega (arith, e, g, order-length)))
+        (record { said = ap (λ (k : ℕ). record { number = 0; index = 0; bytes = k }) (e ∙ sym order-length); output = end-out })
 
 module _ (h : List ℕ) (five : length h ≡ 5) (is : List Placed) (out : List ℕ) (small : length out < largest)
     (need : ℕ) (l₁ : List ℕ) (m : Wrote false out 20 (moduleOrder is) need l₁) where
@@ -150,7 +151,7 @@ module _ (h : List ℕ) (five : length h ≡ 5) (is : List Placed) (out : List �
 
   -- more bytes were measured than the output has
   pub whole-full : length l₁ < need → (w : Written) → w ≡ record { number = 29; index = 0; bytes = 0 }
-      → (w ≡ writtenOver out (orderBytes true h is) .said) × (l₁ ≡ writtenOver out (orderBytes true h is) .output)
+      → Writes (writtenOver out (orderBytes true h is)) l₁ w
   whole-full g w e = write-full true h five is (moduleOrder is) (whole-order is) out w l₁ e measured-same (omega (arith, g, ap length measured-same, m .place))
 
   module _ (g : need ≤ length l₁) (l₂ : List ℕ) (e : l₂ ≡ sets l₁ 0 (joined bytesOf h)) where
@@ -162,8 +163,7 @@ module _ (h : List ℕ) (five : length h ≡ 5) (is : List Placed) (out : List �
 
     -- it is written
     pub whole-done : (end : ℕ) (l₃ : List ℕ) → Wrote true l₂ 20 (moduleOrder is) end l₃
-        → (_≡_ {A = Written} (record { number = 0; index = 0; bytes = end }) (writtenOver out (orderBytes true h is) .said))
-        × (l₃ ≡ writtenOver out (orderBytes true h is) .output)
+        → Writes (writtenOver out (orderBytes true h is)) l₃ (record { number = 0; index = 0; bytes = end })
     unfolding kept
     whole-done end l₃ w =
         write-done
@@ -186,17 +186,17 @@ module _ (h : List ℕ) (five : length h ≡ 5) (is : List Placed) (out : List �
 
 module _ (ws log strings : List ℕ) (count lc sc : ℕ) (inLog : lc ≤ length log) (inStrings : sc ≤ length strings) where
   -- the scan is the same
-  cut-scan : scanOf (fullStores ws (take lc log) (take sc strings) count) ≡ scanOf (given ws log strings count lc sc)
+  cut-scan : scanOf recordSize (fullStores ws (take lc log) (take sc strings) count) ≡ scanOf recordSize (given ws log strings count lc sc)
   cut-scan =
       let a = take lc log in
       let b = take sc strings in
-      ap (λ (l : List ℕ). scanFrom (length a) (length b) 1 (record { logAt = 0; log = l; stringsAt = 0; strings = take (length b) b }) (recordsOf count ws)) (take-length a)
-      ∙ ap (λ (l : List ℕ). scanFrom (length a) (length b) 1 (record { logAt = 0; log = a; stringsAt = 0; strings = l }) (recordsOf count ws)) (take-length b)
-      ∙ ap (λ (n : ℕ). scanFrom n (length b) 1 (record { logAt = 0; log = a; stringsAt = 0; strings = b }) (recordsOf count ws)) (length-take-le lc log inLog)
-      ∙ ap (λ (n : ℕ). scanFrom lc n 1 (record { logAt = 0; log = a; stringsAt = 0; strings = b }) (recordsOf count ws)) (length-take-le sc strings inStrings)
+      ap (λ (l : List ℕ). scanFrom (length a) (length b) 1 (record { logAt = 0; log = l; stringsAt = 0; strings = take (length b) b }) (recordsOf recordSize count ws)) (take-length a)
+      ∙ ap (λ (l : List ℕ). scanFrom (length a) (length b) 1 (record { logAt = 0; log = a; stringsAt = 0; strings = l }) (recordsOf recordSize count ws)) (take-length b)
+      ∙ ap (λ (n : ℕ). scanFrom n (length b) 1 (record { logAt = 0; log = a; stringsAt = 0; strings = b }) (recordsOf recordSize count ws)) (length-take-le lc log inLog)
+      ∙ ap (λ (n : ℕ). scanFrom lc n 1 (record { logAt = 0; log = a; stringsAt = 0; strings = b }) (recordsOf recordSize count ws)) (length-take-le sc strings inStrings)
 
   -- so are the instructions
-  cut-instrs : instrsOf ws (take lc log) (take sc strings) count ≡ scanOf (given ws log strings count lc sc) .instrs
+  cut-instrs : instrsOf ws (take lc log) (take sc strings) count ≡ scanOf recordSize (given ws log strings count lc sc) .instrs
   unfolding instrsOf
   cut-instrs = ap (λ (x : Scan). x .instrs) cut-scan
 
@@ -205,11 +205,11 @@ module _ (ws log strings : List ℕ) (count lc sc : ℕ) (inLog : lc ≤ length 
   unfolding Good GoodStores faultOf
   cut-good g =
       ap
-      (λ (x : Scan). lower (missing count (recordsOf count ws)) (lower (fieldsFault 1 20 (recordsOf count ws)) (lower (x .fault) (tagsFault false 1 Outside (recordsOf count ws)))))
+      (λ (x : Scan). lower (missing count (recordsOf recordSize count ws)) (lower (fieldsFault 1 20 (recordsOf recordSize count ws)) (lower (x .fault) (tagsFault false 1 Outside (recordsOf recordSize count ws)))))
       cut-scan
       ∙ g
 
-module _ (whole : Bool) (ws log strings : List ℕ) (count lc sc : ℕ) (r : Answer) (e : checkedIs r ≡ faultOf whole (given ws log strings count lc sc)) where
+module _ (whole : Bool) (ws log strings : List ℕ) (count lc sc : ℕ) (r : Answer) (e : checkedIs r ≡ faultOf recordSize whole (given ws log strings count lc sc)) where
   module _ (q : r ≡ AllGood) where
     -- the log's count lies in the log
     pub cut-log : lc ≡ length (take lc log)
@@ -227,7 +227,7 @@ module _ (whole : Bool) (ws log strings : List ℕ) (count lc sc : ℕ) (r : Ans
         cut-good ws log strings count lc sc (c .0) (c .1) g
 
     -- the check gives their instructions
-    pub lent-check : check whole (given ws log strings count lc sc) ≡ good (instrsOf ws (take lc log) (take sc strings) count)
+    pub lent-check : check recordSize whole (given ws log strings count lc sc) ≡ good (instrsOf ws (take lc log) (take sc strings) count)
     lent-check =
         let c = good-counts (given ws log strings count lc sc) (good-by whole (given ws log strings count lc sc) r e q) in
         check-is-good whole (given ws log strings count lc sc) r e q ∙ ap good (sym (cut-instrs ws log strings count lc sc (c .0) (c .1)))
@@ -239,19 +239,15 @@ module _ (whole : Bool) (ws log strings : List ℕ) (count lc sc : ℕ) (r : Ans
 
     -- good records are written
     pub order-good : (h out : List ℕ) (w : Written) (out' : List ℕ)
-        → w ≡ writtenOver out (orderBytes whole h (instrsOf ws (take lc log) (take sc strings) count)) .said
-        → out' ≡ writtenOver out (orderBytes whole h (instrsOf ws (take lc log) (take sc strings) count)) .output
-        → (w ≡ writeOrder whole h (given ws log strings count lc sc) out .said) × (out' ≡ writeOrder whole h (given ws log strings count lc sc) out .output)
-    order-good h out w out' a b = (a ∙ ap (λ (x : Writing). x .said) (lent-is h out), b ∙ ap (λ (x : Writing). x .output) (lent-is h out))
+        → Writes (writtenOver out (orderBytes whole h (instrsOf ws (take lc log) (take sc strings) count))) out' w
+        → Writes (writeOrder whole h (given ws log strings count lc sc) out) out' w
+    order-good h out w out' = writes-as (lent-is h out)
 
   -- "first 30 for records that break the store layout"
   pub order-bad : (i : ℕ) → r ≡ Bad i → (h out : List ℕ)
-      → (_≡_ {A = Written} (record { number = 30; index = i; bytes = 0 }) (writeOrder whole h (given ws log strings count lc sc) out .said))
-      × (out ≡ writeOrder whole h (given ws log strings count lc sc) out .output)
+      → Writes (writeOrder whole h (given ws log strings count lc sc) out) out (record { number = 30; index = i; bytes = 0 })
   unfolding writeOrder
-  order-bad i q h out =
-      let p = ap (λ (x : Checked). writeBy x (orderBytes whole h) out) (sym (check-is-bad whole (given ws log strings count lc sc) r i e q)) in
-      (ap (λ (x : Writing). x .said) p, ap (λ (x : Writing). x .output) p)
+  order-bad i q h out = rw (check-is-bad whole (given ws log strings count lc sc) r i e q) (record { said = refl; output = refl })
 
 -- THE WRITERS
 
@@ -268,7 +264,3 @@ module-order-is h x out = refl
 -- module order, under its header
 pub module-order-by : (h h' : List ℕ) → h' ≡ moduleHeader h → (x : Given) (out : List ℕ) → writeOrder true h' x out ≡ writeModule h x out
 module-order-by h h' e x out = ap (λ (z : List ℕ). writeOrder true z x out) e ∙ module-order-is h x out
-
--- the answer and the output of one that is another
-pub both-as : (x y : Writing) (w : Written) (out : List ℕ) → x ≡ y → (w ≡ x .said) × (out ≡ x .output) → (w ≡ y .said) × (out ≡ y .output)
-both-as x y w out e h = (h .0 ∙ ap (λ (z : Writing). z .said) e, h .1 ∙ ap (λ (z : Writing). z .output) e)

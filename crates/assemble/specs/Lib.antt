@@ -1,3 +1,4 @@
 pub mod Spelled
 pub mod Placing
+pub mod Writes
 pub mod Stand

@@ -7,7 +7,7 @@ use lib.Dec.{leb}
 use lib.ListN.{length, take, drop}
 use Rattle.spec.specs.Base.{if_then_else_, joined, only}
 use Rattle.spec.specs.Words.{bytesOf}
-use Rattle.spec.specs.Records.{Placed}
+use Rattle.spec.specs.Records.{Placed, recordSize}
 use Rattle.spec.specs.Check.{Given, scanOf, check}
 use Rattle.spec.specs.Write.{bytesOfAll, hasTag, parametersIn, moduleOrder, Writing, put, writeBy}
 use Rattle.operand.specs.Log.{kept}
@@ -24,7 +24,7 @@ GoodStores instructions log strings count = Good (fullStores instructions log st
 
 -- the instructions that they say
 unfoldable pub instrsOf : List ℕ → List ℕ → List ℕ → ℕ → List Placed
-instrsOf instructions log strings count = scanOf (fullStores instructions log strings count) .instrs
+instrsOf instructions log strings count = scanOf recordSize (fullStores instructions log strings count) .instrs
 
 -- the instruction at an index
 unfoldable pub oneAt : List Placed → ℕ → List Placed
@@ -79,4 +79,4 @@ writtenOver out bs = put out bs
 
 -- both writers: 30, 29, or the bytes
 unfoldable pub writeOrder : Bool → List ℕ → Given → List ℕ → Writing
-writeOrder whole header x out = writeBy (check whole x) (orderBytes whole header) out
+writeOrder whole header x out = writeBy (check recordSize whole x) (orderBytes whole header) out

@@ -15,6 +15,7 @@ use operand::is_two;
 use operand::put_bytes;
 use operand::put_word;
 use spec::Fields;
+use spec::kinds;
 
 // OPERANDS
 
@@ -41,7 +42,7 @@ fn put_two(log: &[u8], strings: &[u8], a: usize, out: &mut [u8]) -> usize
 {
     let low = decoder::word_at(log, a + 1);
     let high = decoder::word_at(log, a + 5);
-    if log[a] == 40 {
+    if log[a] == kinds::STRING {
         let start = low as usize;
         let end = start + (high as usize);
         return put_text(out, &strings[start..end]);
@@ -55,7 +56,7 @@ fn put_two(log: &[u8], strings: &[u8], a: usize, out: &mut [u8]) -> usize
 fn has_two(kind: u8) -> bool
     ensures { λ r. ⌜ r ≡ isTwo kind ⌝ }
 {
-    if kind < 36 {
+    if kind < kinds::INT64 {
         return false;
     }
     is_two(kind)

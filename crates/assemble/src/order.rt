@@ -15,6 +15,7 @@ ghost use Rattle.assemble.specs.Placing.{GoodStores, instrsOf, oneAt, ta
 use crate::instruction::put_instruction;
 use records::record_at;
 use spec::Fields;
+use spec::tags;
 
 // The largest place.
 const LARGEST: usize = 18446744073709551615;
@@ -196,7 +197,7 @@ fn put_section(
     requires { ⌜ Room keep (now out) at (sectionOf tag (instrsOf (now instructions) (now log) (now strings) count)) ⌝ }
     ensures { λ r. ⌜ Wrote keep (now (out .entry)) at (sectionOf tag (instrsOf (now (instructions .entry)) (now (log .entry)) (now (strings .entry)) count)) r (now (out .exit)) ⌝ }
 {
-    if tag == 4 {
+    if tag == tags::MEMORY_MODEL {
         return put_last(instructions, log, strings, count, tag, out, at, keep);
     }
     put_only(instructions, log, strings, count, tag, out, at, keep)
@@ -218,7 +219,7 @@ fn put_sections(
 {
     let mut tag = 1;
     let mut at = start;
-    while tag < 12 {
+    while tag < tags::FUNCTION {
         at = put_section(instructions, log, strings, count, tag, out, at, keep);
         tag += 1;
     }
@@ -244,10 +245,20 @@ fn put_parameters(
     let mut at = start;
     while i < count {
         let f = record_at(instructions, i);
-        if f.tag == 16 {
+        if f.tag == tags::FUNCTION_END {
             return at;
         }
-        at = put_tagged(instructions, log, strings, count, i, 13, out, at, keep);
+        at = put_tagged(
+            instructions,
+            log,
+            strings,
+            count,
+            i,
+            tags::PARAMETER,
+            out,
+            at,
+            keep,
+        );
         i += 1;
     }
     at
@@ -290,10 +301,10 @@ fn put_part(
     ensures { λ r. ⌜ Wrote keep (now (out .entry)) at (functionPart (drop i (instrsOf (now (instructions .entry)) (now (log .entry)) (now (strings .entry)) count))) r (now (out .exit)) ⌝ }
 {
     let f = record_at(instructions, i);
-    if f.tag == 12 {
+    if f.tag == tags::FUNCTION {
         return put_definition(instructions, log, strings, count, i, out, at, keep);
     }
-    if 14 <= f.tag {
+    if tags::LABEL <= f.tag {
         return put_one(instructions, log, strings, count, i, out, at, keep);
     }
     at

@@ -6,6 +6,8 @@ ghost use Rattle.records.specs.Steps.{given};
 ghost use Rattle.assemble.specs.Stand.{mayCome, orderAfter};
 use records::Checked;
 use spec::Stands;
+use spec::refusals;
+use spec::tags;
 
 // Where a pass over the tags is: the tag before, 12 after the first instruction of a function; whether a label came in the
 // function; whether a MemoryModel came.
@@ -19,16 +21,18 @@ struct Order {
 fn may_come(o: Order, tag: u32) -> bool
     ensures { λ r. ⌜ r ≡ mayCome o tag ⌝ }
 {
-    ((12 <= tag) | (o.before <= tag)) & !((tag == 13) & o.label) & !((tag == 4) & o.model)
+    ((tags::FUNCTION <= tag) | (o.before <= tag))
+        & !((tag == tags::PARAMETER) & o.label)
+        & !((tag == tags::MEMORY_MODEL) & o.model)
 }
 
 // Where the pass is after a tag.
 fn order_after(o: Order, tag: u32) -> Order
     ensures { λ r. ⌜ r ≡ orderAfter o tag ⌝ }
 {
-    let label = !(tag == 12) & (o.label | (tag == 14));
-    let model = o.model | (tag == 4);
-    if tag <= 11 {
+    let label = !(tag == tags::FUNCTION) & (o.label | (tag == tags::LABEL));
+    let model = o.model | (tag == tags::MEMORY_MODEL);
+    if tag <= tags::LAST_SECTION {
         return Order {
             before: tag,
             label,
@@ -36,7 +40,7 @@ fn order_after(o: Order, tag: u32) -> Order
         };
     }
     Order {
-        before: 12,
+        before: tags::FUNCTION,
         label,
         model,
     }
@@ -64,7 +68,7 @@ pub fn standing(
     );
     if let Checked::Bad(index) = checked {
         return Stands {
-            number: 30,
+            number: refusals::BAD_RECORDS,
             index,
             yes: false,
         };
@@ -79,7 +83,7 @@ pub fn standing(
         let f = records::record_at(instructions, i);
         if !may_come(o, f.tag) {
             return Stands {
-                number: 0,
+                number: refusals::ACCEPTED,
                 index: 0,
                 yes: false,
             };
@@ -88,7 +92,7 @@ pub fn standing(
         i += 1;
     }
     Stands {
-        number: 0,
+        number: refusals::ACCEPTED,
         index: 0,
         yes: true,
     }

@@ -9,12 +9,14 @@ ghost use Rattle.spec.specs.Words.{bytesOf};
 ghost use Rattle.spec.specs.Write.{moduleHeader, writeParse, writeModule};
 ghost use Rattle.records.specs.Steps.{given};
 ghost use Rattle.assemble.specs.Placing.{GoodStores, instrsOf, writtenOver, orderBytes, writeOrder};
+ghost use Rattle.assemble.specs.Writes.{Writes};
 use crate::order::end_of;
 use crate::order::put_module;
 use crate::order::put_read;
 use operand::put_word;
 use records::Checked;
 use spec::Written;
+use spec::refusals;
 
 // How many bytes the header takes.
 const HEADER: usize = 20;
@@ -49,7 +51,7 @@ fn too_short() -> Written
     ensures { λ r. ⌜ r ≡ record { number = 29; index = 0; bytes = 0 } ⌝ }
 {
     Written {
-        number: 29,
+        number: refusals::OUTPUT_SHORT,
         index: 0,
         bytes: 0,
     }
@@ -65,8 +67,7 @@ fn write_read(
     out: &mut [u8],
 ) -> Written
     requires { ⌜ GoodStores (now instructions) (now log) (now strings) count ⌝ }
-    ensures { λ r. ⌜ r ≡ writtenOver (now (out .entry)) (orderBytes false header (instrsOf (now (instructions .entry)) (now (log .entry)) (now (strings .entry)) count)) .said ⌝ }
-    ensures { λ _. ⌜ now (out .exit) ≡ writtenOver (now (out .entry)) (orderBytes false header (instrsOf (now (instructions .entry)) (now (log .entry)) (now (strings .entry)) count)) .output ⌝ }
+    ensures { λ r. ⌜ Writes (writtenOver (now (out .entry)) (orderBytes false header (instrsOf (now (instructions .entry)) (now (log .entry)) (now (strings .entry)) count))) (now (out .exit)) r ⌝ }
 {
     let bytes = end_of(instructions, log, strings, count);
     if out.len() < bytes {
@@ -75,7 +76,7 @@ fn write_read(
     put_header(header, out);
     put_read(instructions, log, strings, count, out);
     Written {
-        number: 0,
+        number: refusals::ACCEPTED,
         index: 0,
         bytes,
     }
@@ -91,8 +92,7 @@ fn write_whole(
     out: &mut [u8],
 ) -> Written
     requires { ⌜ GoodStores (now instructions) (now log) (now strings) count ⌝ }
-    ensures { λ r. ⌜ r ≡ writtenOver (now (out .entry)) (orderBytes true header (instrsOf (now (instructions .entry)) (now (log .entry)) (now (strings .entry)) count)) .said ⌝ }
-    ensures { λ _. ⌜ now (out .exit) ≡ writtenOver (now (out .entry)) (orderBytes true header (instrsOf (now (instructions .entry)) (now (log .entry)) (now (strings .entry)) count)) .output ⌝ }
+    ensures { λ r. ⌜ Writes (writtenOver (now (out .entry)) (orderBytes true header (instrsOf (now (instructions .entry)) (now (log .entry)) (now (strings .entry)) count))) (now (out .exit)) r ⌝ }
 {
     let need = put_module(instructions, log, strings, count, out, HEADER, false);
     if out.len() < need {
@@ -101,7 +101,7 @@ fn write_whole(
     put_header(header, out);
     let bytes = put_module(instructions, log, strings, count, out, HEADER, true);
     Written {
-        number: 0,
+        number: refusals::ACCEPTED,
         index: 0,
         bytes,
     }
@@ -118,8 +118,7 @@ fn write_good(
     out: &mut [u8],
 ) -> Written
     requires { ⌜ GoodStores (now instructions) (now log) (now strings) count ⌝ }
-    ensures { λ r. ⌜ r ≡ writtenOver (now (out .entry)) (orderBytes whole header (instrsOf (now (instructions .entry)) (now (log .entry)) (now (strings .entry)) count)) .said ⌝ }
-    ensures { λ _. ⌜ now (out .exit) ≡ writtenOver (now (out .entry)) (orderBytes whole header (instrsOf (now (instructions .entry)) (now (log .entry)) (now (strings .entry)) count)) .output ⌝ }
+    ensures { λ r. ⌜ Writes (writtenOver (now (out .entry)) (orderBytes whole header (instrsOf (now (instructions .entry)) (now (log .entry)) (now (strings .entry)) count))) (now (out .exit)) r ⌝ }
 {
     if whole {
         return write_whole(header, instructions, log, strings, count, out);
@@ -139,8 +138,7 @@ fn write_order(
     strings_end: usize,
     out: &mut [u8],
 ) -> Written
-    ensures { λ r. ⌜ r ≡ writeOrder whole header (given (now (instructions .entry)) (now (log .entry)) (now (strings .entry)) count «log_end» «strings_end») (now (out .entry)) .said ⌝ }
-    ensures { λ _. ⌜ now (out .exit) ≡ writeOrder whole header (given (now (instructions .entry)) (now (log .entry)) (now (strings .entry)) count «log_end» «strings_end») (now (out .entry)) .output ⌝ }
+    ensures { λ r. ⌜ Writes (writeOrder whole header (given (now (instructions .entry)) (now (log .entry)) (now (strings .entry)) count «log_end» «strings_end») (now (out .entry))) (now (out .exit)) r ⌝ }
 {
     let checked = records::check(
         whole,
@@ -157,7 +155,7 @@ fn write_order(
         return write_good(whole, header, instructions, log, strings, count, out);
     };
     Written {
-        number: 30,
+        number: refusals::BAD_RECORDS,
         index,
         bytes: 0,
     }
@@ -174,8 +172,7 @@ pub fn write_parse_order(
     string_count: usize,
     out: &mut [u8],
 ) -> Written
-    ensures { λ r. ⌜ r ≡ writeParse header (given (now (instructions .entry)) (now (log .entry)) (now (strings .entry)) «instruction_count» «log_count» «string_count») (now (out .entry)) .said ⌝ }
-    ensures { λ _. ⌜ now (out .exit) ≡ writeParse header (given (now (instructions .entry)) (now (log .entry)) (now (strings .entry)) «instruction_count» «log_count» «string_count») (now (out .entry)) .output ⌝ }
+    ensures { λ r. ⌜ Writes (writeParse header (given (now (instructions .entry)) (now (log .entry)) (now (strings .entry)) «instruction_count» «log_count» «string_count») (now (out .entry))) (now (out .exit)) r ⌝ }
 {
     write_order(
         false,
@@ -201,8 +198,7 @@ pub fn write_module_order(
     string_count: usize,
     out: &mut [u8],
 ) -> Written
-    ensures { λ r. ⌜ r ≡ writeModule header (given (now (instructions .entry)) (now (log .entry)) (now (strings .entry)) «instruction_count» «log_count» «string_count») (now (out .entry)) .said ⌝ }
-    ensures { λ _. ⌜ now (out .exit) ≡ writeModule header (given (now (instructions .entry)) (now (log .entry)) (now (strings .entry)) «instruction_count» «log_count» «string_count») (now (out .entry)) .output ⌝ }
+    ensures { λ r. ⌜ Writes (writeModule header (given (now (instructions .entry)) (now (log .entry)) (now (strings .entry)) «instruction_count» «log_count» «string_count») (now (out .entry))) (now (out .exit)) r ⌝ }
 {
     write_order(
         true,

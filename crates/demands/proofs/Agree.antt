@@ -11,7 +11,7 @@ use lib.ListN.{length, drop, length-append}
 use lib.Seq.{drop-append-le}
 use Rattle.spec.specs.Base.{if_then_else_, joined}
 use Rattle.spec.specs.Words.{bytesOf}
-use Rattle.spec.specs.Records.{Placed}
+use Rattle.spec.specs.Records.{Placed, recordSize}
 use Rattle.spec.specs.Load.{laidOver}
 use Rattle.spec.specs.Check.{Given, Checked, good, bad, check}
 use Rattle.spec.specs.Write.{bytesOfAll, parseBytes, moduleHeader, moduleOrder, moduleBytes, Writing, unwritten, put, writeParse, writeModule, isStanding, standsBy, standing}
@@ -22,9 +22,9 @@ use Rattle.demands.proofs.Standing.{words-length, standing-order, order
 -- THE CHECK OF BOTH ORDERS
 
 -- records that pass the check of module order pass that of parse order, and say the same
-check-part : (x : Given) (is : List Placed) → check true x ≡ good is → check false x ≡ good is
+check-part : (x : Given) (is : List Placed) → check recordSize true x ≡ good is → check recordSize false x ≡ good is
 unfolding check
-check-part x is e = let told = good-told true x is e in rw (part-faultless x (told .0), told .1)
+check-part x is e = let told = good-told recordSize true x is e in rw (part-faultless recordSize x (told .0), told .1)
 
 -- where standing says yes, the records pass the check and stand
 yes-said : (y : Checked) → standsBy y .yes ≡ true → (is : List Placed) × (y ≡ good is) × (isStanding is ≡ true)
@@ -76,7 +76,7 @@ pub writers-agree : (x : Given) → standing x .yes ≡ true → (h : List ℕ) 
     → Agree 20 (writeModule h x out) (writeParse h x out)
 unfolding standing writeModule writeParse
 writers-agree x e h five out =
-    let s = yes-said (check true x) e in
+    let s = yes-said (check recordSize true x) e in
     let is : List Placed = s .0 in
     let long = same-long h is five (standing-order true x is (s .1) (s .2)) in
     rw (s .1, check-part x is (s .1))

@@ -18,7 +18,7 @@ use Rattle.spec.specs.Words.{bytesOf}
 use Rattle.spec.specs.Text.{isUtf8}
 use Rattle.spec.specs.Kinds.{isLogged, isLong, isText}
 use Rattle.spec.specs.Layout.{endNumber}
-use Rattle.spec.specs.Records.{Operand, narrow, wide, text, Placed, operandSize, operandsSize, operandLog, operandString, operandsLog, operandsStrings, stringStore, logFrom, presence, fieldsOf, fieldWords, fieldsAt, recordsFrom}
+use Rattle.spec.specs.Records.{Operand, narrow, wide, text, Placed, operandSize, operandsSize, operandLog, operandString, operandsLog, operandsStrings, stringStore, logFrom, presence, fieldsOf, fieldWords, fieldsAt, recordsFrom, recordSize}
 use Rattle.spec.specs.Check.{Given, recordsOf, bitsIn, fieldsGood, fieldsFault, Left, takeText, takeOperand, takeOperands, fieldIn, placedOf, wordsGood, takeRecord, scanFrom, tagsFault, faultOf, missing, good, check}
 use Rattle.spec.proofs.Choice.{left, right, both}
 use Rattle.demands.proofs.Bytes.{four-bytes}
@@ -38,7 +38,7 @@ fieldsFrom start (p ∷ ps) = fieldsOf start p ∷ fieldsFrom (start + length (o
 
 -- they are the records that their words begin with
 records-back : (start : ℕ) (is : List Placed) (more : List ℕ)
-    → recordsOf (length is) (recordsFrom start is ++ more) ≡ fieldsFrom start is
+    → recordsOf recordSize (length is) (recordsFrom start is ++ more) ≡ fieldsFrom start is
 unfolding recordsOf recordsFrom fieldsFrom fieldWords fieldsAt
 records-back start [] more = refl
 records-back start (p ∷ ps) more =
@@ -232,7 +232,7 @@ givenOf is a b c =
 
 -- instructions that follow on from the header pass the check, and are what it says
 pub check-back : (whole : Bool) (is : List Placed) (e : State) → Follow 20 Outside is e → 4 * wordsIn is < 4294967296
-    → implies whole (eqb (endNumber e) 0) ≡ true → (a b c : List ℕ) → check whole (givenOf is a b c) ≡ good is
+    → implies whole (eqb (endNumber e) 0) ≡ true → (a b c : List ℕ) → check recordSize whole (givenOf is a b c) ≡ good is
 unfolding check faultOf missing
 check-back whole is e follow few w a b c =
     rw (

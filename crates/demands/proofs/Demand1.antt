@@ -9,6 +9,7 @@ use Rattle.spec.specs.declared.State.{State}
 use Rattle.spec.specs.declared.Counts.{Counts}
 use Rattle.spec.specs.Grammar.{wellFormed}
 use Rattle.spec.specs.Load.{Covers, enough, lacksRoom, load, Stores, storesOf, roomIn, laidOn}
+use Rattle.spec.specs.Records.{recordSize}
 use Rattle.spec.specs.Check.{good, check, givenBy}
 use Rattle.spec.specs.Words.{AllBytes}
 use Rattle.demands.proofs.Lists.{Begins}
@@ -68,5 +69,5 @@ module _ (grammar s : List ℕ) (t : Stores) where
 
   -- what it leaves reads back as what it keeps
   pub left-reads-back : AllBytes s
-      → let x = load grammar (roomIn t) s in check false (givenBy (laidOn t (storesOf x)) (x .said .counts)) ≡ good (x .kept)
+      → let x = load grammar (roomIn t) s in check recordSize false (givenBy (laidOn t (storesOf x)) (x .said .counts)) ≡ good (x .kept)
   left-reads-back by = reads-back grammar (roomIn t) s by (laidOn t (storesOf (load grammar (roomIn t) s))) (load-begins grammar s t)

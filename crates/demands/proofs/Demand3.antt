@@ -6,7 +6,7 @@ use mathlib.Core.List.{List}
 use mathlib.Core.Logic.{_↔_}
 use lib.ListN.{length}
 use Rattle.spec.specs.declared.Counts.{Counts}
-use Rattle.spec.specs.Records.{Placed}
+use Rattle.spec.specs.Records.{Placed, recordSize}
 use Rattle.spec.specs.Load.{load, Stores, storesOf}
 use Rattle.spec.specs.Check.{good, check, givenBy}
 use Rattle.spec.specs.Plain.{plainBy, isPlain}
@@ -78,7 +78,7 @@ module _ (g : List ℕ) (room : Counts) (s : List ℕ) (by : AllBytes s) where
 
     -- the records of an accepted module pass the check of module order and of standing too
     pub accepted-whole : load g room s .said .number ≡ 0
-        → let x = load g room s in check true (givenBy t (x .said .counts)) ≡ good (x .kept)
+        → let x = load g room s in check recordSize true (givenBy t (x .said .counts)) ≡ good (x .kept)
     accepted-whole accepted = reads-back-whole g room s by t b accepted
 
 -- two plain modules with the same header words and the same four stores are the same bytes, whatever the grammars and the rooms

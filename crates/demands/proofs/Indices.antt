@@ -16,7 +16,7 @@ use Rattle.spec.specs.declared.Cell.{Cell}
 use Rattle.spec.specs.declared.Cell.the-variants.{Tagged, Refuses}
 use Rattle.spec.specs.declared.Fields.{Fields}
 use Rattle.spec.specs.Base.{implies, has}
-use Rattle.spec.specs.Records.{Operand, Placed, fieldsAt}
+use Rattle.spec.specs.Records.{Operand, Placed, fieldsAt, recordSize}
 use Rattle.spec.specs.Layout.{layoutOf, endNumber}
 use Rattle.spec.specs.Check.{Given, lower, recordsOf, missing, fieldsGood, fieldsFault, Left, placedOf, wordsGood, takeRecord, Scan, onRecord, scanFrom, onTag, tagsFault, recordsIn, scanOf, faultOf, Checked, bad, good, checkedBy, check}
 use Rattle.spec.specs.Write.{parseBytes, moduleBytes, writeParse, writeModule, Writing, writeBy, standing, standsBy}
@@ -73,12 +73,12 @@ abbrev pub WordsFit : List ℕ → Type 0
 WordsFit ws = (i : ℕ) → getD ws i 0 < 4294967296
 
 -- so it is in records of such words
-offsets-fit : (n : ℕ) (ws : List ℕ) → WordsFit ws → OffsetsFit (recordsOf n ws)
+offsets-fit : (size n : ℕ) (ws : List ℕ) → WordsFit ws → OffsetsFit (recordsOf size n ws)
 unfolding recordsOf fieldsAt
-offsets-fit zero ws p = tt
-offsets-fit (suc n) ws p =
-    either OffsetsFit (has 8 ws) (fieldsAt ws ∷ recordsOf n (drop 8 ws)) []
-    (λ e. (p 2, offsets-fit n (drop 8 ws) (λ i. rw getD-drop (p (8 + i))))) (λ e. tt)
+offsets-fit size zero ws p = tt
+offsets-fit size (suc n) ws p =
+    either OffsetsFit (has size ws) (fieldsAt ws ∷ recordsOf size n (drop size ws)) []
+    (λ e. (p 2, offsets-fit size n (drop size ws) (λ i. rw getD-drop (p (size + i))))) (λ e. tt)
 
 -- records of which fields or scan find a bad one soon, or none and the records are few
 data Soon (fields scan : Option ℕ) (end : ℕ) : Type 0 where
@@ -180,13 +180,13 @@ checked-soon none is p = tt
 checked-soon (some i) is p = p
 
 -- a check of stores whose words are of 32 bits
-check-soon : (whole : Bool) (x : Given) → WordsFit (x .instructions) → BadSoon (check whole x)
+check-soon : (size : ℕ) (whole : Bool) (x : Given) → WordsFit (x .instructions) → BadSoon (check size whole x)
 unfolding check faultOf
-check-soon whole x fit =
-    let fs : List Fields = recordsIn x in
-    checked-soon (faultOf whole x) (scanOf x .instrs)
-    (lowest-most (missing (x .count) fs) (fieldsFault 1 20 fs) (scanOf x .fault) (tagsFault whole 1 Outside fs) (1 + length fs)
-    (soon (x .logCount) (x .stringCount) fs 1 20 _ (offsets-fit (x .count) (x .instructions) fit) (omega arith) (omega arith))
+check-soon size whole x fit =
+    let fs : List Fields = recordsIn size x in
+    checked-soon (faultOf size whole x) (scanOf size x .instrs)
+    (lowest-most (missing (x .count) fs) (fieldsFault 1 20 fs) (scanOf size x .fault) (tagsFault whole 1 Outside fs) (1 + length fs)
+    (soon (x .logCount) (x .stringCount) fs 1 20 _ (offsets-fit size (x .count) (x .instructions) fit) (omega arith) (omega arith))
     (λ e. (missing-most (x .count) fs e, tags-most whole fs 1 Outside e)))
 
 -- an index of 32 bits, by a check
@@ -198,17 +198,17 @@ written-fits (good is) f out p =
 -- the index of a writer in parse order
 pub parse-index : (h : List ℕ) (x : Given) (out : List ℕ) → WordsFit (x .instructions) → writeParse h x out .said .index < 4294967296
 unfolding writeParse
-parse-index h x out fit = written-fits (check false x) (parseBytes h) out (check-soon false x fit)
+parse-index h x out fit = written-fits (check recordSize false x) (parseBytes h) out (check-soon recordSize false x fit)
 
 -- the index of a writer in module order
 pub module-index : (h : List ℕ) (x : Given) (out : List ℕ) → WordsFit (x .instructions) → writeModule h x out .said .index < 4294967296
 unfolding writeModule
-module-index h x out fit = written-fits (check true x) (moduleBytes h) out (check-soon true x fit)
+module-index h x out fit = written-fits (check recordSize true x) (moduleBytes h) out (check-soon recordSize true x fit)
 
 -- the index of standing
 pub standing-index : (x : Given) → WordsFit (x .instructions) → standing x .index < 4294967296
 unfolding standing
-standing-index x fit = by (check true x) (check-soon true x fit)
+standing-index x fit = by (check recordSize true x) (check-soon recordSize true x fit)
   where
     by : (c : Checked) → BadSoon c → standsBy c .index < 4294967296
     by (bad i) p = omega arith

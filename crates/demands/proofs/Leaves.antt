@@ -7,7 +7,7 @@ use native.Mathlib.Nat.{zero-add}
 use lib.ListN.{length, drop}
 use lib.Seq.{sets-eq}
 use Rattle.spec.specs.Base.{joined}
-use Rattle.spec.specs.Records.{entryWords, recordsFrom, logFrom, stringStore}
+use Rattle.spec.specs.Records.{entryWords, recordsFrom, logFrom, stringStore, recordSize}
 use Rattle.spec.specs.Load.{roomOf, Outcome, load, Stores, storesOf, laidOver, Covers, roomIn, laidOn}
 use Rattle.demands.proofs.Stores.{records-length, entries-length, BeginWith}
 use Rattle.demands.proofs.KeptSays.{takenBy, KeptSays, load-says}
@@ -15,7 +15,7 @@ use Rattle.demands.proofs.Room.{load-covered}
 
 -- the stores t after a load of which x became: up to its counts the records of what it keeps, past them what was there
 pub record Leaves (t : Stores) (x : Outcome) (after : Stores) : Type 0 where
-  pub instructions : after .instructions ≡ recordsFrom 0 (x .kept) ++ drop (8 * x .said .counts .instructions) (t .instructions)
+  pub instructions : after .instructions ≡ recordsFrom 0 (x .kept) ++ drop (recordSize * x .said .counts .instructions) (t .instructions)
   pub log : after .log ≡ logFrom 0 (x .kept) ++ drop (x .said .counts .log) (t .log)
   pub strings : after .strings ≡ stringStore (x .kept) ++ drop (x .said .counts .strings) (t .strings)
   pub types : after .types ≡ joined entryWords (x .types) ++ drop (3 * x .said .counts .types) (t .types)

@@ -11,7 +11,7 @@ use Rattle.spec.specs.declared.State.the-variants.{Outside}
 use Rattle.spec.specs.declared.Counts.{Counts}
 use Rattle.spec.specs.Base.{joined, implies}
 use Rattle.spec.specs.Layout.{endNumber}
-use Rattle.spec.specs.Records.{Placed, Entry, entry, entryWords, stringStore, logFrom, recordsFrom}
+use Rattle.spec.specs.Records.{Placed, Entry, entry, entryWords, stringStore, logFrom, recordSize, recordsFrom}
 use Rattle.spec.specs.Load.{Outcome, nothing, load, Stores, storesOf}
 use Rattle.spec.specs.Check.{good, check, givenBy}
 use Rattle.spec.specs.Words.{AllBytes}
@@ -60,7 +60,7 @@ load-kept g room s by = of (load-is g room s)
 -- what is kept, in stores that begin with its records
 kept-back : (whole : Bool) (x : Outcome) (k : Kept x) → implies whole (eqb (endNumber (k .state)) 0) ≡ true
     → KeptSays x → (t : Stores) → BeginWith t (storesOf x)
-    → check whole (givenBy t (x .said .counts)) ≡ good (x .kept)
+    → check recordSize whole (givenBy t (x .said .counts)) ≡ good (x .kept)
 unfolding givenBy takenBy storesOf
 kept-back whole x k w n t b =
     rw (n .counts, b .instructions .1, b .log .1, b .strings .1, n .left)
@@ -68,12 +68,12 @@ kept-back whole x k w n t b =
 
 module _ (g : List ℕ) (room : Counts) (s : List ℕ) (by : AllBytes s) (t : Stores) (b : BeginWith t (storesOf (load g room s))) where
   -- the records of a load, accepted or refused, wherever stores begin with them, pass the check, and say what the load keeps
-  pub reads-back : check false (givenBy t (load g room s .said .counts)) ≡ good (load g room s .kept)
+  pub reads-back : check recordSize false (givenBy t (load g room s .said .counts)) ≡ good (load g room s .kept)
   reads-back = kept-back false (load g room s) (load-kept g room s by) refl (load-says g room s) t b
 
   -- the records of an accepted load pass the check for module order too
   pub reads-back-whole : load g room s .said .number ≡ 0
-      → check true (givenBy t (load g room s .said .counts)) ≡ good (load g room s .kept)
+      → check recordSize true (givenBy t (load g room s .said .counts)) ≡ good (load g room s .kept)
   reads-back-whole z =
       let k : Kept (load g room s) = load-kept g room s by in
       kept-back true (load g room s) k (rw (k .whole z)) (load-says g room s) t b
@@ -126,7 +126,7 @@ stores-tell g h room other s u bs bu e =
     let n : x .said .counts ≡ y .said .counts = same-counts x y (load-says g room s) (load-says h other u) e in (
       same-good (x .kept) (y .kept)
           (sym (reads-back g room s bs (storesOf x) (records-begin (storesOf x)))
-          ∙ ap₂ (λ (t : Stores) (n : Counts). check false (givenBy t n)) e n
+          ∙ ap₂ (λ (t : Stores) (n : Counts). check recordSize false (givenBy t n)) e n
           ∙ reads-back h other u bu (storesOf y) (records-begin (storesOf y))),
       entries-tell (x .types) (y .types) (unfold storesOf in (ap (λ (t : Stores). t .types) e)),
     )

@@ -14,8 +14,7 @@ use Rattle.spec.specs.Base.{if_then_else_, within}
 use Rattle.spec.specs.Words.{bytesOf}
 use Rattle.spec.specs.Records.{Operand, narrow, wide, text, Instr, Entry, entry, operandSize, operandsSize, operandLog, operandString, operandsLog}
 use Rattle.spec.specs.Grammar.{Grammar, wellFormed}
-use Rattle.spec.specs.Layout.{isType}
-use Rattle.spec.specs.Types.{define, entryOf, literalInt, defineInt, defineFloat, trackInt, trackFloat, inherit, trackValue, trackResult, track}
+use Rattle.spec.specs.Types.{isType, define, entryOf, literalInt, defineInt, defineFloat, trackInt, trackFloat, inherit, trackValue, trackResult, track}
 use Rattle.spec.specs.Load.{enough, roomFault, Book, emptyBook, Outcome, load, Covers, lacksRoom}
 use Rattle.demands.proofs.Choice.{either}
 use Rattle.demands.proofs.Stores.{strings-short}

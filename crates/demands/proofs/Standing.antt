@@ -15,7 +15,7 @@ use Rattle.spec.specs.declared.Fields.{Fields}
 use Rattle.spec.specs.Base.{if_then_else_, within, joined, only}
 use Rattle.spec.specs.Words.{bytesOf}
 use Rattle.spec.specs.Layout.{layoutOf}
-use Rattle.spec.specs.Records.{Placed}
+use Rattle.spec.specs.Records.{Placed, recordSize}
 use Rattle.spec.specs.Check.{Given, Left, placedOf, tagsFault, recordsIn, good, check}
 use Rattle.spec.specs.Write.{hasTag, sectionOf, sections, parametersIn, functions, moduleOrder, neverFalls, parametersFirst, isStanding, bytesOfAll, parseBytes, moduleHeader, moduleBytes}
 use Rattle.spec.proofs.Choice.{left, right, both, other, fails, cases, either, in-range}
@@ -42,12 +42,12 @@ scans-walk (says {f = r} {x = x} said more) whole index s f =
     goes on (scans-walk more whole (suc index) (next .0) (next .2))
 
 -- records that pass the check walk the table
-check-walks : (whole : Bool) (x : Given) (is : List Placed) → check whole x ≡ good is → Walks Outside is
+check-walks : (whole : Bool) (x : Given) (is : List Placed) → check recordSize whole x ≡ good is → Walks Outside is
 check-walks whole x is e =
-    let told = good-told whole x is e in
-    let free = no-faults whole x (told .0) in
+    let told = good-told recordSize whole x is e in
+    let free = no-faults recordSize whole x (told .0) in
     subst (Walks Outside) (told .1)
-    (scans-walk (scans (x .logCount) (x .stringCount) (recordsIn x) 1 _ (free .scan)) whole 1 Outside (free .tags))
+    (scans-walk (scans (x .logCount) (x .stringCount) (recordsIn recordSize x) 1 _ (free .scan)) whole 1 Outside (free .tags))
 
 -- FUNCTIONS STAY AS THEY ARE
 
@@ -303,7 +303,7 @@ words-length [] = refl
 words-length (w ∷ ws) = omega (arith, words-length ws)
 
 -- the instructions of records that pass the check and stand are in module order
-pub standing-order : (whole : Bool) (x : Given) (is : List Placed) → check whole x ≡ good is → isStanding is ≡ true
+pub standing-order : (whole : Bool) (x : Given) (is : List Placed) → check recordSize whole x ≡ good is → isStanding is ≡ true
     → moduleOrder is ≡ is
 unfolding isStanding moduleOrder
 standing-order whole x is c e =
@@ -314,7 +314,7 @@ standing-order whole x is c e =
     (right (neverFalls 0 is) (parametersFirst false is) tags))
 
 -- so what is written in module order is what is written in the order read, after the twenty bytes of the header
-pub orders-agree : (whole : Bool) (x : Given) (is : List Placed) → check whole x ≡ good is → isStanding is ≡ true → (h : List ℕ)
+pub orders-agree : (whole : Bool) (x : Given) (is : List Placed) → check recordSize whole x ≡ good is → isStanding is ≡ true → (h : List ℕ)
     → length h ≡ 5 → drop 20 (moduleBytes h is) ≡ drop 20 (parseBytes h is)
 unfolding moduleBytes parseBytes moduleHeader bytesOf
 orders-agree whole x is c e h five =

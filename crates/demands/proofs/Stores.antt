@@ -7,7 +7,7 @@ use native.Mathlib.Nat.{add-assoc, add-zero}
 use lib.ListN.{length, length-append}
 use Rattle.spec.specs.Base.{joined}
 use Rattle.spec.specs.Words.{bytesOf}
-use Rattle.spec.specs.Records.{Operand, narrow, wide, text, Placed, Entry, entry, entryWords, operandSize, operandsSize, operandLog, operandString, operandsLog, operandsStrings, stringStore, logFrom, fieldWords, recordsFrom}
+use Rattle.spec.specs.Records.{Operand, narrow, wide, text, Placed, Entry, entry, entryWords, operandSize, operandsSize, operandLog, operandString, operandsLog, operandsStrings, stringStore, logFrom, fieldWords, recordsFrom, recordSize}
 use Rattle.spec.specs.Load.{Stores}
 use Rattle.demands.proofs.Lists.{Begins, joined-append}
 
@@ -48,7 +48,7 @@ strings-short [] = omega arith
 strings-short (o ∷ os) = omega (arith, length-append (operandString o) (joined operandString os), string-short o, strings-short os)
 
 -- a record is eight words
-pub records-length : (start : ℕ) (is : List Placed) → length (recordsFrom start is) ≡ 8 * length is
+pub records-length : (start : ℕ) (is : List Placed) → length (recordsFrom start is) ≡ recordSize * length is
 unfolding recordsFrom fieldWords
 records-length start [] = refl
 records-length start (p ∷ ps) = omega (arith, records-length (start + length (operandsLog 0 (p .instr .operands))) ps)

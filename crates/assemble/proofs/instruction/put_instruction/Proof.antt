@@ -14,25 +14,10 @@ Inv-loop log strings out₀ at₀ a₀ left₀ out at a left = Putting log strin
 abbrev μ-loop : tie.MeasureT-loop
 μ-loop log strings out₀ at₀ a₀ left₀ out at a left = left
 
-put-head-requires : tie.Need-put-head-requires Inv-loop μ-loop
-put-head-requires c κs = search needs
-
-cast-a : tie.Need-cast-a Inv-loop μ-loop
-cast-a c = search needs
-
 loop-holds : tie.Need-loop-holds Inv-loop μ-loop
 loop-holds c =
     let at-start = c .before .before .before .before .before .before .before .before in
     putting-starts _ _ _ _ _ _ (at-start .pre .0 .operands) (said-room (at-start .args .log .now) (at-start .args .strings .now) (at-start .args .out .now) _ (at-start .args .f) (at-start .pre .0) _ (c .before .before .before .put-head .ensures .1) (c .before .before .before .put-head .ensures .0) (at-start .pre .1))
-
-sub-put-operand : tie.Need-sub-put-operand Inv-loop μ-loop
-sub-put-operand c = omega (arith, putting-room (c .before .loop .inv) (c .loop-test .taken))
-
-part-put-operand-start : tie.Need-part-put-operand-start Inv-loop μ-loop
-part-put-operand-start c = omega (arith, putting-room (c .before .loop .inv) (c .loop-test .taken))
-
-part-put-operand-end : tie.Need-part-put-operand-end Inv-loop μ-loop
-part-put-operand-end c = search needs
 
 put-operand-requires : tie.Need-put-operand-requires Inv-loop μ-loop
 put-operand-requires c κs =
@@ -46,19 +31,10 @@ add-at c =
     let same : length (at-loop .loop .out) ≡ length (at-start .args .out .now) = putting-length (at-loop .loop .inv) ∙ c .before .before .before .before .before .before .before .before .before .out .given in
     omega (arith, putting-room (at-loop .loop .inv) (c .before .before .before .before .before .loop-test .taken), c .before .before .before .put-operand .ensures .1 .0)
 
-sub-left : tie.Need-sub-left Inv-loop μ-loop
-sub-left c = search needs
-
-loop-less : tie.Need-loop-less Inv-loop μ-loop
-loop-less c = omega arith
-
 loop-again : tie.Need-loop-again Inv-loop μ-loop
 loop-again c =
     let after = c .before .before .before in
     putting-goes-on (c .before .before .before .before .before .before .loop .inv) (c .before .before .before .before .before .loop-test .taken) _ _ _ (after .put-operand .ensures .0) (after .put-operand .ensures .1 .0) (after .put-operand .ensures .1 .1)
-
-same-length : tie.Need-same-length Inv-loop μ-loop
-same-length c = putting-length (c .before .loop .inv) ∙ c .before .before .before .before .out .given
 
 returns : tie.Need-returns Inv-loop μ-loop
 returns c =
@@ -71,16 +47,16 @@ put-instruction-spec =
     (tie.spec
     Inv-loop
     μ-loop
-    put-head-requires
-    cast-a
+    (λ c κs. search needs)
+    (λ c. search needs)
     loop-holds
-    sub-put-operand
-    part-put-operand-start
-    part-put-operand-end
+    (λ c. omega (arith, putting-room (c .before .loop .inv) (c .loop-test .taken)))
+    (λ c. omega (arith, putting-room (c .before .loop .inv) (c .loop-test .taken)))
+    (λ c. search needs)
     put-operand-requires
     add-at
-    sub-left
-    loop-less
+    (λ c. search needs)
+    (λ c. omega arith)
     loop-again
-    same-length
+    (λ c. putting-length (c .before .loop .inv) ∙ c .before .before .before .before .out .given)
     returns)

@@ -9,43 +9,19 @@ use borrow.Author.Needs.{needs}
 use Rattle.assemble.proofs.instruction.put_operand.Statement.{statement}
 use Rattle.assemble.proofs.instruction.put_operand.Tie as tie
 
-shared-slice-read-has-two : tie.Need-shared-slice-read-has-two
-shared-slice-read-has-two c = search needs
-
-has-two-requires : tie.Need-has-two-requires
-has-two-requires c κs = search needs
-
 put-two-requires : tie.Need-put-two-requires
 put-two-requires c κs =
     let at-start = c .before .before .before .before .before .before .before in
     (at-start .pre .0, (sym (c .before .before .has-two .ensures) ∙ c .before .if1 .taken, at-start .pre .1))
 
-add-t11 : tie.Need-add-t11
-add-t11 c = search needs
-
-same-length : tie.Need-same-length
-same-length c = search needs
-
 returns : tie.Need-returns
 returns c = (after-two _ _ (sym (c .before .before .before .before .before .has-two .ensures) ∙ c .before .before .before .before .if1 .taken), c .before .before .put-two .ensures)
-
-add-word-at : tie.Need-add-word-at
-add-word-at c = search needs
-
-word-at-requires : tie.Need-word-at-requires
-word-at-requires c κs = search needs
 
 put-word-requires : tie.Need-put-word-requires
 unfolding bytesOf
 put-word-requires c κs =
     let at-start = c .before .before .before .before .before .before .before .before in
     omega (arith, at-start .pre .1, ap length (one-bytes (at-start .args .log .now) (at-start .args .strings .now) (at-start .args .a) (sym (c .before .before .before .has-two .ensures) ∙ c .before .before .if1 .left) _ (c .word-at .ensures)))
-
-add-t16 : tie.Need-add-t16
-add-t16 c = search needs
-
-same-length-2 : tie.Need-same-length-2
-same-length-2 c = search needs
 
 returns-2 : tie.Need-returns-2
 unfolding bytesOf
@@ -57,15 +33,15 @@ pub put-operand-spec : {M : Type 1} → statement M
 put-operand-spec =
     tie.close
     (tie.spec
-    shared-slice-read-has-two
-    has-two-requires
+    (λ c. search needs)
+    (λ c κs. search needs)
     put-two-requires
-    add-t11
-    same-length
+    (λ c. search needs)
+    (λ c. search needs)
     returns
-    add-word-at
-    word-at-requires
+    (λ c. search needs)
+    (λ c κs. search needs)
     put-word-requires
-    add-t16
-    same-length-2
+    (λ c. search needs)
+    (λ c. search needs)
     returns-2)

@@ -6,20 +6,8 @@ use borrow.Author.Needs.{needs}
 use Rattle.assemble.proofs.instruction.put_text.Statement.{statement}
 use Rattle.assemble.proofs.instruction.put_text.Tie as tie
 
-sub-last : tie.Need-sub-last
-sub-last c = search needs
-
-put-word-requires : tie.Need-put-word-requires
-put-word-requires c κs = omega (arith, length-padded (c .before .before .before .args .s .now))
-
 put-bytes-requires : tie.Need-put-bytes-requires
 put-bytes-requires c κs = omega (arith, length-padded (c .before .before .before .before .before .before .before .args .s .now), zeroed-length (c .before .before .before .before .before .before .before .args .out .now) _ (c .before .before .before .before .before .before .before .args .s .now) (c .before .before .before .put-word .ensures))
-
-add-result : tie.Need-add-result
-add-result c = search needs
-
-same-length : tie.Need-same-length
-same-length c = search needs
 
 returns : tie.Need-returns
 returns c = (length-padded _, text-put (c .before .before .before .before .before .before .before .before .before .before .args .out .now) _ (c .before .before .before .before .before .before .before .before .before .before .args .s .now) (c .before .before .before .before .before .before .put-word .ensures) (c .before .before .before .before .before .before .before .before .before .before .pre) _ (c .before .before .put-bytes .ensures))
@@ -27,4 +15,4 @@ returns c = (length-padded _, text-put (c .before .before .before .before .befor
 pub put-text-spec : {M : Type 1} → statement M
 put-text-spec =
     tie.close
-    (tie.spec sub-last put-word-requires put-bytes-requires add-result same-length returns)
+    (tie.spec (λ c. search needs) (λ c κs. omega (arith, length-padded (c .before .before .before .args .s .now))) put-bytes-requires (λ c. search needs) (λ c. search needs) returns)

@@ -9,37 +9,10 @@ use borrow.Author.Needs.{needs}
 use Rattle.assemble.proofs.instruction.put_two.Statement.{statement}
 use Rattle.assemble.proofs.instruction.put_two.Tie as tie
 
-add-word-at : tie.Need-add-word-at
-add-word-at c = search needs
-
-word-at-requires : tie.Need-word-at-requires
-word-at-requires c κs = search needs
-
-add-word-at-2 : tie.Need-add-word-at-2
-add-word-at-2 c = search needs
-
 word-at-requires-2 : tie.Need-word-at-requires-2
 word-at-requires-2 c κs =
     let at-start = c .before .before .before .before in
     omega (arith, at-start .pre .0 .whole .nine (at-start .pre .1 .0))
-
-shared-slice-read-if1 : tie.Need-shared-slice-read-if1
-shared-slice-read-if1 c = search needs
-
-cast-start : tie.Need-cast-start
-cast-start c = search needs
-
-cast-end : tie.Need-cast-end
-cast-end c = search needs
-
-add-end : tie.Need-add-end
-add-end c = search needs
-
-sub-put-text : tie.Need-sub-put-text
-sub-put-text c = search needs
-
-part-put-text-start : tie.Need-part-put-text-start
-part-put-text-start c = search needs
 
 part-put-text-end : tie.Need-part-put-text-end
 part-put-text-end c =
@@ -50,9 +23,6 @@ put-text-requires : tie.Need-put-text-requires
 put-text-requires c κs =
     let at-start = c .before .before .before .before .before .before .before .before .before in
     omega (arith, at-start .pre .1 .1, ap length (text-bytes (at-start .args .log .now) (at-start .args .strings .now) (at-start .args .a) (c .before .before .if1 .taken) _ _ (c .before .before .before .before .before .word-at .ensures) (c .before .before .before .before .word-at2 .ensures)))
-
-same-length : tie.Need-same-length
-same-length c = search needs
 
 returns : tie.Need-returns
 returns c =
@@ -71,9 +41,6 @@ put-word-requires-2 c κs =
     let at-start = c .before .before .before .before .before .before .before .before .before .before .before .before in
     omega (arith, at-start .pre .1 .1, c .before .before .out2 .given, ap length (two-bytes (at-start .args .log .now) (at-start .args .strings .now) (at-start .args .a) (at-start .pre .1 .0) (c .before .before .before .before .before .if1 .left) _ _ (c .before .before .before .before .before .before .before .before .word-at .ensures) (c .before .before .before .before .before .before .before .word-at2 .ensures) (search needs)))
 
-same-length-2 : tie.Need-same-length-2
-same-length-2 c = search needs
-
 returns-2 : tie.Need-returns-2
 unfolding bytesOf
 returns-2 c =
@@ -84,21 +51,21 @@ pub put-two-spec : {M : Type 1} → statement M
 put-two-spec =
     tie.close
     (tie.spec
-    add-word-at
-    word-at-requires
-    add-word-at-2
+    (λ c. search needs)
+    (λ c κs. search needs)
+    (λ c. search needs)
     word-at-requires-2
-    shared-slice-read-if1
-    cast-start
-    cast-end
-    add-end
-    sub-put-text
-    part-put-text-start
+    (λ c. search needs)
+    (λ c. search needs)
+    (λ c. search needs)
+    (λ c. search needs)
+    (λ c. search needs)
+    (λ c. search needs)
     part-put-text-end
     put-text-requires
-    same-length
+    (λ c. search needs)
     returns
     put-word-requires
     put-word-requires-2
-    same-length-2
+    (λ c. search needs)
     returns-2)

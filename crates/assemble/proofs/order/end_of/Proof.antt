@@ -8,27 +8,6 @@ use borrow.Author.Needs.{needs}
 use Rattle.assemble.proofs.order.end_of.Statement.{statement}
 use Rattle.assemble.proofs.order.end_of.Tie as tie
 
-returns : tie.Need-returns
-returns c = none-end _ _ _ _ (c .before .before .before .before .pre) (c .if1 .taken)
-
-sub-record-at : tie.Need-sub-record-at
-sub-record-at c = search needs
-
-record-at-requires : tie.Need-record-at-requires
-record-at-requires c κs = stores-in _ _ _ _ (c .before .before .before .before .pre) _ (omega (arith, c .if1 .left))
-
-cast-result : tie.Need-cast-result
-cast-result c = search needs
-
-cast-result-2 : tie.Need-cast-result-2
-cast-result-2 c = search needs
-
-mul-result : tie.Need-mul-result
-mul-result c = search needs
-
-add-result : tie.Need-add-result
-add-result c = search needs
-
 returns-2 : tie.Need-returns-2
 returns-2 c = offset-end _ _ _ _ (c .before .before .before .before .before .before .before .pre) (c .before .before .before .before .before .before .before .args .count - 1) (omega (arith, c .before .before .before .if1 .left)) _ (c .before .before .record-at .ensures) (omega (arith, c .before .before .before .if1 .left))
 
@@ -36,11 +15,11 @@ pub end-of-spec : {M : Type 1} → statement M
 end-of-spec =
     tie.close
     (tie.spec
-    returns
-    sub-record-at
-    record-at-requires
-    cast-result
-    cast-result-2
-    mul-result
-    add-result
+    (λ c. none-end _ _ _ _ (c .before .before .before .before .pre) (c .if1 .taken))
+    (λ c. search needs)
+    (λ c κs. stores-in _ _ _ _ (c .before .before .before .before .pre) _ (omega (arith, c .if1 .left)))
+    (λ c. search needs)
+    (λ c. search needs)
+    (λ c. search needs)
+    (λ c. search needs)
     returns-2)

@@ -9,9 +9,6 @@ use borrow.Author.Needs.{needs}
 use Rattle.assemble.proofs.order.later.Statement.{statement}
 use Rattle.assemble.proofs.order.later.Tie as tie
 
-record-at-requires : tie.Need-record-at-requires
-record-at-requires c κs = search needs
-
 returns : tie.Need-returns
 returns c = later-yes (c .before .before .record-at .result .tag) _ _ _ (c .if1 .taken) ∙ ap (λ (f : Fields). laterOf (eqb (f .tag) (c .before .before .before .before .args .tag)) (c .before .before .before .before .args .i) (c .before .before .before .before .args .before)) (c .before .before .record-at .ensures)
 
@@ -19,4 +16,4 @@ returns-2 : tie.Need-returns-2
 returns-2 c = later-no (c .before .before .record-at .result .tag) _ _ _ (c .if1 .left) ∙ ap (λ (f : Fields). laterOf (eqb (f .tag) (c .before .before .before .before .args .tag)) (c .before .before .before .before .args .i) (c .before .before .before .before .args .before)) (c .before .before .record-at .ensures)
 
 pub later-spec : {M : Type 1} → statement M
-later-spec = tie.close (tie.spec record-at-requires returns returns-2)
+later-spec = tie.close (tie.spec (λ c κs. search needs) returns returns-2)

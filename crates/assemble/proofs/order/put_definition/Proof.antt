@@ -8,14 +8,8 @@ use Rattle.assemble.proofs.order.put_definition.Tie as tie
 put-one-requires : tie.Need-put-one-requires
 put-one-requires c κs = (c .before .before .before .before .before .pre .0, (c .before .before .before .before .before .pre .1 .0, room-first _ _ (c .before .before .before .before .before .pre .1 .1)))
 
-add-put-parameters : tie.Need-add-put-parameters
-add-put-parameters c = search needs
-
 put-parameters-requires : tie.Need-put-parameters-requires
 put-parameters-requires c κs = (c .before .before .before .before .before .before .before .before .before .pre .0, room-next _ _ (c .before .before .before .before .before .before .before .before .before .pre .1 .1) (c .before .before .before .put-one .ensures))
-
-same-length : tie.Need-same-length
-same-length c = search needs
 
 returns : tie.Need-returns
 returns c = wrote-both _ _ (c .before .before .before .before .before .before .before .before .before .before .before .before .pre .1 .1) (c .before .before .before .before .before .before .put-one .ensures) (c .before .before .put-parameters .ensures)
@@ -23,4 +17,4 @@ returns c = wrote-both _ _ (c .before .before .before .before .before .before .b
 pub put-definition-spec : {M : Type 1} → statement M
 put-definition-spec =
     tie.close
-    (tie.spec put-one-requires add-put-parameters put-parameters-requires same-length returns)
+    (tie.spec put-one-requires (λ c. search needs) put-parameters-requires (λ c. search needs) returns)

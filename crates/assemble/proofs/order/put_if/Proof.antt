@@ -8,35 +8,20 @@ use borrow.Author.Needs.{needs}
 use Rattle.assemble.proofs.order.put_if.Statement.{statement}
 use Rattle.assemble.proofs.order.put_if.Tie as tie
 
-sub-put-instruction : tie.Need-sub-put-instruction
-sub-put-instruction c = omega (arith, c .before .before .before .before .pre .1 (c .if1 .taken))
-
-part-put-instruction-start : tie.Need-part-put-instruction-start
-part-put-instruction-start c = omega (arith, c .before .before .before .before .pre .1 (c .if1 .taken))
-
-part-put-instruction-end : tie.Need-part-put-instruction-end
-part-put-instruction-end c = search needs
-
 put-instruction-requires : tie.Need-put-instruction-requires
 put-instruction-requires c κs = (c .before .before .before .before .before .pre .0, lent-room (c .before .before .before .before .before .args .out .now) (c .before .before .before .before .before .args .at) _ (c .before .before .before .before .before .pre .1 (c .before .if1 .taken)))
 
-same-length : tie.Need-same-length
-same-length c = search needs
-
 returns : tie.Need-returns
 returns c = put-kept _ (c .before .before .before .before .before .before .before .before .args .out .now) (c .before .before .put-instruction .last .1 .1 .1 .0) _ (c .before .before .before .before .before .before .before .before .args .at) (c .before .before .before .before .if1 .taken) (c .before .before .put-instruction .ensures)
-
-returns-2 : tie.Need-returns-2
-returns-2 c = kept-no _ _ _ _ (c .if1 .left)
 
 pub put-if-spec : {M : Type 1} → statement M
 put-if-spec =
     tie.close
     (tie.spec
-    sub-put-instruction
-    part-put-instruction-start
-    part-put-instruction-end
+    (λ c. omega (arith, c .before .before .before .before .pre .1 (c .if1 .taken)))
+    (λ c. omega (arith, c .before .before .before .before .pre .1 (c .if1 .taken)))
+    (λ c. search needs)
     put-instruction-requires
-    same-length
+    (λ c. search needs)
     returns
-    returns-2)
+    (λ c. kept-no _ _ _ _ (c .if1 .left)))

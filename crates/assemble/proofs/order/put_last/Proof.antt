@@ -15,26 +15,14 @@ Inv-loop instructions log strings count tag out at keep last₀ k₀ last k = Fo
 abbrev μ-loop : tie.MeasureT-loop
 μ-loop instructions log strings count tag out at keep last₀ k₀ last k = count - k
 
-loop-holds : tie.Need-loop-holds Inv-loop μ-loop
-loop-holds c = found-starts _ _ _ _ (c .before .before .before .before .pre .0) _
-
 later-requires : tie.Need-later-requires Inv-loop μ-loop
 later-requires c κs = stores-in _ _ _ _ (c .before .before .before .before .before .before .pre .0) _ (omega (arith, c .before .loop .inv .within))
-
-add-k : tie.Need-add-k Inv-loop μ-loop
-add-k c = omega (arith, c .before .before .loop .inv .within)
-
-loop-less : tie.Need-loop-less Inv-loop μ-loop
-loop-less c = omega (arith, c .before .before .loop .inv .within)
 
 loop-again : tie.Need-loop-again Inv-loop μ-loop
 loop-again c = found-goes-on (stores-at _ _ _ _ (c .before .before .before .before .before .before .before .pre .0) (c .before .before .loop .k) (omega (arith, c .before .before .loop .inv .within)) _ refl) _ _ _ (c .later .ensures) (omega (arith, c .before .before .loop .inv .within)) (c .before .before .loop .inv)
 
 put-one-requires : tie.Need-put-one-requires Inv-loop μ-loop
 put-one-requires c κs = (c .before .before .before .before .before .before .before .before .pre .0, (c .before .if1 .taken, room-as _ _ (sym (found-ends _ _ _ _ (c .before .before .before .before .before .before .before .before .pre .0) _ _ _ (c .before .before .before .loop .inv) (c .before .before .loop-test .left))) (c .before .before .before .before .before .before .before .before .pre .1)))
-
-same-length : tie.Need-same-length Inv-loop μ-loop
-same-length c = wrote-length (c .before .before .put-one .ensures)
 
 returns : tie.Need-returns Inv-loop μ-loop
 returns c = wrote-as _ _ (found-ends _ _ _ _ (c .before .before .before .before .before .before .before .before .before .before .before .pre .0) _ _ _ (c .before .before .before .before .before .before .loop .inv) (c .before .before .before .before .before .loop-test .left)) (c .before .before .put-one .ensures)
@@ -48,12 +36,12 @@ put-last-spec =
     (tie.spec
     Inv-loop
     μ-loop
-    loop-holds
+    (λ c. found-starts _ _ _ _ (c .before .before .before .before .pre .0) _)
     later-requires
-    add-k
-    loop-less
+    (λ c. omega (arith, c .before .before .loop .inv .within))
+    (λ c. omega (arith, c .before .before .loop .inv .within))
     loop-again
     put-one-requires
-    same-length
+    (λ c. wrote-length (c .before .before .put-one .ensures))
     returns
     returns-2)

@@ -13,12 +13,9 @@ put-sections-requires c κs = (c .before .before .before .before .before .pre .0
 put-functions-requires : tie.Need-put-functions-requires
 put-functions-requires c κs = (c .before .before .before .before .before .before .before .before .before .pre .0, room-next _ _ (room-as _ _ (module-is _) (c .before .before .before .before .before .before .before .before .before .pre .1)) (c .before .before .before .put-sections .ensures))
 
-same-length : tie.Need-same-length
-same-length c = search needs
-
 returns : tie.Need-returns
 returns c = wrote-as _ _ (sym (module-is _)) (wrote-both _ _ (room-as _ _ (module-is _) (c .before .before .before .before .before .before .before .before .before .before .before .before .pre .1)) (c .before .before .before .before .before .before .put-sections .ensures) (c .before .before .put-functions .ensures))
 
 pub put-module-spec : {M : Type 1} → statement M
 put-module-spec =
-    tie.close (tie.spec put-sections-requires put-functions-requires same-length returns)
+    tie.close (tie.spec put-sections-requires put-functions-requires (λ c. search needs) returns)

@@ -12,18 +12,6 @@ record-at-requires c κs = stores-in _ _ _ _ (c .before .before .before .before 
 put-if-requires : tie.Need-put-if-requires
 put-if-requires c κs = (stores-at _ _ _ _ (c .before .before .before .before .before .before .pre .0) _ (c .before .before .before .before .before .before .pre .1 .0) _ (c .before .record-at .ensures) .sound, one-room (stores-at _ _ _ _ (c .before .before .before .before .before .before .pre .0) _ (c .before .before .before .before .before .before .pre .1 .0) _ (c .before .record-at .ensures)) (c .before .before .before .before .before .before .pre .1 .1))
 
-cast-further : tie.Need-cast-further
-cast-further c = search needs
-
-mul-further : tie.Need-mul-further
-mul-further c = search needs
-
-further-requires : tie.Need-further-requires
-further-requires c κs = search needs
-
-same-length : tie.Need-same-length
-same-length c = search needs
-
 returns : tie.Need-returns
 returns c = one-wrote (stores-at _ _ _ _ (c .before .before .before .before .before .before .before .before .before .before .before .pre .0) _ (c .before .before .before .before .before .before .before .before .before .before .before .pre .1 .0) _ (c .before .before .before .before .before .before .record-at .ensures)) _ (c .before .before .before .before .before .before .before .before .before .before .before .args .out .now) _ _ _ (c .further .ensures) (c .before .before .before .before .put-if .ensures)
 
@@ -33,8 +21,8 @@ put-one-spec =
     (tie.spec
     record-at-requires
     put-if-requires
-    cast-further
-    mul-further
-    further-requires
-    same-length
+    (λ c. search needs)
+    (λ c. search needs)
+    (λ c κs. search needs)
+    (λ c. search needs)
     returns)

@@ -15,23 +15,11 @@ Inv-loop instructions log strings count tag out₀ start keep i₀ at₀ out i a
 abbrev μ-loop : tie.MeasureT-loop
 μ-loop instructions log strings count tag out₀ start keep i₀ at₀ out i at = count - i
 
-loop-holds : tie.Need-loop-holds Inv-loop μ-loop
-loop-holds c = going-starts _ _ _ _ (omega arith) (c .before .before .before .before .pre .1)
-
 put-tagged-requires : tie.Need-put-tagged-requires Inv-loop μ-loop
 put-tagged-requires c κs = (c .before .before .before .before .before .before .before .pre .0, (c .before .loop-test .taken, going-room (c .before .before .loop .inv) _ _ (tagged-more _ _ _)))
 
-add-i : tie.Need-add-i Inv-loop μ-loop
-add-i c = omega arith
-
-loop-less : tie.Need-loop-less Inv-loop μ-loop
-loop-less c = omega arith
-
 loop-again : tie.Need-loop-again Inv-loop μ-loop
 loop-again c = going-on (c .before .before .before .before .before .loop .inv) _ _ (tagged-more _ _ _) (c .before .before .put-tagged .ensures)
-
-same-length : tie.Need-same-length Inv-loop μ-loop
-same-length c = going-length (c .before .loop .inv)
 
 returns : tie.Need-returns Inv-loop μ-loop
 returns c = going-ends (c .before .loop .inv) (tagged-end _ _ (all-end _ _ _ _ (c .before .before .before .before .before .before .pre .0) _ (c .loop-test .left)))
@@ -42,10 +30,10 @@ put-only-spec =
     (tie.spec
     Inv-loop
     μ-loop
-    loop-holds
+    (λ c. going-starts _ _ _ _ (omega arith) (c .before .before .before .before .pre .1))
     put-tagged-requires
-    add-i
-    loop-less
+    (λ c. omega arith)
+    (λ c. omega arith)
     loop-again
-    same-length
+    (λ c. going-length (c .before .loop .inv))
     returns)

@@ -17,14 +17,8 @@ Inv-loop instructions log strings count first out₀ start keep i₀ at₀ out i
 abbrev μ-loop : tie.MeasureT-loop
 μ-loop instructions log strings count first out₀ start keep i₀ at₀ out i at = count - i
 
-loop-holds : tie.Need-loop-holds Inv-loop μ-loop
-loop-holds c = going-starts _ _ _ _ (omega arith) (c .before .before .before .before .pre .1)
-
 record-at-requires : tie.Need-record-at-requires Inv-loop μ-loop
 record-at-requires c κs = stores-in _ _ _ _ (c .before .before .before .before .before .before .pre .0) _ (c .loop-test .taken)
-
-same-length : tie.Need-same-length Inv-loop μ-loop
-same-length c = going-length (c .before .before .before .before .loop .inv)
 
 returns : tie.Need-returns Inv-loop μ-loop
 returns c = going-ends (c .before .before .before .before .loop .inv) (parameters-none (stores-at _ _ _ _ (c .before .before .before .before .before .before .before .before .before .pre .0) _ (c .before .before .before .loop-test .taken) _ (c .before .before .record-at .ensures)) (c .if1 .taken))
@@ -32,17 +26,8 @@ returns c = going-ends (c .before .before .before .before .loop .inv) (parameter
 put-tagged-requires : tie.Need-put-tagged-requires Inv-loop μ-loop
 put-tagged-requires c κs = (c .before .before .before .before .before .before .before .before .before .before .pre .0, (c .before .before .before .before .loop-test .taken, going-room (c .before .before .before .before .before .loop .inv) _ _ (parameters-more (stores-at _ _ _ _ (c .before .before .before .before .before .before .before .before .before .before .pre .0) _ (c .before .before .before .before .loop-test .taken) _ (c .before .before .before .record-at .ensures)) (c .before .if1 .left))))
 
-add-i : tie.Need-add-i Inv-loop μ-loop
-add-i c = omega arith
-
-loop-less : tie.Need-loop-less Inv-loop μ-loop
-loop-less c = omega arith
-
 loop-again : tie.Need-loop-again Inv-loop μ-loop
 loop-again c = going-on (c .before .before .before .before .before .before .before .before .loop .inv) _ _ (parameters-more (stores-at _ _ _ _ (c .before .before .before .before .before .before .before .before .before .before .before .before .before .pre .0) _ (c .before .before .before .before .before .before .before .loop-test .taken) _ (c .before .before .before .before .before .before .record-at .ensures)) (c .before .before .before .before .if1 .left)) (c .before .before .put-tagged .ensures)
-
-same-length-2 : tie.Need-same-length-2 Inv-loop μ-loop
-same-length-2 c = going-length (c .before .loop .inv)
 
 returns-2 : tie.Need-returns-2 Inv-loop μ-loop
 returns-2 c = going-ends (c .before .loop .inv) (parameters-end _ (all-end _ _ _ _ (c .before .before .before .before .before .before .pre .0) _ (c .loop-test .left)))
@@ -53,13 +38,13 @@ put-parameters-spec =
     (tie.spec
     Inv-loop
     μ-loop
-    loop-holds
+    (λ c. going-starts _ _ _ _ (omega arith) (c .before .before .before .before .pre .1))
     record-at-requires
-    same-length
+    (λ c. going-length (c .before .before .before .before .loop .inv))
     returns
     put-tagged-requires
-    add-i
-    loop-less
+    (λ c. omega arith)
+    (λ c. omega arith)
     loop-again
-    same-length-2
+    (λ c. going-length (c .before .loop .inv))
     returns-2)

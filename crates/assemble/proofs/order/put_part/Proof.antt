@@ -15,17 +15,11 @@ record-at-requires c κs = stores-in _ _ _ _ (c .before .before .before .before 
 put-definition-requires : tie.Need-put-definition-requires
 put-definition-requires c κs = (c .before .before .before .before .before .before .before .before .pre .0, (c .before .before .before .before .before .before .before .before .pre .1 .0, room-as _ _ (part-definition (stores-at _ _ _ _ (c .before .before .before .before .before .before .before .before .pre .0) _ (c .before .before .before .before .before .before .before .before .pre .1 .0) _ (c .before .before .before .record-at .ensures)) (c .before .if1 .taken)) (c .before .before .before .before .before .before .before .before .pre .1 .1)))
 
-same-length : tie.Need-same-length
-same-length c = search needs
-
 returns : tie.Need-returns
 returns c = wrote-as _ _ (sym (part-definition (stores-at _ _ _ _ (c .before .before .before .before .before .before .before .before .before .before .before .pre .0) _ (c .before .before .before .before .before .before .before .before .before .before .before .pre .1 .0) _ (c .before .before .before .before .before .before .record-at .ensures)) (c .before .before .before .before .if1 .taken))) (c .before .before .put-definition .ensures)
 
 put-one-requires : tie.Need-put-one-requires
 put-one-requires c κs = (c .before .before .before .before .before .before .before .before .before .before .pre .0, (c .before .before .before .before .before .before .before .before .before .before .pre .1 .0, room-as _ _ (part-one (stores-at _ _ _ _ (c .before .before .before .before .before .before .before .before .before .before .pre .0) _ (c .before .before .before .before .before .before .before .before .before .before .pre .1 .0) _ (c .before .before .before .before .before .record-at .ensures)) (c .before .before .before .if1 .left) (c .before .if2 .taken)) (c .before .before .before .before .before .before .before .before .before .before .pre .1 .1)))
-
-same-length-2 : tie.Need-same-length-2
-same-length-2 c = search needs
 
 returns-2 : tie.Need-returns-2
 returns-2 c = wrote-as _ _ (sym (part-one (stores-at _ _ _ _ (c .before .before .before .before .before .before .before .before .before .before .before .before .before .pre .0) _ (c .before .before .before .before .before .before .before .before .before .before .before .before .before .pre .1 .0) _ (c .before .before .before .before .before .before .before .before .record-at .ensures)) (c .before .before .before .before .before .before .if1 .left) (c .before .before .before .before .if2 .taken))) (c .before .before .put-one .ensures)
@@ -39,9 +33,9 @@ put-part-spec =
     (tie.spec
     record-at-requires
     put-definition-requires
-    same-length
+    (λ c. search needs)
     returns
     put-one-requires
-    same-length-2
+    (λ c. search needs)
     returns-2
     returns-3)

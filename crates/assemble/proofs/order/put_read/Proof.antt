@@ -20,14 +20,8 @@ Inv-loop instructions log strings count out₀ i₀ out i = out ≡ sets out₀ 
 abbrev μ-loop : tie.MeasureT-loop
 μ-loop instructions log strings count out₀ i₀ out i = count - i
 
-loop-holds : tie.Need-loop-holds Inv-loop μ-loop
-loop-holds c = none-put _
-
 record-at-requires : tie.Need-record-at-requires Inv-loop μ-loop
 record-at-requires c κs = stores-in _ _ _ _ (c .before .before .before .before .before .before .pre .0) _ (c .loop-test .taken)
-
-cast-at : tie.Need-cast-at Inv-loop μ-loop
-cast-at c = search needs
 
 sub-put-instruction : tie.Need-sub-put-instruction Inv-loop μ-loop
 sub-put-instruction c = omega (arith, offset-room _ _ _ _ (c .before .before .before .before .before .before .before .before .pre .0) _ (c .before .before .loop-test .taken) _ (c .before .record-at .ensures) _ _ (c .before .before .before .loop .inv) (c .before .before .before .before .before .before .before .before .pre .1))
@@ -35,23 +29,11 @@ sub-put-instruction c = omega (arith, offset-room _ _ _ _ (c .before .before .be
 part-put-instruction-start : tie.Need-part-put-instruction-start Inv-loop μ-loop
 part-put-instruction-start c = omega (arith, offset-room _ _ _ _ (c .before .before .before .before .before .before .before .before .pre .0) _ (c .before .before .loop-test .taken) _ (c .before .record-at .ensures) _ _ (c .before .before .before .loop .inv) (c .before .before .before .before .before .before .before .before .pre .1))
 
-part-put-instruction-end : tie.Need-part-put-instruction-end Inv-loop μ-loop
-part-put-instruction-end c = search needs
-
 put-instruction-requires : tie.Need-put-instruction-requires Inv-loop μ-loop
 put-instruction-requires c κs = (stores-at _ _ _ _ (c .before .before .before .before .before .before .before .before .before .pre .0) _ (c .before .before .before .loop-test .taken) _ (c .before .before .record-at .ensures) .sound, lent-room (c .before .before .before .before .loop .out) _ _ (offset-room _ _ _ _ (c .before .before .before .before .before .before .before .before .before .pre .0) _ (c .before .before .before .loop-test .taken) _ (c .before .before .record-at .ensures) _ _ (c .before .before .before .before .loop .inv) (c .before .before .before .before .before .before .before .before .before .pre .1)))
 
-add-i : tie.Need-add-i Inv-loop μ-loop
-add-i c = omega arith
-
-loop-less : tie.Need-loop-less Inv-loop μ-loop
-loop-less c = omega arith
-
 loop-again : tie.Need-loop-again Inv-loop μ-loop
 loop-again c = offset-put _ _ _ _ (c .before .before .before .before .before .before .before .before .before .before .before .before .pre .0) _ (c .before .before .before .before .before .before .loop-test .taken) _ (c .before .before .before .before .before .record-at .ensures) _ (c .before .before .before .before .before .before .before .loop .out) (c .before .before .before .before .before .before .before .loop .inv) (c .before .before .put-instruction .last .1 .1 .1 .0) (c .before .before .put-instruction .ensures)
-
-same-length : tie.Need-same-length Inv-loop μ-loop
-same-length c = put-length _ _ _ (c .before .loop .inv)
 
 returns : tie.Need-returns Inv-loop μ-loop
 returns c = all-put _ _ _ _ (c .before .before .before .before .before .before .pre .0) _ (c .loop-test .left) _ _ (c .before .loop .inv)
@@ -62,15 +44,15 @@ put-read-spec =
     (tie.spec
     Inv-loop
     μ-loop
-    loop-holds
+    (λ c. none-put _)
     record-at-requires
-    cast-at
+    (λ c. search needs)
     sub-put-instruction
     part-put-instruction-start
-    part-put-instruction-end
+    (λ c. search needs)
     put-instruction-requires
-    add-i
-    loop-less
+    (λ c. omega arith)
+    (λ c. omega arith)
     loop-again
-    same-length
+    (λ c. put-length _ _ _ (c .before .loop .inv))
     returns)

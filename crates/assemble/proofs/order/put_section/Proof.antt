@@ -10,17 +10,11 @@ use Rattle.assemble.proofs.order.put_section.Tie as tie
 put-last-requires : tie.Need-put-last-requires
 put-last-requires c κs = (c .before .before .before .before .before .before .pre .0, room-as _ _ (section-last _ _ (c .before .if1 .taken)) (c .before .before .before .before .before .before .pre .1))
 
-same-length : tie.Need-same-length
-same-length c = search needs
-
 returns : tie.Need-returns
 returns c = wrote-as _ _ (sym (section-last _ _ (c .before .before .before .before .if1 .taken))) (c .before .before .put-last .ensures)
 
 put-only-requires : tie.Need-put-only-requires
 put-only-requires c κs = (c .before .before .before .before .before .before .pre .0, room-as _ _ (section-all _ _ (c .before .if1 .left)) (c .before .before .before .before .before .before .pre .1))
-
-same-length-2 : tie.Need-same-length-2
-same-length-2 c = search needs
 
 returns-2 : tie.Need-returns-2
 returns-2 c = wrote-as _ _ (sym (section-all _ _ (c .before .before .before .before .if1 .left))) (c .before .before .put-only .ensures)
@@ -28,4 +22,4 @@ returns-2 c = wrote-as _ _ (sym (section-all _ _ (c .before .before .before .bef
 pub put-section-spec : {M : Type 1} → statement M
 put-section-spec =
     tie.close
-    (tie.spec put-last-requires same-length returns put-only-requires same-length-2 returns-2)
+    (tie.spec put-last-requires (λ c. search needs) returns put-only-requires (λ c. search needs) returns-2)

@@ -21,20 +21,8 @@ loop-holds c = going-as (going-starts _ _ (c .before .before .before .before .ar
 put-section-requires : tie.Need-put-section-requires Inv-loop μ-loop
 put-section-requires c κs = (c .before .before .before .before .before .before .before .pre .0, going-room (c .before .before .loop .inv) _ _ (sections-more _ _ (c .before .loop-test .taken)))
 
-add-tag : tie.Need-add-tag Inv-loop μ-loop
-add-tag c = omega arith
-
-loop-less : tie.Need-loop-less Inv-loop μ-loop
-loop-less c = omega arith
-
 loop-again : tie.Need-loop-again Inv-loop μ-loop
 loop-again c = going-on (c .before .before .before .before .before .loop .inv) _ _ (sections-more _ _ (c .before .before .before .before .loop-test .taken)) (c .before .before .put-section .ensures)
-
-same-length : tie.Need-same-length Inv-loop μ-loop
-same-length c = going-length (c .before .loop .inv)
-
-returns : tie.Need-returns Inv-loop μ-loop
-returns c = going-ends (c .before .loop .inv) (sections-end _ _ (c .loop-test .left))
 
 pub put-sections-spec : {M : Type 1} → statement M
 put-sections-spec =
@@ -44,8 +32,8 @@ put-sections-spec =
     μ-loop
     loop-holds
     put-section-requires
-    add-tag
-    loop-less
+    (λ c. omega arith)
+    (λ c. omega arith)
     loop-again
-    same-length
-    returns)
+    (λ c. going-length (c .before .loop .inv))
+    (λ c. going-ends (c .before .loop .inv) (sections-end _ _ (c .loop-test .left))))

@@ -15,9 +15,6 @@ record-at-requires c κs = stores-in _ _ _ _ (c .before .before .before .before 
 put-one-requires : tie.Need-put-one-requires
 put-one-requires c κs = (c .before .before .before .before .before .before .before .before .pre .0, (c .before .before .before .before .before .before .before .before .pre .1 .0, room-as _ _ (tagged-yes (stores-at _ _ _ _ (c .before .before .before .before .before .before .before .before .pre .0) _ (c .before .before .before .before .before .before .before .before .pre .1 .0) _ (c .before .before .before .record-at .ensures)) _ (c .before .if1 .taken)) (c .before .before .before .before .before .before .before .before .pre .1 .1)))
 
-same-length : tie.Need-same-length
-same-length c = search needs
-
 returns : tie.Need-returns
 returns c = wrote-as _ _ (sym (tagged-yes (stores-at _ _ _ _ (c .before .before .before .before .before .before .before .before .before .before .before .pre .0) _ (c .before .before .before .before .before .before .before .before .before .before .before .pre .1 .0) _ (c .before .before .before .before .before .before .record-at .ensures)) _ (c .before .before .before .before .if1 .taken))) (c .before .before .put-one .ensures)
 
@@ -26,4 +23,4 @@ returns-2 c = wrote-as _ _ (sym (tagged-no (stores-at _ _ _ _ (c .before .before
 
 pub put-tagged-spec : {M : Type 1} → statement M
 put-tagged-spec =
-    tie.close (tie.spec record-at-requires put-one-requires same-length returns returns-2)
+    tie.close (tie.spec record-at-requires put-one-requires (λ c. search needs) returns returns-2)

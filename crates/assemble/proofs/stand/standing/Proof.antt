@@ -17,44 +17,14 @@ Inv-loop instructions log strings instruction-count log-count string-count o₀ 
 abbrev μ-loop : tie.MeasureT-loop
 μ-loop instructions log strings instruction-count log-count string-count o₀ i₀ o i = instruction-count - i
 
-check-requires : tie.Need-check-requires Inv-loop μ-loop
-check-requires c κs = search needs
-
-enum-known-checked : tie.Need-enum-known-checked Inv-loop μ-loop
-enum-known-checked c = search needs
-
 returns : tie.Need-returns Inv-loop μ-loop
 returns c = stands-bad _ _ _ (c .before .before .before .check .ensures) (c .before .checked .given .1)
-
-enum-told : tie.Need-enum-told Inv-loop μ-loop
-enum-told c = search needs
-
-loop-holds : tie.Need-loop-holds Inv-loop μ-loop
-loop-holds c = pass-starts _ _ (c .before .before .check .ensures) (c .enum-told .given .1)
-
-record-at-requires : tie.Need-record-at-requires Inv-loop μ-loop
-record-at-requires c κs = in-store (c .before .loop .inv) (c .loop-test .taken)
-
-may-come-requires : tie.Need-may-come-requires Inv-loop μ-loop
-may-come-requires c κs = search needs
 
 returns-2 : tie.Need-returns-2 Inv-loop μ-loop
 returns-2 c = pass-stops (c .before .before .before .before .loop .inv) (c .before .before .before .loop-test .taken) _ (c .before .before .record-at .ensures) (sym (c .before .may-come .ensures) ∙ not-true _ (c .if1 .taken))
 
-order-after-requires : tie.Need-order-after-requires Inv-loop μ-loop
-order-after-requires c κs = search needs
-
-add-i : tie.Need-add-i Inv-loop μ-loop
-add-i c = omega arith
-
-loop-less : tie.Need-loop-less Inv-loop μ-loop
-loop-less c = omega arith
-
 loop-again : tie.Need-loop-again Inv-loop μ-loop
 loop-again c = pass-goes-on (c .before .before .before .before .before .loop .inv) (c .before .before .before .before .loop-test .taken) _ (c .before .before .before .record-at .ensures) (sym (c .before .before .may-come .ensures) ∙ not-false _ (c .before .if1 .left)) _ (c .order-after .ensures)
-
-returns-3 : tie.Need-returns-3 Inv-loop μ-loop
-returns-3 c = pass-ends (c .before .loop .inv) (c .loop-test .left)
 
 pub standing-spec : {M : Type 1} → statement M
 standing-spec =
@@ -62,16 +32,16 @@ standing-spec =
     (tie.spec
     Inv-loop
     μ-loop
-    check-requires
-    enum-known-checked
+    (λ c κs. search needs)
+    (λ c. search needs)
     returns
-    enum-told
-    loop-holds
-    record-at-requires
-    may-come-requires
+    (λ c. search needs)
+    (λ c. pass-starts _ _ (c .before .before .check .ensures) (c .enum-told .given .1))
+    (λ c κs. in-store (c .before .loop .inv) (c .loop-test .taken))
+    (λ c κs. search needs)
     returns-2
-    order-after-requires
-    add-i
-    loop-less
+    (λ c κs. search needs)
+    (λ c. omega arith)
+    (λ c. omega arith)
     loop-again
-    returns-3)
+    (λ c. pass-ends (c .before .loop .inv) (c .loop-test .left)))

@@ -5,15 +5,6 @@ use Rattle.assemble.proofs.Writing.{cut-log, cut-strings, lent-good, or
 use Rattle.assemble.proofs.write.write_order.Statement.{statement}
 use Rattle.assemble.proofs.write.write_order.Tie as tie
 
-check-requires : tie.Need-check-requires
-check-requires c κs = search needs
-
-enum-known-checked : tie.Need-enum-known-checked
-enum-known-checked c = search needs
-
-enum-told : tie.Need-enum-told
-enum-told c = search needs
-
 slice-aggregate-log : tie.Need-slice-aggregate-log
 slice-aggregate-log c = cut-log _ _ _ _ _ _ _ _ (c .before .before .before .check .ensures) (c .before .enum-told .given .1)
 
@@ -23,11 +14,8 @@ slice-aggregate-strings c = cut-strings _ _ _ _ _ _ _ _ (c .before .before .befo
 write-good-requires : tie.Need-write-good-requires
 write-good-requires c κs = lent-good _ _ _ _ _ _ _ _ (c .before .before .before .before .before .check .ensures) (c .before .before .before .enum-told .given .1)
 
-same-length : tie.Need-same-length
-same-length c = search needs
-
 returns : tie.Need-returns
-returns c = order-good _ _ _ _ _ _ _ _ (c .before .before .before .before .before .before .before .before .check .ensures) (c .before .before .before .before .before .before .enum-told .given .1) _ _ _ _ (c .before .before .write-good .ensures .0) (c .before .before .write-good .ensures .1)
+returns c = order-good _ _ _ _ _ _ _ _ (c .before .before .before .before .before .before .before .before .check .ensures) (c .before .before .before .before .before .before .enum-told .given .1) _ _ _ _ (c .before .before .write-good .ensures)
 
 returns-2 : tie.Need-returns-2
 returns-2 c = order-bad _ _ _ _ _ _ _ _ (c .before .before .before .check .ensures) _ (c .before .checked .given .1) _ _
@@ -36,12 +24,12 @@ pub write-order-spec : {M : Type 1} → statement M
 write-order-spec =
     tie.close
     (tie.spec
-    check-requires
-    enum-known-checked
-    enum-told
+    (λ c κs. search needs)
+    (λ c. search needs)
+    (λ c. search needs)
     slice-aggregate-log
     slice-aggregate-strings
     write-good-requires
-    same-length
+    (λ c. search needs)
     returns
     returns-2)

@@ -7,23 +7,8 @@ use Rattle.assemble.proofs.Writing.{read-order, write-full, write-done}
 use Rattle.assemble.proofs.write.write_read.Statement.{statement}
 use Rattle.assemble.proofs.write.write_read.Tie as tie
 
-end-of-requires : tie.Need-end-of-requires
-end-of-requires c κs = search needs
-
-too-short-requires : tie.Need-too-short-requires
-too-short-requires c κs = search needs
-
 returns : tie.Need-returns
 returns c = write-full _ (c .before .before .before .before .before .before .before .args .header) (c .before .before .before .before .before .before .before .good .0 .1 .0 .1) _ _ (read-order _) (c .before .before .before .before .before .before .before .args .out .now) _ _ (c .too-short .ensures) refl (omega (arith, c .before .if1 .taken, c .before .before .end-of .ensures))
-
-put-header-requires : tie.Need-put-header-requires
-put-header-requires c κs = search needs
-
-put-read-requires : tie.Need-put-read-requires
-put-read-requires c κs = search needs
-
-same-length : tie.Need-same-length
-same-length c = search needs
 
 returns-2 : tie.Need-returns-2
 returns-2 c = write-done _ (c .before .before .before .before .before .before .before .before .before .before .before .before .before .before .args .header) (c .before .before .before .before .before .before .before .before .before .before .before .before .before .before .good .0 .1 .0 .1) _ _ (read-order _) (c .before .before .before .before .before .before .before .before .before .before .before .before .before .before .args .out .now) _ _ (c .before .before .before .before .before .before .put-header .ensures) (c .before .before .put-read .ensures) _ (c .before .before .before .before .before .before .before .before .before .end-of .ensures) (c .before .before .before .before .before .before .before .before .if1 .left)
@@ -32,10 +17,10 @@ pub write-read-spec : {M : Type 1} → statement M
 write-read-spec =
     tie.close
     (tie.spec
-    end-of-requires
-    too-short-requires
+    (λ c κs. search needs)
+    (λ c κs. search needs)
     returns
-    put-header-requires
-    put-read-requires
-    same-length
+    (λ c κs. search needs)
+    (λ c κs. search needs)
+    (λ c. search needs)
     returns-2)
