@@ -73,12 +73,15 @@ enum kollafrin_load_word {
     KOLLAFRIN_LOAD_OFFSET = 1,       /* Its byte offset in the module. */
     KOLLAFRIN_LOAD_INDEX = 2,        /* Its instruction's index from 1; at the end, count + 1; 0 after 1, 2, 3, 24 and 31. */
     KOLLAFRIN_LOAD_VALUE = 3,        /* Its value: of 5 the opcode, of 10 the word. */
-    KOLLAFRIN_LOAD_INSTRUCTIONS = 4, /* How many instructions are kept, of eight words each. */
+    KOLLAFRIN_LOAD_INSTRUCTIONS = 4, /* How many instructions are kept, of KOLLAFRIN_RECORD words each. */
     KOLLAFRIN_LOAD_LOG = 5,          /* How many bytes of the operand log. */
     KOLLAFRIN_LOAD_STRINGS = 6,      /* How many bytes of strings. */
     KOLLAFRIN_LOAD_TYPES = 7,        /* How many type entries, of three words each. */
     KOLLAFRIN_LOAD_HEADER = 8        /* Words 8 to 12: the five header words; 0 after 1, 2, 3, 24 and 31. */
 };
+
+/* The words of an instruction record. */
+enum kollafrin_record { KOLLAFRIN_RECORD = 8 };
 
 /* The bytes of stack that a call takes at most on x86-64, for every input: the frames of the function and of all that it calls, return
  * addresses included, as counted in the compiled library and rounded up; for C's memset and memcpy, which the loads call, 4,096 are
@@ -109,8 +112,8 @@ size_t kollafrin_builtin(uint8_t *out, size_t out_length);
  * `strings` takes the bytes of the strings without their zero. `types` takes three words for each type entry (id; width; 1 unsigned,
  * 2 signed, 3 float). docs/REFERENCE.md has the section tags (1 to 16), the kinds of operands (1 to 45) and two examples.
  *
- * Sizes that always suffice, with W whole words after the header (W = module_length / 4 - 5): 8 W words of instructions, 9 W bytes
- * of log, 4 W bytes of strings, 3 W words of types.
+ * Sizes that always suffice, with W whole words after the header (W = module_length / 4 - 5): KOLLAFRIN_RECORD * W words of
+ * instructions, 9 W bytes of log, 4 W bytes of strings, 3 W words of types.
  *
  * A refusal leaves in the stores, up to the counts in `answer`, the records of the instructions before the one refused; after 1, 2, 3,
  * 24 and 31 there are none. Accepted or refused, no store is changed past its count.

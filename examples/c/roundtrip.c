@@ -73,12 +73,12 @@ int main(int argc, char **argv) {
 
     /* stores that always suffice, for so many whole words after the header */
     words = length < 20 ? 0 : length / 4 - 5;
-    instructions = room(8 * words, sizeof *instructions);
+    instructions = room(KOLLAFRIN_RECORD * words, sizeof *instructions);
     log = room(9 * words, 1);
     strings = room(4 * words, 1);
     types = room(3 * words, sizeof *types);
 
-    number = kollafrin_load_builtin(module, length, instructions, 8 * words, log, 9 * words, strings, 4 * words, types, 3 * words, load);
+    number = kollafrin_load_builtin(module, length, instructions, KOLLAFRIN_RECORD * words, log, 9 * words, strings, 4 * words, types, 3 * words, load);
     printf("number %u\n", (unsigned)number);
     printf("instructions %u, log bytes %u, string bytes %u, type entries %u\n", (unsigned)load[KOLLAFRIN_LOAD_INSTRUCTIONS],
            (unsigned)load[KOLLAFRIN_LOAD_LOG], (unsigned)load[KOLLAFRIN_LOAD_STRINGS], (unsigned)load[KOLLAFRIN_LOAD_TYPES]);
@@ -90,7 +90,7 @@ int main(int argc, char **argv) {
 
     /* what is written is never longer than what was read */
     out = room(length, 1);
-    number = kollafrin_write_parse_order(load + KOLLAFRIN_LOAD_HEADER, instructions, 8 * words, log, 9 * words, strings, 4 * words,
+    number = kollafrin_write_parse_order(load + KOLLAFRIN_LOAD_HEADER, instructions, KOLLAFRIN_RECORD * words, log, 9 * words, strings, 4 * words,
                                          load[KOLLAFRIN_LOAD_INSTRUCTIONS], load[KOLLAFRIN_LOAD_LOG], load[KOLLAFRIN_LOAD_STRINGS],
                                          out, length, answer);
     if (number != KOLLAFRIN_ACCEPTED) {

@@ -541,7 +541,7 @@ fn b_rooms(p: &mut Cases, small: &[u8]) {
         inst(56, &[]),
     ]));
     for records in 0..8 {
-        p.load_in(&format!("rooms/function-records-{records}"), &body, Some(small), [8 * records, 99, 99, 99]);
+        p.load_in(&format!("rooms/function-records-{records}"), &body, Some(small), [RECORD * records, 99, 99, 99]);
     }
     for log in [0, 9, 10, 23, 24, 25, 43, 44, 45] {
         p.load_in(&format!("rooms/function-log-{log}"), &body, Some(small), [99, log, 99, 99]);
@@ -938,7 +938,7 @@ fn grammar_bytes_alone(p: &mut Cases) {
 
 /// The three calls over stores; outputs that are ample.
 fn e_three(p: &mut Cases, name: &str, header: [u32; 5], s: &Stores) {
-    let ample = 20 + 4 * s.instructions.chunks(8).map(|r| *r.get(7).unwrap_or(&0) as usize).filter(|w| *w < 70_000).sum::<usize>();
+    let ample = 20 + 4 * s.instructions.chunks(RECORD).map(|r| *r.get(7).unwrap_or(&0) as usize).filter(|w| *w < 70_000).sum::<usize>();
     p.records(name, header, s, ample);
 }
 
@@ -1059,7 +1059,7 @@ fn e_fields(p: &mut Cases, base: &str, s: &Stores) {
     for at in 0..s.instructions.len() {
         let old = s.instructions[at];
         let mut tried = vec![old.wrapping_add(1), old.wrapping_sub(1), 0, u32::MAX, old ^ 0x8000_0000, old.wrapping_add(65536)];
-        if at % 8 == 0 {
+        if at % RECORD == 0 {
             tried.extend((0..=4).map(|bits| (old & 0xFFFF) + bits * 65536));
             tried.push(old ^ 0x8000);
         }
@@ -1068,22 +1068,22 @@ fn e_fields(p: &mut Cases, base: &str, s: &Stores) {
         for new in tried.into_iter().filter(|new| *new != old) {
             let mut changed = s.clone();
             changed.instructions[at] = new;
-            e_three(p, &format!("field/{base}-{}-{}-{new}", at / 8 + 1, at % 8), H, &changed);
+            e_three(p, &format!("field/{base}-{}-{}-{new}", at / RECORD + 1, at % RECORD), H, &changed);
         }
     }
     // a presence bit with the field it calls for, the word count as before and right
-    for n in 0..s.instructions.len() / 8 {
+    for n in 0..s.instructions.len() / RECORD {
         for (bit, field) in [(1, 3), (2, 4)] {
             let mut changed = s.clone();
-            let has = s.instructions[8 * n] >> 16 & bit != 0;
-            changed.instructions[8 * n] ^= bit << 16;
-            changed.instructions[8 * n + field] = if has { 0 } else { 9 };
+            let has = s.instructions[RECORD * n] >> 16 & bit != 0;
+            changed.instructions[RECORD * n] ^= bit << 16;
+            changed.instructions[RECORD * n + field] = if has { 0 } else { 9 };
             e_three(p, &format!("presence/{base}-{}-{bit}", n + 1), H, &changed);
             let by = if has { u32::MAX } else { 1 };
-            changed.instructions[8 * n + 7] = changed.instructions[8 * n + 7].wrapping_add(by);
+            changed.instructions[RECORD * n + 7] = changed.instructions[RECORD * n + 7].wrapping_add(by);
             e_three(p, &format!("presence/{base}-{}-{bit}-count", n + 1), H, &changed);
-            for later in n + 1..s.instructions.len() / 8 {
-                let offset = &mut changed.instructions[8 * later + 2];
+            for later in n + 1..s.instructions.len() / RECORD {
+                let offset = &mut changed.instructions[RECORD * later + 2];
                 *offset = offset.wrapping_add(by.wrapping_mul(4));
             }
             e_three(p, &format!("presence/{base}-{}-{bit}-all", n + 1), H, &changed);
@@ -1124,8 +1124,8 @@ fn e_strings(p: &mut Cases) {
         let end = changed.strings.len() as u32;
         let third = changed.log.len() - 8;
         changed.log[third..third + 4].copy_from_slice(&end.to_le_bytes());
-        changed.instructions[15] = changed.instructions[15] + new_words - old_words;
-        changed.instructions[18] = changed.instructions[18] + 4 * new_words - 4 * old_words;
+        changed.instructions[RECORD + 7] = changed.instructions[RECORD + 7] + new_words - old_words;
+        changed.instructions[2 * RECORD + 2] = changed.instructions[2 * RECORD + 2] + 4 * new_words - 4 * old_words;
         e_three(p, &format!("strings/text-{n}"), H, &changed);
     }
     for at in 0..s.strings.len() {
@@ -1189,18 +1189,18 @@ fn e_ends(p: &mut Cases, base: &str, s: &Stores) {
     // records in another order, left out, twice
     for n in 0..s.counts[0] {
         let mut without = s.clone();
-        without.instructions.drain(8 * n..8 * n + 8);
+        without.instructions.drain(RECORD * n..RECORD * n + RECORD);
         without.counts[0] -= 1;
         e_three(p, &format!("records/{base}-without-{}", n + 1), H, &without);
         let mut twice = s.clone();
-        let copy = s.instructions[8 * n..8 * n + 8].to_vec();
-        twice.instructions.splice(8 * n..8 * n, copy);
+        let copy = s.instructions[RECORD * n..RECORD * n + RECORD].to_vec();
+        twice.instructions.splice(RECORD * n..RECORD * n, copy);
         twice.counts[0] += 1;
         e_three(p, &format!("records/{base}-twice-{}", n + 1), H, &twice);
         if n > 0 {
             let mut swapped = s.clone();
-            for field in 0..8 {
-                swapped.instructions.swap(8 * n - 8 + field, 8 * n + field);
+            for field in 0..RECORD {
+                swapped.instructions.swap(RECORD * n - RECORD + field, RECORD * n + field);
             }
             e_three(p, &format!("records/{base}-swapped-{}", n + 1), H, &swapped);
         }

@@ -74,7 +74,7 @@ pub fn grammar_bytes(rows: &[(u16, &[(u8, u8)])], enumerants: &[(u8, u32, &[u8])
 /// The four slice lengths that always suffice: W records, 9W log bytes, 4W string bytes, W entries.
 pub fn enough(module: &[u8]) -> [usize; 4] {
     let w = (module.len() / 4).saturating_sub(5);
-    [8 * w, 9 * w, 4 * w, 3 * w]
+    [RECORD * w, 9 * w, 4 * w, 3 * w]
 }
 
 /// How much of a row's optional and repeated operands an instruction gets.

@@ -301,7 +301,7 @@ fn whole_shader(judge: &mut Judge, shader: &[u8], seed: u64) {
     }
     let load = load_with(shader, judge.builtin, enough(shader));
     let [records, log, strings, types] = load.counts();
-    let need = [8 * records, log, strings, 3 * types];
+    let need = [RECORD * records, log, strings, 3 * types];
     judge.load("shaders, tight rooms", shader, None, need);
     for store in 0..4 {
         let mut rooms = need;
@@ -362,7 +362,7 @@ pub fn round(judge: &mut Judge, builtin: &Grammar, shaders: &[Vec<u8>], seed: u6
 /// Rooms near what the load needs, some of them short.
 fn random_rooms(rng: &mut Rng, load: &Load) -> [usize; 4] {
     let [records, log, strings, types] = load.counts();
-    [8 * records, log, strings, 3 * types].map(|n| if rng.chance(60) { n + rng.below(3) } else { rng.below(n + 2) })
+    [RECORD * records, log, strings, 3 * types].map(|n| if rng.chance(60) { n + rng.below(3) } else { rng.below(n + 2) })
 }
 
 /// The head of one module up to an instruction, the tail of another from one; or an instruction of the other put in.
@@ -538,11 +538,11 @@ fn random_records(judge: &mut Judge, rng: &mut Rng, module: &[u8]) {
                 // an instruction less, or two in the other order
                 let n = s.counts[0];
                 if n > 1 && rng.chance(50) {
-                    let at = 8 * rng.below(n - 1);
-                    (0..8).for_each(|field| s.instructions.swap(at + field, at + 8 + field));
+                    let at = RECORD * rng.below(n - 1);
+                    (0..RECORD).for_each(|field| s.instructions.swap(at + field, at + RECORD + field));
                 } else if n > 0 {
-                    let at = 8 * rng.below(n);
-                    s.instructions.drain(at..at + 8);
+                    let at = RECORD * rng.below(n);
+                    s.instructions.drain(at..at + RECORD);
                     s.counts[0] -= 1;
                 }
             }

@@ -3,7 +3,7 @@
 use crate::library::{self, byte_before, word_before, Loaded, Order};
 use compare::grow::enough;
 use compare::krate;
-use compare::reading::{self, layout, layout_kind, Grammar, Kind, Load, State, Stores};
+use compare::reading::{self, layout, layout_kind, Grammar, Kind, Load, State, Stores, RECORD};
 use std::collections::BTreeMap;
 
 /// Inputs of a group, and how many of them the library accepted.
@@ -175,7 +175,7 @@ impl Judge<'_> {
         self.number(loaded.number());
         let [records, log, ..] = loaded.counts();
         let mut state = State::Outside;
-        for record in loaded.instructions.chunks_exact(8).take(records) {
+        for record in loaded.instructions.chunks_exact(RECORD).take(records) {
             let kind = layout_kind(record[0] as u16);
             self.tally.cells[kind_number(kind)][state as usize] += 1;
             if let Ok((_, next)) = layout(kind, state) {
@@ -243,7 +243,7 @@ impl Judge<'_> {
                 differ("header words", &header[..], &words)?;
             }
         }
-        let counts = [said.instructions.len() / 8, said.log.len(), said.strings.len(), said.types.len() / 3];
+        let counts = [said.instructions.len() / RECORD, said.log.len(), said.strings.len(), said.types.len() / 3];
         differ("counts (crate)", loaded.counts(), counts)?;
         store("instructions (crate)", &loaded.instructions, &said.instructions, word_before)?;
         store("log (crate)", &loaded.log, &said.log, byte_before)?;

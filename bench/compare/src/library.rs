@@ -5,6 +5,9 @@ use compare::reading::Stores;
 #[path = "../../../bindings/rust/src/c.rs"]
 mod c;
 
+// The reading's length of a record is the header's.
+const _: () = assert!(c::RECORD == compare::reading::RECORD);
+
 /// What a word or byte of a lent store holds before the call.
 pub fn word_before(n: usize) -> u32 {
     0xA5C3_0000 ^ (n as u32).wrapping_mul(0x9E37_79B1)

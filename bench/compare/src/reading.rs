@@ -535,6 +535,9 @@ pub fn layout(kind: Kind, state: State) -> Result<(u32, State), u32> {
 pub const MAGIC: u32 = 0x0723_0203;
 pub const MOST_MODULE_BYTES: usize = 67_108_864;
 
+/// "Instructions: eight 32-bit words".
+pub const RECORD: usize = 8;
+
 /// What a load answers. The stores hold the instructions kept; what lies past them in the lent
 /// slices is unchanged.
 #[derive(Clone, Debug, Default, PartialEq, Eq)]
@@ -544,7 +547,7 @@ pub struct Load {
     pub index: usize,
     pub value: u32,
     pub header: [u32; 5],
-    pub instructions: Vec<[u32; 8]>,
+    pub instructions: Vec<[u32; RECORD]>,
     pub log: Vec<u8>,
     pub strings: Vec<u8>,
     pub types: Vec<Type>,
@@ -655,7 +658,7 @@ fn load_one(
     let [records, log_bytes, string_bytes, type_entries] = load.counts();
     let new_entries = usize::from(entry.is_some() && old.is_none());
     let needed = [records + 1, log_bytes + log.len(), string_bytes + strings.len(), type_entries + new_entries];
-    let room = [rooms[0] / 8, rooms[1], rooms[2], rooms[3] / 3];
+    let room = [rooms[0] / RECORD, rooms[1], rooms[2], rooms[3] / 3];
     if let Some(store) = (0..4).find(|s| needed[*s] > room[*s]) {
         return refuse(25 + store as u32, start, 0);
     }
@@ -677,7 +680,7 @@ pub fn is_plain(module: &[u8], load: &Load) -> bool {
     load.number == 0 && module.len() % 4 == 0 && load.instructions.iter().all(|r| record_is_plain(module, load, r))
 }
 
-fn record_is_plain(module: &[u8], load: &Load, record: &[u32; 8]) -> bool {
+fn record_is_plain(module: &[u8], load: &Load, record: &[u32; RECORD]) -> bool {
     let mut at = record[2] as usize + 4 * (1 + (record[0] >> 16).count_ones() as usize);
     let mut log = &load.log[record[5] as usize..];
     for _ in 0..record[6] {
@@ -753,7 +756,7 @@ pub fn check_records(stores: &Stores, must_close: bool) -> Result<Vec<Piece>, us
     let mut reach = Reach { offset: 20, log: 0, strings: 0, state: State::Outside };
     let mut pieces = vec![];
     for n in 0..count {
-        let good = stores.instructions.get(8 * n..8 * n + 8).and_then(|record| check_record(stores, record, &mut reach));
+        let good = stores.instructions.get(RECORD * n..RECORD * n + RECORD).and_then(|record| check_record(stores, record, &mut reach));
         pieces.push(good.ok_or(n + 1)?);
     }
     let leftover = reach.log != log_count || reach.strings != string_count;

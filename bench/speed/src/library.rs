@@ -23,7 +23,13 @@ impl Stores {
     /// Stores of the sizes that always suffice for a module of this length, all zero.
     pub fn new(module_length: usize) -> Stores {
         let w = (module_length / 4).saturating_sub(5);
-        Stores { instructions: vec![0; 8 * w], log: vec![0; 9 * w], strings: vec![0; 4 * w], types: vec![0; 3 * w], answer: [0; 16] }
+        Stores {
+            instructions: vec![0; c::RECORD * w],
+            log: vec![0; 9 * w],
+            strings: vec![0; 4 * w],
+            types: vec![0; 3 * w],
+            answer: [0; 16],
+        }
     }
 
     // Safety, here and below: each pointer comes from a live slice with its own length, and no two of the written ones overlap.

@@ -1,8 +1,11 @@
-//! The functions of the library and their version as its header has them (include/kollafrin.h). Declared here alone: the drivers under
+//! The functions of the library, their version and the length of a record as its header has them (include/kollafrin.h). Declared here alone: the drivers under
 //! bench take this file over by its path.
 
 /// KOLLAFRIN_VERSION: what `kollafrin_version` says of a library that these declarations fit.
 pub const VERSION: u32 = 1;
+
+/// KOLLAFRIN_RECORD: how many words an instruction record has.
+pub const RECORD: usize = 8;
 
 extern "C" {
     pub fn kollafrin_version() -> u32;

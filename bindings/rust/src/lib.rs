@@ -34,6 +34,7 @@ mod records;
 mod refusal;
 mod room;
 
+use c::RECORD;
 pub use c::VERSION;
 pub use error::Error;
 pub use records::{Instruction, Instructions, Operand, Operands, Value};
@@ -97,7 +98,7 @@ impl Module {
         let words = if bytes.len() > MOST_MODULE_BYTES { 0 } else { (bytes.len() / 4).saturating_sub(5) };
         let mut module = Module {
             header: [0; 5],
-            instructions: room::zeros(8 * words)?,
+            instructions: room::zeros(RECORD * words)?,
             log: room::zeros(9 * words)?,
             strings: room::zeros(4 * words)?,
             types: room::zeros(3 * words)?,
@@ -105,7 +106,7 @@ impl Module {
         let mut answer = [0; 16];
         let number = call(&mut module, &mut answer)?;
         module.header.copy_from_slice(&answer[8..13]);
-        module.instructions = room::cut(module.instructions, 8 * answer[4] as usize);
+        module.instructions = room::cut(module.instructions, RECORD * answer[4] as usize);
         module.log = room::cut(module.log, answer[5] as usize);
         module.strings = room::cut(module.strings, answer[6] as usize);
         module.types = room::cut(module.types, 3 * answer[7] as usize);
@@ -114,9 +115,9 @@ impl Module {
     }
 
     /// A module of records from elsewhere. Nothing is checked here: the writers and [`Module::standing`] refuse with 30 what
-    /// breaks the layout of the stores (docs/REFERENCE.md, "Writing"). Words past the last whole record of eight are left out.
+    /// breaks the layout of the stores (docs/REFERENCE.md, "Writing"). Words past the last whole record are left out.
     pub fn from_stores(header: [u32; 5], mut instructions: Vec<u32>, log: Vec<u8>, strings: Vec<u8>, types: Vec<u32>) -> Module {
-        instructions.truncate(instructions.len() / 8 * 8);
+        instructions.truncate(instructions.len() / RECORD * RECORD);
         Module { header, instructions, log, strings, types }
     }
 
@@ -140,7 +141,7 @@ impl Module {
             29 => (),
             number => return Err(refused(number, answer)),
         }
-        let end = self.instructions.chunks_exact(8).last().map_or(20, |record| record[2] as usize + 4 * record[7] as usize);
+        let end = self.instructions.chunks_exact(RECORD).last().map_or(20, |record| record[2] as usize + 4 * record[7] as usize);
         let mut bytes = room::zeros(end)?;
         match call(self, &mut bytes, &mut answer)? {
             0 => {

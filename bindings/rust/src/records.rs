@@ -1,5 +1,7 @@
 //! Records taken apart: instructions and their operands.
 
+use crate::c::RECORD;
+
 /// One instruction.
 #[derive(Clone, Copy, Debug, PartialEq, Eq)]
 pub struct Instruction<'a> {
@@ -37,7 +39,7 @@ pub struct Instructions<'a> {
 
 impl<'a> Instructions<'a> {
     pub(crate) fn of(words: &'a [u32], log: &'a [u8], strings: &'a [u8]) -> Instructions<'a> {
-        Instructions { records: words.chunks_exact(8), log, strings }
+        Instructions { records: words.chunks_exact(RECORD), log, strings }
     }
 }
 

@@ -54,7 +54,7 @@ impl Candidate {
             a.offset as u32,
             a.index as u32,
             a.value,
-            a.instructions.len() as u32 / 8,
+            (a.instructions.len() / RECORD) as u32,
             a.log.len() as u32,
             a.strings.len() as u32,
             a.types.len() as u32 / 3,
@@ -79,7 +79,7 @@ fn features(module: &[u8], a: &Answer) -> Vec<Feature> {
         all.push(format!("number {number} at {} of {}", a.offset % 20 / 4, a.index.min(3)));
     }
     let mut state = State::Outside;
-    for record in a.instructions.chunks_exact(8) {
+    for record in a.instructions.chunks_exact(RECORD) {
         let opcode = record[0] as u16;
         all.push(format!("cell {:?} {state:?}", layout_kind(opcode)));
         all.push(format!("row {opcode}"));
