@@ -12,10 +12,10 @@ ghost use Rattle.records.specs.Good.{operandAt};
 ghost use Rattle.records.specs.Steps.{wordIf, resultWords};
 ghost use Rattle.assemble.specs.Spelled.{Readable, operandAfter, headBytes, saidBy, Sound};
 use operand::is_two;
-use operand::put_bytes;
-use operand::put_word;
 use spec::Fields;
 use spec::kinds;
+use words::put_bytes;
+use words::put_word;
 
 // OPERANDS
 
@@ -40,8 +40,8 @@ fn put_two(log: &[u8], strings: &[u8], a: usize, out: &mut [u8]) -> usize
     ensures { λ r. ⌜ r ≡ length (operandBytes (operandAt (now (log .entry)) (now (strings .entry)) a)) ⌝ }
     ensures { λ _. ⌜ now (out .exit) ≡ sets (now (out .entry)) 0 (operandBytes (operandAt (now (log .entry)) (now (strings .entry)) a)) ⌝ }
 {
-    let low = decoder::word_at(log, a + 1);
-    let high = decoder::word_at(log, a + 5);
+    let low = words::word_at(log, a + 1);
+    let high = words::word_at(log, a + 5);
     if log[a] == kinds::STRING {
         let start = low as usize;
         let end = start + (high as usize);
@@ -80,7 +80,7 @@ fn put_operand(log: &[u8], strings: &[u8], a: usize, out: &mut [u8]) -> Reached
         let n = put_two(log, strings, a, out);
         return Reached { log: a + 9, out: n };
     }
-    put_word(out, 0, decoder::word_at(log, a + 1));
+    put_word(out, 0, words::word_at(log, a + 1));
     Reached { log: a + 5, out: 4 }
 }
 

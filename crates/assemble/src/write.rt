@@ -13,10 +13,10 @@ ghost use Rattle.assemble.specs.Writes.{Writes};
 use crate::order::end_of;
 use crate::order::put_module;
 use crate::order::put_read;
-use operand::put_word;
 use records::Checked;
 use spec::Written;
 use spec::refusals;
+use words::put_word;
 
 // How many bytes the header takes.
 const HEADER: usize = 20;

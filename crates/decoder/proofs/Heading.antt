@@ -9,7 +9,7 @@ use Rattle.spec.specs.declared.HeaderRead.{HeaderRead}
 use Rattle.spec.specs.Words.{fourAt, wordsOf}
 use Rattle.spec.specs.Reader.{refusal}
 use Rattle.spec.specs.Header.{magicFault, noHeader, headerBy, headerFrom}
-use Rattle.decoder.proofs.Front.{drop-four}
+use Rattle.words.proofs.Front.{drop-four}
 
 -- a word more of a run
 words-more : (s : List ℕ) (n at : ℕ) → at + 4 ≤ length s

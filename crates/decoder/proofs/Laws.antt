@@ -23,7 +23,7 @@ use Rattle.decoder.specs.declared.WordRead.the-variants.{Got as Word, Re
 use Rattle.decoder.specs.declared.LongRead.the-variants.{Got as Long, Refused as NoLong}
 use Rattle.decoder.specs.declared.TextRead.the-variants.{Got as GotText, Refused as NoText}
 use Rattle.decoder.specs.Answer.{decoder, readerOf, wordAnswer, wordFrom, longAnswer, longFrom, textAnswer, textFrom}
-use Rattle.decoder.proofs.Front.{by-front}
+use Rattle.words.proofs.Front.{by-front}
 
 -- HOW FAR A READ MOVES
 

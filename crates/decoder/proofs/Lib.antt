@@ -1,4 +1,3 @@
-pub mod Front
 pub mod Laws
 pub mod Steps
 pub mod Heading

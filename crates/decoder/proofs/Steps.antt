@@ -30,7 +30,7 @@ use Rattle.decoder.specs.declared.End.{End}
 use Rattle.decoder.specs.declared.End.the-variants.{After, NoZero, NotUtf8}
 use Rattle.decoder.specs.Answer.{decoder, readerOf, limitReached, wordAnswer, wordFrom, longAnswer, longFrom, textAnswer, textFrom}
 use Rattle.decoder.specs.Steps.{takeOne, endBy, endIn}
-use Rattle.decoder.proofs.Front.{front-got, front-short}
+use Rattle.words.proofs.Front.{front-got, front-short}
 use Rattle.decoder.proofs.Laws.{word-got, word-refused, highAfter, ends-in}
 
 -- WORDS

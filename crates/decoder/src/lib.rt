@@ -5,7 +5,6 @@ ghost use mathlib.Core.List.{[], _∷_};
 ghost use Prim.Native.Nat.{_+_, _≤_};
 ghost use lib.Dec.{ltb};
 ghost use lib.ListN.{length};
-ghost use Rattle.spec.specs.Words.{four, fourAt};
 ghost use Rattle.spec.specs.Reader.{refusal};
 ghost use Rattle.spec.specs.Header.{magicFault, noHeader, headerFrom};
 ghost use Rattle.decoder.specs.Answer.{decoder, setLimit, clearLimit, hasLimit, limitReached, wordFrom, longFrom, textFrom};
@@ -25,6 +24,7 @@ use spec::Found;
 use spec::HeaderRead;
 use spec::Limit;
 use spec::Refusal;
+use words::word_at;
 
 // A position in some bytes, and how many words may still be read.
 pub struct Decoder {
@@ -55,21 +55,6 @@ pub struct Text {
 pub enum TextRead {
     Got(Text),
     Refused(Refusal, Decoder),
-}
-
-// Four bytes as a number, low byte first.
-fn quad(a: u8, b: u8, c: u8, d: u8) -> u32
-    ensures { λ r. ⌜ r ≡ four a b c d ⌝ }
-{
-    (a as u32) + 256 * (b as u32) + 65536 * (c as u32) + 16777216 * (d as u32)
-}
-
-// The word at a place, for the crates above.
-pub fn word_at(s: &[u8], at: usize) -> u32
-    requires { ⌜ at + 4 ≤ length (now s) ⌝ }
-    ensures { λ r. ⌜ r ≡ fourAt at (now (s .entry)) ⌝ }
-{
-    quad(s[at], s[at + 1], s[at + 2], s[at + 3])
 }
 
 // Whether the stream ends before the word at a place does.

@@ -56,7 +56,7 @@ pub fn item_at(g: &[u8], at: usize) -> Item
         if room < 5 {
             return Item::Broken;
         }
-        return Item::Enumerant(g[from], decoder::word_at(g, from + 1));
+        return Item::Enumerant(g[from], words::word_at(g, from + 1));
     }
     if b == 4 {
         if room < 1 {

@@ -91,7 +91,7 @@ fn put_where_fits(bytes: &[u8], out: &mut [u8]) -> usize
     ensures { λ _. ⌜ now (out .exit) ≡ laidIn (now (out .entry)) (now (bytes .entry)) ⌝ }
 {
     if bytes.len() <= out.len() {
-        operand::put_bytes(out, 0, bytes);
+        words::put_bytes(out, 0, bytes);
     }
     bytes.len()
 }

@@ -196,8 +196,8 @@ fn keep_operands(
     let more = d.strings;
     if size <= scratch.len() {
         if more <= spare.len() {
-            operand::put_bytes(log, log_to, &scratch[..size]);
-            operand::put_bytes(strings, strings_to, &spare[..more]);
+            words::put_bytes(log, log_to, &scratch[..size]);
+            words::put_bytes(strings, strings_to, &spare[..more]);
             return;
         }
     }

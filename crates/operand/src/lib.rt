@@ -4,7 +4,6 @@ ghost use Prim.Native.Nat.{_+_, _*_, _≤_};
 ghost use lib.Dec.{leb};
 ghost use lib.ListN.{length};
 ghost use lib.Seq.{sets};
-ghost use Rattle.spec.specs.Words.{bytesOf};
 ghost use Rattle.operand.specs.Parts.{parts, partsOf, isTwo, Fits};
 ghost use Rattle.operand.specs.Log.{recordOf, recordLength, kept};
 
@@ -195,17 +194,6 @@ pub fn operand_of(kind: u8, value: u64) -> Operand
 
 // THE LOG
 
-// The four bytes of a word, stored at a place.
-pub fn put_word(out: &mut [u8], at: usize, w: u32)
-    requires { ⌜ at + 4 ≤ length (now out) ⌝ }
-    ensures { λ _. ⌜ now (out .exit) ≡ sets (now (out .entry)) at (bytesOf w) ⌝ }
-{
-    out[at] = (w % 256) as u8;
-    out[at + 1] = (w / 256 % 256) as u8;
-    out[at + 2] = (w / 65536 % 256) as u8;
-    out[at + 3] = (w / 16777216 % 256) as u8;
-}
-
 // Whether a kind has two words.
 pub fn is_two(kind: u8) -> bool
     ensures { λ r. ⌜ r ≡ isTwo kind ⌝ }
@@ -231,9 +219,9 @@ fn put_record(log: &mut [u8], at: usize, p: Parts)
     let kind = p.kind;
     let value = p.value;
     log[at] = kind;
-    put_word(log, at + 1, (value % 4294967296) as u32);
+    words::put_word(log, at + 1, (value % 4294967296) as u32);
     if is_two(kind) {
-        put_word(log, at + 5, (value / 4294967296) as u32);
+        words::put_word(log, at + 5, (value / 4294967296) as u32);
     }
 }
 
@@ -252,24 +240,12 @@ pub fn keep_record(log: &mut [u8], at: usize, p: Parts) -> usize
 
 // THE STRINGS
 
-// Bytes, stored at a place.
-pub fn put_bytes(out: &mut [u8], at: usize, bytes: &[u8])
-    requires { ⌜ at + length (now bytes) ≤ length (now out) ⌝ }
-    ensures { λ _. ⌜ now (out .exit) ≡ sets (now (out .entry)) at (now (bytes .entry)) ⌝ }
-{
-    let mut i = 0;
-    while i < bytes.len() {
-        out[at + i] = bytes[i];
-        i += 1;
-    }
-}
-
 // Bytes, kept at a place where they fit.
 pub fn keep_bytes(out: &mut [u8], at: usize, bytes: &[u8])
     requires { ⌜ (at ≤ 1000000000) × (length (now bytes) ≤ 1000000000) ⌝ }
     ensures { λ _. ⌜ now (out .exit) ≡ kept (leb (at + length (now (bytes .entry))) (length (now (out .entry)))) (now (out .entry)) at (now (bytes .entry)) ⌝ }
 {
     if at + bytes.len() <= out.len() {
-        put_bytes(out, at, bytes);
+        words::put_bytes(out, at, bytes);
     }
 }

@@ -25,7 +25,7 @@ use Rattle.operand.specs.Log.{recordOf, Laid}
 use Rattle.decoder.specs.declared.Decoder.{Decoder}
 use Rattle.decoder.specs.declared.WordRead.the-variants.{Got as Word}
 use Rattle.decoder.specs.Answer.{decoder, readerOf, limitReached, wordAnswer, wordFrom}
-use Rattle.decoder.proofs.Front.{front-got}
+use Rattle.words.proofs.Front.{front-got}
 use Rattle.grammar.specs.Find.{Sure, placeFound, parametersFound, isListed}
 use Rattle.grammar.specs.Index.{Indexed}
 use Rattle.parser.specs.declared.used.Used.{Used}

@@ -68,7 +68,7 @@ fn next_word(d: Decoder, s: &[u8]) -> Next
     let at = d.offset;
     let limit = d.limit;
     let left = words_left(limit);
-    let word = decoder::word_at(s, at);
+    let word = words::word_at(s, at);
     let after = Decoder {
         offset: at + 4,
         limit: Limit::Words(left - 1),

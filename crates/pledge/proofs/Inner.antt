@@ -14,7 +14,7 @@ use Rattle.tracker.specs.declared.TypeTracker.{TypeTracker}
 use Rattle.tracker.specs.declared.Resolved.{Resolved}
 use Rattle.tracker.specs.declared.Resolved.the-variants.{«Type», Unknown}
 use Rattle.tracker.specs.Entries.{resolvedIs}
-use Rattle.decoder.proofs.word_at as word-at-call
+use Rattle.words.proofs.word_at as word-at-call
 use Rattle.reflect.proofs.place as place-call
 use Rattle.grammar.proofs.item_at as item-at-call
 use Rattle.grammar.proofs.item_length as item-length-call
@@ -32,11 +32,11 @@ use Rattle.records.proofs.fields_at as fields-at-call
 use Rattle.records.proofs.record_at as record-at-call
 use Rattle.records.proofs.operand_at as operand-at-call
 use Rattle.records.proofs.put_fields as put-fields-call
-use Rattle.operand.proofs.put_word as put-word-call
+use Rattle.words.proofs.put_word as put-word-call
 use Rattle.operand.proofs.is_two as is-two-call
 use Rattle.operand.proofs.record_length as record-length-call
 use Rattle.operand.proofs.keep_record as keep-record-call
-use Rattle.operand.proofs.put_bytes as put-bytes-call
+use Rattle.words.proofs.put_bytes as put-bytes-call
 use Rattle.operand.proofs.keep_bytes as keep-bytes-call
 use Rattle.listed.proofs.decimal as decimal-call
 use Rattle.listed.proofs.listing as listing-call

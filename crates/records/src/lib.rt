@@ -182,8 +182,8 @@ fn pass_operand(ascii: bool, log: &[u8], strings: &[u8], log_at: usize, strings_
         return Passed::Refused;
     }
     if kind == kinds::STRING {
-        let start = decoder::word_at(log, log_at + 1);
-        let size = decoder::word_at(log, log_at + 5);
+        let start = words::word_at(log, log_at + 1);
+        let size = words::word_at(log, log_at + 5);
         return pass_text(ascii, strings, log_at, strings_at, start, size);
     }
     Passed::Got(log_at + 9, strings_at, 2)
@@ -461,9 +461,9 @@ pub fn operand_at(log: &[u8], at: usize) -> Parts
     ensures { λ r. ⌜ Logged (now (log .entry)) at r ⌝ }
 {
     let kind = log[at];
-    let low = decoder::word_at(log, at + 1);
+    let low = words::word_at(log, at + 1);
     if is_two(kind) {
-        let high = decoder::word_at(log, at + 5);
+        let high = words::word_at(log, at + 5);
         return Parts {
             kind,
             value: (low as u64) + 4294967296 * (high as u64),

@@ -9,11 +9,11 @@ mod answer;
 mod parts;
 mod stores;
 
-use decoder::word_at;
 use parts::HEAD;
 use parts::ends_of;
 use parts::head_at;
 use parts::wide;
+use words::word_at;
 
 // What an entry comes to: the sample ends before it does, or where it ends and how many modules differ, which is 1 or 0.
 enum Turn {

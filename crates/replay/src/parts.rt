@@ -3,7 +3,7 @@ ghost use mathlib.Core.Path.{_≡_};
 ghost use Prim.Native.Nat.{_+_, _≤_, _<_};
 ghost use lib.ListN.{length};
 ghost use Rattle.replay.specs.Entries.{HeadAt, endsOf};
-use decoder::word_at;
+use words::word_at;
 
 // How many bytes the words take.
 pub const HEAD: usize = 60;

@@ -60,7 +60,7 @@ fn words_start(store: &[u32], bytes: &[u8], count: usize) -> bool
 {
     let mut i = 0;
     while i < count {
-        if store[i] != decoder::word_at(bytes, 4 * i) {
+        if store[i] != words::word_at(bytes, 4 * i) {
             return false;
         }
         i = i + 1;
