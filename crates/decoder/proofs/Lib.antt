@@ -3,3 +3,4 @@ pub mod Steps
 pub mod Heading
 pub mod Loans
 pub mod Pairs
+pub mod Lending
