@@ -37,7 +37,7 @@ use denote.Enum.Enum.{Few, Plainss}
 use denote.Enum.Declared.{Declared, row, shape, variants}
 use denote.Enum.Laws as EL
 use denote.Triple.Entry.{onEntry}
-use denote.Triple.Spec.{Meets, tripleOf}
+use denote.Triple.Spec.{tripleOf}
 use denote.Triple.Statement.{Contract, Triple}
 use denote.Triple.Call.{calls-at}
 use denote.Triple.Clauses.{Ended, Clauses, ensured, lasts, closing}
@@ -47,9 +47,12 @@ use denote.Exit.{yes}
 use Rattle.spec.proofs.Limit as L
 use Rattle.spec.proofs.Limit.Laws as L′
 use Rattle.decoder.specs.declared.Decoder.{Decoder}
-use Rattle.decoder.proofs.Loans.{mach}
 use Rattle.decoder.proofs.Decoder as T
 use Rattle.decoder.proofs.Decoder.Laws as T′
+
+-- the machine value of a decoder
+abbrev pub mach : Decoder → Val
+mach d = only (LL.vals T.the-type T′.the-laws d)
 
 -- an enum of plain data, with its laws
 pub record Plain : Type 2 where
@@ -71,10 +74,10 @@ pub record Reading : Type 2 where
 
 module _ (K : Reading) where
   -- the answer's row, and the row of the answer without the decoder
-  abbrev R : RattleType
+  abbrev pub R : RattleType
   R = row (K .answer .type)
 
-  abbrev G : RattleType
+  abbrev pub G : RattleType
   G = row (K .given .type)
 
   -- THE CODE
@@ -151,6 +154,9 @@ module _ (K : Reading) where
 
     abbrev pub ReadC : Contract 𝓤
     ReadC = tripleOf 𝓤 H A (reader .signature) (closing 𝓤 H A reader reader-says)
+
+    abbrev pub LentC : Contract 𝓤
+    LentC = tripleOf 𝓤 H A (lent .signature) (closing 𝓤 H A lent lent-says)
 
     abbrev pub TakeC : (X : RattleType) → (R .Denot → X .Denot) → Contract 𝓤
     TakeC X f = tripleOf 𝓤 H A (taker X .signature) (closing 𝓤 H A (taker X) (taker-says X f))
@@ -263,19 +269,21 @@ module _ (K : Reading) where
     goes = (goes-ref 𝓤 H A W 2 0 tt (plain (λ _. T.the-row)), (goes-none-slice 𝓤 H A W 2 (1 ∷ []) tt (plain (λ _. u8)) yes, tt))
 
     meets : (𝓣 : Tables 𝓤 H) → Triple 𝓤 (𝓣 .C (K .#reads)) (ReadC 𝓤 H A) → Triple 𝓤 (𝓣 .C (K .#next)) (TakeC 𝓤 H A T.the-row (K .next)) → Triple 𝓤 (𝓣 .C (K .#rest)) (TakeC 𝓤 H A G (K .rest))
-        → Meets 𝓤 H A (lent .signature) (WpFn 𝓤 H (𝓣 .C) (𝓣 .Λ) function) (closing 𝓤 H A lent (lent-says 𝓤 H A))
+        → Triple 𝓤 (WpFn 𝓤 H (𝓣 .C) (𝓣 .Λ) function) (LentC 𝓤 H A)
     meets 𝓣 known-read known-next known-rest = walk-meets 𝓤 H A lent stayed W goes (lent-says 𝓤 H A) (WpFn 𝓤 H (𝓣 .C) (𝓣 .Λ) function) (WpFn-mono 𝓤 H (W .laws) 𝓣 function)
         (walks (𝓣 .C) (𝓣 .Λ) (fmOf 𝓤 H (W .laws) 𝓣) known-read known-next known-rest)
 
   module _ {M : Type 1} (𝓤 : URA M) (H : Heap 𝓤) (𝓜 : Model 𝓤 H) (𝓖 : GhostRules 𝓤 H) (𝓡 : Running 𝓤 H 𝓜) (env : Env) where
     -- an entry of the table whose code is this meets the contract of the lent reader, where the three callees meet theirs
-    pub lent-meets : (#lent : Name) → Closed 𝓤 H (tables 𝓤 H 𝓜 𝓡 env .C) (tables 𝓤 H 𝓜 𝓡 env .Λ) #lent function
-        → Triple 𝓤 (tables 𝓤 H 𝓜 𝓡 env .C (K .#reads)) (ReadC 𝓤 H (𝓖 .A))
-        → Triple 𝓤 (tables 𝓤 H 𝓜 𝓡 env .C (K .#next)) (TakeC 𝓤 H (𝓖 .A) T.the-row (K .next))
-        → Triple 𝓤 (tables 𝓤 H 𝓜 𝓡 env .C (K .#rest)) (TakeC 𝓤 H (𝓖 .A) G (K .rest))
-        → Triple 𝓤 (tables 𝓤 H 𝓜 𝓡 env .C #lent) (tripleOf 𝓤 H (𝓖 .A) (lent .signature) (closing 𝓤 H (𝓖 .A) lent (lent-says 𝓤 H (𝓖 .A))))
+    pub lent-meets : (#lent : Name) → Closed 𝓤 H (tables 𝓤 H 𝓜 𝓡 env .C) (tables 𝓤 H 𝓜 𝓡 env .Λ) #lent function → {r₁ r₂ r₃ : Routine}
+        → env (K .#reads) ≡ r₁ → Triple 𝓤 (𝓡 .run r₁) (ReadC 𝓤 H (𝓖 .A))
+        → env (K .#next) ≡ r₂ → Triple 𝓤 (𝓡 .run r₂) (TakeC 𝓤 H (𝓖 .A) T.the-row (K .next))
+        → env (K .#rest) ≡ r₃ → Triple 𝓤 (𝓡 .run r₃) (TakeC 𝓤 H (𝓖 .A) G (K .rest))
+        → Triple 𝓤 (tables 𝓤 H 𝓜 𝓡 env .C #lent) (LentC 𝓤 H (𝓖 .A))
     unfolding tablesOf
-    lent-meets #lent closed known-read known-next known-rest =
-        entered 𝓤 H (tripleOf 𝓤 H (𝓖 .A) (lent .signature) (closing 𝓤 H (𝓖 .A) lent (lent-says 𝓤 H (𝓖 .A))))
-        (tables 𝓤 H 𝓜 𝓡 env .C) (tables 𝓤 H 𝓜 𝓡 env .Λ) #lent function closed
-        (meets 𝓤 H (𝓖 .A) (givenOf 𝓤 H 𝓜 𝓖) (tablesOf 𝓤 H 𝓜 (tables 𝓤 H 𝓜 𝓡 env)) known-read known-next known-rest)
+    lent-meets #lent closed {r₁} {r₂} {r₃} p₁ m₁ p₂ m₂ p₃ m₃ =
+        entered 𝓤 H (LentC 𝓤 H (𝓖 .A)) (tables 𝓤 H 𝓜 𝓡 env .C) (tables 𝓤 H 𝓜 𝓡 env .Λ) #lent function closed
+        (meets 𝓤 H (𝓖 .A) (givenOf 𝓤 H 𝓜 𝓖) (tablesOf 𝓤 H 𝓜 (tables 𝓤 H 𝓜 𝓡 env))
+        (cited 𝓤 H (ReadC 𝓤 H (𝓖 .A)) 𝓜 𝓡 env (K .#reads) r₁ p₁ m₁)
+        (cited 𝓤 H (TakeC 𝓤 H (𝓖 .A) T.the-row (K .next)) 𝓜 𝓡 env (K .#next) r₂ p₂ m₂)
+        (cited 𝓤 H (TakeC 𝓤 H (𝓖 .A) G (K .rest)) 𝓜 𝓡 env (K .#rest) r₃ p₃ m₃))

@@ -2,5 +2,5 @@ pub mod Laws
 pub mod Steps
 pub mod Heading
 pub mod Loans
-pub mod Pairs
 pub mod Lending
+pub mod Readings

@@ -47,14 +47,25 @@ unfoldable pub textNext : TextRead → Decoder
 textNext (Text t) = t .next
 textNext (NoText x d) = d
 
--- both answers, and the place of the decoder after them
-unfoldable pub pairOf : WordGiven → TextGiven → Decoder → Pair
-pairOf w t d = record { word = w; text = t; next = d .offset }
+-- a word's answer with the decoder after it
+unfoldable pub wordOf : WordGiven → Decoder → WordRead
+wordOf (GivenWord w) d = Word w d
+wordOf (GivenNoWord x) d = NoWord x d
 
--- a word's answer, and the string from the decoder after it
-unfoldable pub thenText : List ℕ → WordGiven → Decoder → Pair
-thenText s w d = pairOf w (textGiven (textFrom s d)) (textNext (textFrom s d))
+-- a 64-bit literal's answer with the decoder after it
+unfoldable pub longOf : LongGiven → Decoder → LongRead
+longOf (GivenLong v) d = Long v d
+longOf (GivenNoLong x) d = NoLong x d
+
+-- a string's answer with the decoder after it
+unfoldable pub textOf : TextGiven → Decoder → TextRead
+textOf (GivenText start length) d = Text (record { start = start; length = length; next = d })
+textOf (GivenNoText x) d = NoText x d
+
+-- both answers, and the place of the decoder after them
+unfoldable pub pairOf : WordRead → TextRead → Pair
+pairOf w t = record { word = wordGiven w; text = textGiven t; next = textNext t .offset }
 
 -- a word, or its refusal, and the string after it
 unfoldable pub pairFrom : List ℕ → Decoder → Pair
-pairFrom s d = thenText s (wordGiven (wordFrom s d)) (wordNext (wordFrom s d))
+pairFrom s d = let w = wordFrom s d in pairOf w (textFrom s (wordNext w))

@@ -1,9 +1,10 @@
 // The decoder lent, and moved in place: thin calls of the by-value methods.
 ghost use mathlib.Core.Path.{_≡_};
 ghost use Rattle.decoder.specs.Answer.{decoder, wordFrom, longFrom, textFrom};
-ghost use Rattle.decoder.specs.Lent.{wordGiven, wordNext, longGiven, longNext, textGiven, textNext, pairOf, pairFrom};
+ghost use Rattle.decoder.specs.Lent.{wordGiven, wordNext, longGiven, longNext, textGiven, textNext, wordOf, longOf, textOf, pairFrom};
 use crate::Decoder;
 use crate::LongRead;
+use crate::Text;
 use crate::TextRead;
 use crate::WordRead;
 use spec::Limit;
@@ -127,33 +128,81 @@ pub fn string_in(d: &mut Decoder, s: &[u8]) -> TextGiven
     text_given(r)
 }
 
-// The decoder at a place, with so many words at most.
-fn start(at: usize, words: usize) -> Decoder
-    ensures { λ r. ⌜ r ≡ decoder at (Limit.Words words) ⌝ }
+// A word's answer with the decoder after it.
+fn word_of(g: WordGiven, d: Decoder) -> WordRead
+    ensures { λ r. ⌜ r ≡ wordOf g d ⌝ }
 {
-    Decoder {
-        offset: at,
-        limit: Limit::Words(words),
+    match g {
+        WordGiven::Got(w) => WordRead::Got(w, d),
+        WordGiven::Refused(x) => WordRead::Refused(x, d),
     }
 }
 
-// Both answers, and the place of the decoder after them.
-fn both(word: WordGiven, text: TextGiven, d: Decoder) -> Pair
-    ensures { λ r. ⌜ r ≡ pairOf word text d ⌝ }
+// A 64-bit literal's answer with the decoder after it.
+fn long_of(g: LongGiven, d: Decoder) -> LongRead
+    ensures { λ r. ⌜ r ≡ longOf g d ⌝ }
 {
-    Pair {
-        word,
-        text,
-        next: d.offset,
+    match g {
+        LongGiven::Got(v) => LongRead::Got(v, d),
+        LongGiven::Refused(x) => LongRead::Refused(x, d),
     }
+}
+
+// A string's answer with the decoder after it.
+fn text_of(g: TextGiven, d: Decoder) -> TextRead
+    ensures { λ r. ⌜ r ≡ textOf g d ⌝ }
+{
+    match g {
+        TextGiven::Got(start, length) => TextRead::Got(Text {
+            start,
+            length,
+            next: d,
+        }),
+        TextGiven::Refused(x) => TextRead::Refused(x, d),
+    }
+}
+
+// A word by a decoder that is lent: the same as by value.
+pub fn word_lent(d: Decoder, s: &[u8]) -> WordRead
+    ensures { λ r. ⌜ r ≡ wordFrom (now (s .entry)) d ⌝ }
+{
+    let mut e = d;
+    let g = word_in(&mut e, s);
+    word_of(g, e)
+}
+
+// A 64-bit literal by a decoder that is lent: the same as by value.
+pub fn int64_lent(d: Decoder, s: &[u8]) -> LongRead
+    ensures { λ r. ⌜ r ≡ longFrom (now (s .entry)) d ⌝ }
+{
+    let mut e = d;
+    let g = int64_in(&mut e, s);
+    long_of(g, e)
+}
+
+// A string by a decoder that is lent: the same as by value.
+pub fn string_lent(d: Decoder, s: &[u8]) -> TextRead
+    ensures { λ r. ⌜ r ≡ textFrom (now (s .entry)) d ⌝ }
+{
+    let mut e = d;
+    let g = string_in(&mut e, s);
+    text_of(g, e)
 }
 
 // A word and the string after it, from a place, in so many words at most: as an id and its name stand.
 pub fn word_and_string(s: &[u8], at: usize, words: usize) -> Pair
     ensures { λ r. ⌜ r ≡ pairFrom (now (s .entry)) (decoder at (Limit.Words words)) ⌝ }
 {
-    let mut d = start(at, words);
-    let w = word_in(&mut d, s);
-    let t = string_in(&mut d, s);
-    both(w, t, d)
+    let d = Decoder {
+        offset: at,
+        limit: Limit::Words(words),
+    };
+    let first = word_lent(d, s);
+    let second = string_lent(word_next(first), s);
+    let next = text_next(second);
+    Pair {
+        word: word_given(first),
+        text: text_given(second),
+        next: next.offset,
+    }
 }
