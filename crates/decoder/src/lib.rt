@@ -27,6 +27,7 @@ use spec::Found;
 use spec::HeaderRead;
 use spec::Limit;
 use spec::Refusal;
+use spec::refusals;
 use words::word_at;
 
 // A position in some bytes, and how many words may still be read.
@@ -90,12 +91,12 @@ fn magic_fault(magic: u32) -> u32
     ensures { λ r. ⌜ r ≡ magicFault (magic ∷ []) ⌝ }
 {
     if magic == 0x07230203 {
-        return 0;
+        return refusals::ACCEPTED;
     }
     if magic == 0x03022307 {
-        return 3;
+        return refusals::HEADER_SWAPPED;
     }
-    2
+    refusals::HEADER_INCORRECT
 }
 
 // The five header words together, or a refusal: 1 at the missing word, 2 or 3 by the magic number.
@@ -103,15 +104,15 @@ pub fn header(s: &[u8]) -> HeaderRead
     ensures { λ r. ⌜ r ≡ headerFrom (now (s .entry)) ⌝ }
 {
     if s.len() < 20 {
-        return no_header(1, 4 * (s.len() / 4));
+        return no_header(refusals::HEADER_INCOMPLETE, 4 * (s.len() / 4));
     }
     let magic = word_at(s, 0);
     let fault = magic_fault(magic);
-    if fault != 0 {
+    if fault != refusals::ACCEPTED {
         return no_header(fault, 0);
     }
     let refusal = Refusal {
-        number: 0,
+        number: refusals::ACCEPTED,
         place: 0,
         value: 0,
     };
@@ -249,11 +250,11 @@ impl Decoder {
         let spent = self.limit_reached();
         let ended = stream_ends(s, at);
         if spent {
-            return self.no_word(8);
+            return self.no_word(refusals::LIMIT_REACHED);
         }
         self = self.take_one();
         if ended {
-            return self.no_word(9);
+            return self.no_word(refusals::STREAM_ENDED);
         }
         self.offset = at + 4;
         WordRead::Got(word_at(s, at), self)
@@ -307,8 +308,8 @@ impl Decoder {
                     next: self,
                 })
             }
-            End::NoZero => self.no_text(9, at),
-            End::NotUtf8 => self.no_text(11, at),
+            End::NoZero => self.no_text(refusals::STREAM_ENDED, at),
+            End::NotUtf8 => self.no_text(refusals::NOT_UTF8, at),
         }
     }
 
@@ -319,7 +320,7 @@ impl Decoder {
     {
         let at = self.offset;
         if (s.len() - at) / 4 < m {
-            return self.no_text(9, at);
+            return self.no_text(refusals::STREAM_ENDED, at);
         }
         let to = at + 4 * m;
         let end = string_end(&s[at..to]);
@@ -336,8 +337,8 @@ impl Decoder {
                     next: self,
                 })
             }
-            End::NoZero => self.no_text(8, to),
-            End::NotUtf8 => self.no_text(11, at),
+            End::NoZero => self.no_text(refusals::LIMIT_REACHED, to),
+            End::NotUtf8 => self.no_text(refusals::NOT_UTF8, at),
         }
     }
 
@@ -348,7 +349,7 @@ impl Decoder {
         let at = self.offset;
         let limit = self.limit;
         if s.len() < at {
-            return self.no_text(9, at);
+            return self.no_text(refusals::STREAM_ENDED, at);
         }
         match limit {
             Limit::Unlimited => self.free_string(s),

@@ -95,10 +95,8 @@ fn word(s: &[u8], d: Decoder) -> Decoder {
     }
 }
 
-// Reads a 64-bit literal.
-fn int64(s: &[u8], d: Decoder) -> Decoder {
-    asked(b"64 bits [", s, d);
-    let r = d.int64(s);
+// Ends a line with a 64-bit literal, or why there is none.
+fn long(r: LongRead) -> Decoder {
     match r {
         LongRead::Got(v, e) => {
             io::print_hex(STDOUT_FILENO, v, 16);
@@ -109,6 +107,18 @@ fn int64(s: &[u8], d: Decoder) -> Decoder {
             after(e)
         }
     }
+}
+
+// Reads a 64-bit literal.
+fn int64(s: &[u8], d: Decoder) -> Decoder {
+    asked(b"64 bits [", s, d);
+    long(d.int64(s))
+}
+
+// Reads a 64-bit literal by a decoder that is lent.
+fn int64_lent(s: &[u8], d: Decoder) -> Decoder {
+    asked(b"64 bits lent [", s, d);
+    long(decoder::int64_lent(d, s))
 }
 
 // Writes a string's length, and where it starts.
@@ -135,7 +145,7 @@ fn string(s: &[u8], d: Decoder) -> Decoder {
     }
 }
 
-// Reads a word and the string after it, each by the decoder that is lent.
+// Reads a word and the string after it, each by a decoder that is lent.
 fn pair(s: &[u8], offset: usize, words: usize) {
     asked(b"lent [", s, at(offset).set_limit(words));
     let r = decoder::word_and_string(s, offset, words);
@@ -299,12 +309,17 @@ fn limits() {
 }
 
 // The decoder lent: a word and a string; a word that spends the limit; a word that is refused and has taken one from the limit, as by
-// value, so that the string finds it spent.
+// value, so that the string finds it spent. A 64-bit literal; its second word missing, which leaves the position four bytes on; a limit
+// of one word.
 fn lent() {
     let s = b"\x07\x00\x00\x00main\x00\x00\x00\x00";
+    let long = b"\x01\x00\x00\x00\x02\x00\x00\x80";
     pair(s, 0, 3);
     pair(s, 0, 1);
     pair(b"\x01\x02\x03", 0, 1);
+    int64_lent(long, at(0).set_limit(2));
+    int64_lent(b"\x01\x02\x03\x04", at(0).set_limit(2));
+    int64_lent(long, at(0).set_limit(1));
 }
 
 // Headers: too few bytes, also with a wrong magic number; a right one; a wrong one; one whose bytes are swapped.

@@ -8,25 +8,13 @@ use borrow.Author.Needs.{needs}
 use Rattle.operand.proofs.keep_record.Statement.{statement}
 use Rattle.operand.proofs.keep_record.Tie as tie
 
-record-length-requires : tie.Need-record-length-requires
-record-length-requires c κs = search needs
-
-add-next : tie.Need-add-next
-add-next c = omega (arith, c .record-length .ensures, length-range (c .before .before .args .p))
-
-put-record-requires : tie.Need-put-record-requires
-put-record-requires c κs = search needs
-
-same-length : tie.Need-same-length
-same-length c = search needs
-
-returns : tie.Need-returns
-returns c = let e = c .before .before .before .before .before .record-length .ensures in (ap (λ (n : ℕ). c .before .before .before .before .before .before .before .args .at + n) e, kept-fits (c .before .before .before .before .before .before .before .args .log .now) _ (c .before .before .before .before .before .before .before .args .at) (recordLength (c .before .before .before .before .before .before .before .args .p)) (recordOf (c .before .before .before .before .before .before .before .args .p)) (omega (arith, e, c .before .before .before .before .if1 .taken)) (c .before .before .put-record .ensures))
-
-returns-2 : tie.Need-returns-2
-returns-2 c = let e = c .before .record-length .ensures in (ap (λ (n : ℕ). c .before .before .before .args .at + n) e, kept-full (c .before .before .before .args .log .now) (c .before .before .before .args .at) (recordLength (c .before .before .before .args .p)) (recordOf (c .before .before .before .args .p)) (omega (arith, e, c .if1 .left)))
-
 pub keep-record-spec : {M : Type 1} → statement M
 keep-record-spec =
     tie.close
-    (tie.spec record-length-requires add-next put-record-requires same-length returns returns-2)
+    (tie.spec
+    (λ c κs. search needs)
+    (λ c. omega (arith, c .record-length .ensures, length-range (c .before .before .args .p)))
+    (λ c κs. search needs)
+    (λ c. search needs)
+    (λ c. let e = c .before .before .before .before .before .record-length .ensures in (ap (λ (n : ℕ). c .before .before .before .before .before .before .before .args .at + n) e, kept-fits (c .before .before .before .before .before .before .before .args .log .now) _ (c .before .before .before .before .before .before .before .args .at) (recordLength (c .before .before .before .before .before .before .before .args .p)) (recordOf (c .before .before .before .before .before .before .before .args .p)) (omega (arith, e, c .before .before .before .before .if1 .taken)) (c .before .before .put-record .ensures)))
+    (λ c. let e = c .before .record-length .ensures in (ap (λ (n : ℕ). c .before .before .before .args .at + n) e, kept-full (c .before .before .before .args .log .now) (c .before .before .before .args .at) (recordLength (c .before .before .before .args .p)) (recordOf (c .before .before .before .args .p)) (omega (arith, e, c .if1 .left)))))

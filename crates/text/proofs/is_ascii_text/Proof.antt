@@ -15,33 +15,15 @@ Inv-loop s ascii₀ i₀ ascii i = (i ≤ length s) × (isAsciiText s ≡ (ascii
 abbrev μ-loop : tie.MeasureT-loop
 μ-loop s ascii₀ i₀ ascii i = length s - i
 
-loop-holds : tie.Need-loop-holds Inv-loop μ-loop
-loop-holds c = ((omega arith), refl)
-
-shared-slice-read-b : tie.Need-shared-slice-read-b Inv-loop μ-loop
-shared-slice-read-b c = omega arith
-
-add-i : tie.Need-add-i Inv-loop μ-loop
-add-i c = omega arith
-
-loop-less : tie.Need-loop-less Inv-loop μ-loop
-loop-less c = omega arith
-
-loop-again : tie.Need-loop-again Inv-loop μ-loop
-loop-again c = ((omega arith), ascii-turn _ _ (c .before .before .loop .ascii) (c .before .loop-test .taken) (c .before .before .loop .inv .1))
-
-returns : tie.Need-returns Inv-loop μ-loop
-returns c = ascii-end _ _ (c .before .loop .ascii) (c .loop-test .left) (c .before .loop .inv .1)
-
 pub is-ascii-text-spec : {M : Type 1} → statement M
 is-ascii-text-spec =
     tie.close
     (tie.spec
     Inv-loop
     μ-loop
-    loop-holds
-    shared-slice-read-b
-    add-i
-    loop-less
-    loop-again
-    returns)
+    (λ c. ((omega arith), refl))
+    (λ c. omega arith)
+    (λ c. omega arith)
+    (λ c. omega arith)
+    (λ c. ((omega arith), ascii-turn _ _ (c .before .before .loop .ascii) (c .before .loop-test .taken) (c .before .before .loop .inv .1)))
+    (λ c. ascii-end _ _ (c .before .loop .ascii) (c .loop-test .left) (c .before .loop .inv .1)))

@@ -5,9 +5,9 @@ use Rattle.decoder.specs.Answer.{clearLimit}
 use Rattle.decoder.proofs.Decoder.clear_limit.Statement.{statement}
 use Rattle.decoder.proofs.Decoder.clear_limit.Tie as tie
 
-returns : tie.Need-returns
-unfolding clearLimit
-returns c = refl
-
 pub clear-limit-spec : {M : Type 1} → statement M
-clear-limit-spec = tie.close (tie.spec returns)
+unfolding clearLimit
+clear-limit-spec =
+    tie.close
+    (tie.spec
+    (λ c. refl))

@@ -5,9 +5,9 @@ use Rattle.decoder.specs.Answer.{setLimit}
 use Rattle.decoder.proofs.Decoder.set_limit.Statement.{statement}
 use Rattle.decoder.proofs.Decoder.set_limit.Tie as tie
 
-returns : tie.Need-returns
-unfolding setLimit
-returns c = refl
-
 pub set-limit-spec : {M : Type 1} → statement M
-set-limit-spec = tie.close (tie.spec returns)
+unfolding setLimit
+set-limit-spec =
+    tie.close
+    (tie.spec
+    (λ c. refl))

@@ -5,19 +5,12 @@ use Rattle.decoder.specs.Lent.{textGiven}
 use Rattle.decoder.proofs.lent.text_given.Statement.{statement}
 use Rattle.decoder.proofs.lent.text_given.Tie as tie
 
-enum-known-r : tie.Need-enum-known-r
-enum-known-r c = search needs
-
-enum-known-r-2 : tie.Need-enum-known-r-2
-enum-known-r-2 c = search needs
-
-returns : tie.Need-returns
-unfolding textGiven
-returns c = rw (c .before .r .given .1)
-
-returns-2 : tie.Need-returns-2
-unfolding textGiven
-returns-2 c = rw (c .before .r2 .given .1)
-
 pub text-given-spec : {M : Type 1} → statement M
-text-given-spec = tie.close (tie.spec enum-known-r enum-known-r-2 returns returns-2)
+unfolding textGiven
+text-given-spec =
+    tie.close
+    (tie.spec
+    (λ c. search needs)
+    (λ c. search needs)
+    (λ c. rw (c .before .r .given .1))
+    (λ c. rw (c .before .r2 .given .1)))

@@ -5,19 +5,12 @@ use Rattle.decoder.specs.Lent.{textNext}
 use Rattle.decoder.proofs.lent.text_next.Statement.{statement}
 use Rattle.decoder.proofs.lent.text_next.Tie as tie
 
-enum-known-r : tie.Need-enum-known-r
-enum-known-r c = search needs
-
-enum-known-r-2 : tie.Need-enum-known-r-2
-enum-known-r-2 c = search needs
-
-returns : tie.Need-returns
-unfolding textNext
-returns c = search needs
-
-returns-2 : tie.Need-returns-2
-unfolding textNext
-returns-2 c = search needs
-
 pub text-next-spec : {M : Type 1} → statement M
-text-next-spec = tie.close (tie.spec enum-known-r enum-known-r-2 returns returns-2)
+unfolding textNext
+text-next-spec =
+    tie.close
+    (tie.spec
+    (λ c. search needs)
+    (λ c. search needs)
+    (λ c. search needs)
+    (λ c. search needs))
