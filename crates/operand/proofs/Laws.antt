@@ -1,11 +1,10 @@
 -- Laws of an operand's parts: the value that is taken apart into words is put together again.
 use Prim.Native.Nat.{ℕ, zero, suc, _+_, _*_, _/_, _%_, _<_, _≤_}
-use mathlib.Core.Path.{_≡_, ap, sym, subst, _∙_}
+use mathlib.Core.Path.{_≡_, ap, sym, _∙_}
 use mathlib.Core.Bool.{true, false}
 use native.Mathlib.Omega.{arith}
-use lib.Dec.{T, leb, leb→le}
-use lib.Ieee.Fits.{and-l, and-r}
 use Rattle.spec.specs.Kinds.{isLogged}
+use Rattle.spec.proofs.Choice.{in-range}
 use Rattle.operand.specs.Parts.{parts, isTwo, Fits}
 
 -- a kind with one word: the word is the whole value
@@ -38,7 +37,5 @@ past (suc n) k h p = let q : suc n ≤ k = past n k h (p .0) in omega (arith, p 
 -- a kind of the log that is none of 1 to 44
 pub last-kind : (k : ℕ) → isLogged k ≡ true → Past 44 k → k ≡ 45
 last-kind k e p =
-    let low : 1 ≤ k = leb→le 1 k (and-l (leb 1 k) (leb k 45) (subst T (sym e) tt)) in
-    let high : k ≤ 45 = leb→le k 45 (and-r (leb 1 k) (leb k 45) (subst T (sym e) tt)) in
-    let more : 45 ≤ k = past 44 k low p in
-    omega arith
+    let r = in-range 1 k 45 e in
+    omega (arith, r .1, past 44 k (r .0) p)

@@ -6,6 +6,7 @@ ghost use lib.ListN.{length};
 ghost use lib.Seq.{sets};
 ghost use Rattle.operand.specs.Parts.{parts, partsOf, isTwo, Fits};
 ghost use Rattle.operand.specs.Log.{recordOf, recordLength, kept};
+use spec::kinds;
 
 // What an instruction holds after its results: enumerants, ids and literals by their value, floats by their bits, a string by where it
 // starts in the string bytes and how long it is.
@@ -198,7 +199,7 @@ pub fn operand_of(kind: u8, value: u64) -> Operand
 pub fn is_two(kind: u8) -> bool
     ensures { λ r. ⌜ r ≡ isTwo kind ⌝ }
 {
-    (kind == 36) | (kind == 38) | (kind == 40)
+    (kind == kinds::INT64) | (kind == kinds::FLOAT64) | (kind == kinds::STRING)
 }
 
 // How long an operand's record is.

@@ -1,4 +1,3 @@
-pub mod Range
 pub mod Laws
 pub mod AsciiText
 pub mod Steps

@@ -1,13 +1,12 @@
 -- Laws of the UTF-8 test: its steps and its loop, by the definitions of what is due.
 use Prim.Native.Nat.{ℕ, zero, suc, _+_, _-_, _<_, _≤_}
 use mathlib.Core.Path.{_≡_, refl, ap, sym, _∙_}
-use mathlib.Core.Bool.{Bool, true, false, _&&_}
+use mathlib.Core.Bool.{Bool, true, false, _&&_, false≢true}
 use mathlib.Core.List.{List, []}
 use mathlib.Core.Option.{Option, none, some}
 use native.Mathlib.Omega.{arith}
-use borrow.Author.Tests.{le-leb, lt-leb, ne-eqb}
-use lib.Dec.{T, eqb, eqb→eq}
-use lib.Ieee.Fits.{and-l, and-r}
+use borrow.Author.Tests.{le-leb, lt-leb, ne-eqb, eqb-true}
+use lib.Dec.{eqb}
 use lib.ListN.{length, drop, getD, drop-of-length-le}
 use Rattle.spec.specs.Base.{if_then_else_, within}
 use Rattle.spec.specs.Text.{Due, due, utf8Table, leadOf, dueAfter, onDue, utf8From, isUtf8}
@@ -16,7 +15,8 @@ use Rattle.text.specs.declared.Step.{Step}
 use Rattle.text.specs.declared.Step.the-variants.{Bad, More}
 use Rattle.text.specs.Steps.{dueOf, stepTo, firstOf, stepOf}
 use Rattle.text.proofs.Laws.{rest}
-use Rattle.text.proofs.Range.{throughout, in-range}
+use Rattle.spec.proofs.Choice.{left, right}
+use Rattle.spec.proofs.Range.{below, below-at}
 
 -- THE FIRST BYTE: each range of the code by the table, computed
 
@@ -32,30 +32,32 @@ fields : (n lo hi : ℕ) (q : Pending) → n ≡ q .left → lo ≡ q .low → h
 fields n lo hi q e f g = simp (e, f, g)
 
 -- answers that are the same are equal
-same-eq : (x y : Step) → T (same x y) → x ≡ y
+same-eq : (x y : Step) → same x y ≡ true → x ≡ y
 unfolding same
 same-eq Bad Bad t = refl
-same-eq Bad (More q) t = absurd t
-same-eq (More p) Bad t = absurd t
+same-eq Bad (More q) t = absurd (false≢true t)
+same-eq (More p) Bad t = absurd (false≢true t)
 same-eq (More p) (More q) t =
     let a = eqb (p .left) (q .left) in
     let b = eqb (p .low) (q .low) in
     let c = eqb (p .high) (q .high) in
-    let u = and-r a (b && c) t in
+    let u = right a (b && c) t in
     ap More
     (fields (p .left) (p .low) (p .high) q
-    (eqb→eq (p .left) (q .left) (and-l a (b && c) t))
-    (eqb→eq (p .low) (q .low) (and-l b c u))
-    (eqb→eq (p .high) (q .high) (and-r b c u)))
+    (eqb-true (p .left) (q .left) (left a (b && c) t))
+    (eqb-true (p .low) (q .low) (left b c u))
+    (eqb-true (p .high) (q .high) (right b c u)))
 
 -- is this the table's answer at a first byte
 abbrev pub gives : Step → ℕ → Bool
 gives x b = same x (stepTo (leadOf b utf8Table))
 
 -- an answer that is the table's at each first byte from a to before e is so at one of them
-pub row : (x : Step) (a e : ℕ) → T (throughout (gives x) a e) → (b : ℕ) → a ≤ b → b < e → x ≡ firstOf b
+pub row : (x : Step) (a e : ℕ) → below (λ k. gives x (a + k)) (e - a) ≡ true → (b : ℕ) → a ≤ b → b < e → x ≡ firstOf b
 unfolding firstOf
-row x a e t b h g = same-eq x (firstOf b) (in-range (gives x) a e t b h g)
+row x a e t b h g =
+    let q : a + (b - a) ≡ b = omega arith in
+    same-eq x (firstOf b) (rw q at (below-at (λ k. gives x (a + k)) (e - a) (b - a) t (omega arith)))
 
 -- A STEP
 

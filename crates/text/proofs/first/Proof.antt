@@ -1,5 +1,5 @@
 -- `text::first` meets its contract: in each range of first bytes, its answer is the table's at each of them.
-use mathlib.Core.Path.{_∙_}
+use mathlib.Core.Path.{refl, _∙_}
 use native.Mathlib.Omega.{arith}
 use Rattle.spec.specs.Text.{leadOf}
 use Rattle.text.specs.Steps.{stepTo}
@@ -14,22 +14,22 @@ first-spec =
     tie.close
     (tie.spec
     (λ c κs. search needs)
-    (λ c. c .more .ensures ∙ row _ 0 128 tt _ (omega arith) (omega arith))
-    (λ c. row _ 128 194 tt _ (omega arith) (omega arith))
+    (λ c. c .more .ensures ∙ row _ 0 128 refl _ (omega arith) (omega arith))
+    (λ c. row _ 128 194 refl _ (omega arith) (omega arith))
     (λ c κs. search needs)
-    (λ c. c .more2 .ensures ∙ row _ 194 224 tt _ (omega arith) (omega arith))
+    (λ c. c .more2 .ensures ∙ row _ 194 224 refl _ (omega arith) (omega arith))
     (λ c κs. search needs)
-    (λ c. c .more3 .ensures ∙ row _ 224 225 tt _ (omega arith) (omega arith))
+    (λ c. c .more3 .ensures ∙ row _ 224 225 refl _ (omega arith) (omega arith))
     (λ c κs. search needs)
-    (λ c. c .more4 .ensures ∙ row _ 225 237 tt _ (omega arith) (omega arith))
+    (λ c. c .more4 .ensures ∙ row _ 225 237 refl _ (omega arith) (omega arith))
     (λ c κs. search needs)
-    (λ c. c .more5 .ensures ∙ row _ 237 238 tt _ (omega arith) (omega arith))
+    (λ c. c .more5 .ensures ∙ row _ 237 238 refl _ (omega arith) (omega arith))
     (λ c κs. search needs)
-    (λ c. c .more6 .ensures ∙ row _ 238 240 tt _ (omega arith) (omega arith))
+    (λ c. c .more6 .ensures ∙ row _ 238 240 refl _ (omega arith) (omega arith))
     (λ c κs. search needs)
-    (λ c. c .more7 .ensures ∙ row _ 240 241 tt _ (omega arith) (omega arith))
+    (λ c. c .more7 .ensures ∙ row _ 240 241 refl _ (omega arith) (omega arith))
     (λ c κs. search needs)
-    (λ c. c .more8 .ensures ∙ row _ 241 244 tt _ (omega arith) (omega arith))
+    (λ c. c .more8 .ensures ∙ row _ 241 244 refl _ (omega arith) (omega arith))
     (λ c κs. search needs)
-    (λ c. c .more9 .ensures ∙ row _ 244 245 tt _ (omega arith) (omega arith))
-    (λ c. row _ 245 256 tt _ (omega arith) (omega arith)))
+    (λ c. c .more9 .ensures ∙ row _ 244 245 refl _ (omega arith) (omega arith))
+    (λ c. row _ 245 256 refl _ (omega arith) (omega arith)))
