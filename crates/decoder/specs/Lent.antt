@@ -1,4 +1,4 @@
--- The decoder lent: an answer without its decoder, and the decoder that is left in place.
+-- The decoder lent: an answer without its decoder, the decoder that is left in place, and both put together again.
 use Prim.Native.Nat.{ℕ}
 use mathlib.Core.List.{List}
 use Rattle.decoder.specs.declared.Decoder.{Decoder}

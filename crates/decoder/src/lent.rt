@@ -1,4 +1,4 @@
-// The decoder lent, and moved in place: thin calls of the by-value methods.
+// The decoder lent, and moved in place: thin calls of the by-value methods, and calls that lend one.
 ghost use mathlib.Core.Path.{_≡_};
 ghost use Rattle.decoder.specs.Answer.{decoder, wordFrom, longFrom, textFrom};
 ghost use Rattle.decoder.specs.Lent.{wordGiven, wordNext, longGiven, longNext, textGiven, textNext, wordOf, longOf, textOf, pairFrom};

@@ -13,7 +13,7 @@ use Rattle.spec.specs.declared.Counts.{Counts}
 use Rattle.spec.specs.declared.Loaded.{Loaded}
 use Rattle.spec.specs.Base.{ascii}
 use Rattle.spec.specs.Builtin.{builtin}
-use Rattle.spec.specs.Records.{Placed, presence, fieldsOf, fieldWords, fieldsAt, recordsFrom, operandsLog}
+use Rattle.spec.specs.Records.{Placed, recordSize, presence, fieldsOf, fieldWords, fieldsAt, recordsFrom, operandsLog}
 use Rattle.spec.specs.Load.{Outcome, enough, roomOf, load, storesOf, laidOver}
 use Rattle.spec.specs.Listing.{numbersLine, moduleLine, recordLines, lastLine, outcomeText, listing}
 use Rattle.spec.specs.Words.{AllBytes}
@@ -90,7 +90,7 @@ unfolding listing
 listing-long s h w = from-start (rw (lt-ltb 4096 (length s) h) w)
 
 -- stores that suffice for 1,019 words, lent to a load
-module _ (s i l t u : List ℕ) (hi : length i ≡ 8152) (hl : length l ≡ 9171) (ht : length t ≡ 4076) (hu : length u ≡ 3057) where
+module _ (s i l t u : List ℕ) (hi : length i ≡ recordSize * 1019) (hl : length l ≡ 9 * 1019) (ht : length t ≡ 4 * 1019) (hu : length u ≡ 3 * 1019) where
   -- the load with that room
   roomy : loading s builtin i l t u ≡ load builtin (enough 1019) s
   unfolding loading roomOf enough

@@ -1,7 +1,7 @@
 -- Laws of the listing's lines: each is written piece by piece, and how long it is at most.
 use Prim.Native.Nat.{ℕ, zero, suc, _+_, _-_, _*_, _%_, _≤_, _<_}
-use mathlib.Core.Path.{_≡_, refl, ap, sym, _∙_}
-use mathlib.Core.Bool.{Bool, true, false, _&&_}
+use mathlib.Core.Path.{_≡_, ap, sym, _∙_}
+use mathlib.Core.Bool.{Bool, true, false, _&&_, and-assoc, and-true}
 use mathlib.Core.List.{List, [], _∷_, _++_, append-assoc, append-nil}
 use native.Mathlib.Omega.{arith}
 use native.Mathlib.Nat.{sub-zero}
@@ -16,37 +16,15 @@ use Rattle.spec.specs.Base.{if_then_else_, every}
 use Rattle.spec.specs.Words.{major, minor}
 use Rattle.spec.specs.Records.{Placed, recordSize, fieldsAt}
 use Rattle.spec.specs.Listing.{numbersLine, versionLine, moduleLine, recordLines, acceptedLine, refusedLine, lastLine}
-use Rattle.listed.specs.Lines.{Wrote, numberThen, recordLine, linesOf}
+use Rattle.listed.specs.Lines.{Wrote, recordLine, linesOf}
 use Rattle.listed.proofs.Writing.{Reach, reach, wrote-none, wrote-then, decimal-few}
-
--- A LINE OF NUMBERS
-
--- the last number of a line
-pub line-last : {a b : List ℕ} {i j : ℕ} (v : ℕ) → Wrote a b i j (numberThen v 10) → Wrote a b i j (numbersLine (v ∷ []))
-unfolding numbersLine numberThen
-line-last v p = p
-
--- a number before others
-pub line-more : {a b c : List ℕ} {i j k : ℕ} (v w : ℕ) (vs : List ℕ) → Wrote a b i j (numberThen v 32)
-    → Wrote b c j k (numbersLine (w ∷ vs))
-    → Wrote a c i k (numbersLine (v ∷ w ∷ vs))
-unfolding numbersLine numberThen
-line-more v w vs p q = wrote-then p q
 
 -- THE MODULE LINE
 
 -- five header words are all 0
 pub zero-all : (h : List ℕ) → length h ≡ 5
     → (eqb (getD h 0 0) 0 && eqb (getD h 1 0) 0 && eqb (getD h 2 0) 0 && eqb (getD h 3 0) 0 && eqb (getD h 4 0) 0) ≡ every (λ w. eqb w 0) h
-zero-all (a ∷ b ∷ c ∷ d ∷ e ∷ []) n = all-five (eqb a 0) (eqb b 0) (eqb c 0) (eqb d 0) (eqb e 0)
-  where
-    all-five : (a b c d e : Bool) → ((((a && b) && c) && d) && e) ≡ (a && (b && (c && (d && (e && true)))))
-    all-five true true true true true = refl
-    all-five true true true true false = refl
-    all-five true true true false e = refl
-    all-five true true false d e = refl
-    all-five true false c d e = refl
-    all-five false b c d e = refl
+zero-all (a ∷ b ∷ c ∷ d ∷ e ∷ []) n = simp (and-assoc, and-true)
 zero-all [] n = absurd (omega arith)
 zero-all (a ∷ []) n = absurd (omega arith)
 zero-all (a ∷ b ∷ []) n = absurd (omega arith)

@@ -5,11 +5,10 @@ use mathlib.Core.Bool.{Bool, true, false}
 use mathlib.Core.List.{List, [], _∷_, _++_}
 use native.Mathlib.Omega.{arith}
 use native.Mathlib.Nat.{add-zero}
-use native.Mathlib.Numerals.{add-one}
 use borrow.Author.Tests.{lt-ltb, le-ltb}
 use lib.Dec.{ltb}
-use lib.ListN.{length, getD, take, set, length-append}
-use lib.Seq.{sets, length-sets, take-suc, length-take-le, take-all}
+use lib.ListN.{length, length-append}
+use lib.Seq.{sets, length-sets}
 use Rattle.spec.specs.Base.{if_then_else_}
 use Rattle.spec.specs.Listing.{digitsFrom, decimal}
 use Rattle.spec.proofs.Store.{sets-append}
@@ -42,24 +41,6 @@ pub record Reach (a b : List ℕ) (i j n : ℕ) : Type 0 where
 pub reach : {a b : List ℕ} {i j : ℕ} {s : List ℕ} (n : ℕ) → Wrote a b i j s → length s ≤ n → Reach a b i j n
 reach {a} {b} {i} {j} {s} n w h =
     record { near = omega (arith, w .ends); same = ap length (w .is) ∙ length-sets a i s }
-
--- BYTES
-
--- the first bytes of some are written, and one more
-pub wrote-more : (a b s : List ℕ) (at i : ℕ) → b ≡ sets a at (take i s) → i < length s
-    → set b (at + i) (getD s i 0) ≡ sets a at (take (i + 1) s)
-wrote-more a b s at i e h =
-    let n : length (take i s) ≡ i = length-take-le i s (omega arith) in
-    let m : take (i + 1) s ≡ take i s ++ (getD s i 0 ∷ []) = ap (λ (k : ℕ). take k s) (add-one i) ∙ take-suc s i 0 h in
-    ap (λ (l : List ℕ). set l (at + i) (getD s i 0)) e
-    ∙ ap (λ (k : ℕ). set (sets a at (take i s)) (at + k) (getD s i 0)) (sym n)
-    ∙ sets-append (take i s) (getD s i 0 ∷ []) a at
-    ∙ ap (λ (l : List ℕ). sets a at l) (sym m)
-
--- all of them are written
-pub wrote-all : (a b s : List ℕ) (at i : ℕ) → b ≡ sets a at (take i s) → i ≤ length s → length s ≤ i → Wrote a b at (at + i) s
-wrote-all a b s at i e h g =
-    record { is = e ∙ ap (λ (l : List ℕ). sets a at l) (take-all i s g); ends = ap (λ (k : ℕ). at + k) (omega arith) }
 
 -- DIGITS
 

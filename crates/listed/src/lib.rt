@@ -12,9 +12,13 @@ ghost use Rattle.spec.specs.Listing.{decimal as decimalOf, listing as listingOf
 ghost use Rattle.listed.specs.Lines.{Wrote, numberThen, recordLine, linesOf};
 use spec::Fields;
 use spec::Loaded;
+use spec::refusals;
 
 // How many bytes a listing has at most: 76 in the module line, 105 in each of 1,019 record lines, 71 in the last.
 pub const ROOM: usize = 107142;
+
+// How many words 4,096 bytes have after the header: the stores lent to the load suffice for so many.
+const MOST: usize = 1019;
 
 // PIECES: each puts its text into the buffer from a place on, and answers where the text ends
 
@@ -27,17 +31,13 @@ fn put(out: &mut [u8], at: usize, b: u8) -> usize
     at + 1
 }
 
-// Bytes.
-fn put_all(out: &mut [u8], at: usize, s: &[u8]) -> usize
+// A text.
+fn put_text(out: &mut [u8], at: usize, s: &[u8]) -> usize
     requires { ⌜ at + length (now s) ≤ length (now out) ⌝ }
     ensures { λ r. ⌜ Wrote (now (out .entry)) (now (out .exit)) at r (now (s .entry)) ⌝ }
 {
-    let mut i = 0;
-    while i < s.len() {
-        out[at + i] = s[i];
-        i += 1;
-    }
-    at + i
+    words::put_bytes(out, at, s);
+    at + s.len()
 }
 
 // A number's decimal digits, at most n of them.
@@ -86,10 +86,10 @@ fn version_line(out: &mut [u8], at: usize, version: u32, bound: u32) -> usize
     requires { ⌜ at + 76 ≤ length (now out) ⌝ }
     ensures { λ r. ⌜ Wrote (now (out .entry)) (now (out .exit)) at r (versionLine version bound) ⌝ }
 {
-    let a = put_all(out, at, b"module ");
+    let a = put_text(out, at, b"module ");
     let b = number(out, a, (version / 65536 % 256) as u64, b'.');
     let c = decimal(out, b, (version / 256 % 256) as u64);
-    let d = put_all(out, c, b" bound ");
+    let d = put_text(out, c, b" bound ");
     number(out, d, bound as u64, b'\n')
 }
 
@@ -140,7 +140,7 @@ fn accepted_line(out: &mut [u8], at: usize, n: usize) -> usize
     requires { ⌜ at + 71 ≤ length (now out) ⌝ }
     ensures { λ r. ⌜ Wrote (now (out .entry)) (now (out .exit)) at r (acceptedLine n) ⌝ }
 {
-    let a = put_all(out, at, b"accepted ");
+    let a = put_text(out, at, b"accepted ");
     number(out, a, n as u64, b'\n')
 }
 
@@ -149,7 +149,7 @@ fn refused_line(out: &mut [u8], at: usize, n: u32, offset: usize, index: usize) 
     requires { ⌜ at + 71 ≤ length (now out) ⌝ }
     ensures { λ r. ⌜ Wrote (now (out .entry)) (now (out .exit)) at r (refusedLine n offset index) ⌝ }
 {
-    let a = put_all(out, at, b"refused ");
+    let a = put_text(out, at, b"refused ");
     let b = number(out, a, n as u64, b' ');
     let c = number(out, b, offset as u64, b' ');
     number(out, c, index as u64, b'\n')
@@ -160,7 +160,7 @@ fn last_line(out: &mut [u8], at: usize, l: Loaded) -> usize
     requires { ⌜ at + 71 ≤ length (now out) ⌝ }
     ensures { λ r. ⌜ Wrote (now (out .entry)) (now (out .exit)) at r (lastLine l) ⌝ }
 {
-    if l.number == 0 {
+    if l.number == refusals::ACCEPTED {
         return accepted_line(out, at, l.counts.instructions);
     }
     refused_line(out, at, l.number, l.offset, l.index)
@@ -186,12 +186,12 @@ pub fn listing(module: &[u8], out: &mut [u8]) -> usize
     ensures { λ _. ⌜ now (out .exit) ≡ laidOver (now (out .entry)) (listingOf (now («module» .entry))) ⌝ }
 {
     if 4096 < module.len() {
-        return put_all(out, 0, b"too long\n");
+        return put_text(out, 0, b"too long\n");
     }
-    let mut instructions = [0u32; 8152];
-    let mut log = [0u8; 9171];
-    let mut strings = [0u8; 4076];
-    let mut types = [0u32; 3057];
+    let mut instructions = [0u32; records::RECORD * MOST];
+    let mut log = [0u8; 9 * MOST];
+    let mut strings = [0u8; 4 * MOST];
+    let mut types = [0u32; 3 * MOST];
     let l = loader::load_builtin(
         module,
         &mut instructions,

@@ -29,6 +29,9 @@ use Rattle.decoder.proofs.Decoder.string as string-call
 use Rattle.decoder.proofs.word_in as word-in-call
 use Rattle.decoder.proofs.int64_in as int64-in-call
 use Rattle.decoder.proofs.string_in as string-in-call
+use Rattle.decoder.proofs.word_lent as word-lent-call
+use Rattle.decoder.proofs.int64_lent as int64-lent-call
+use Rattle.decoder.proofs.string_lent as string-lent-call
 use Rattle.decoder.proofs.word_and_string as word-and-string-call
 use Rattle.reflect.proofs.opcode_kind as opcode-kind-call
 use Rattle.reflect.proofs.is_type as is-type-call
@@ -137,6 +140,16 @@ string-in =
       free = λ w κs a g m. tt;
       one = λ w κs a g x y after other m n p q. both-lent w m n (text-given-type.the-row .coded) (decoder-type.the-row .coded) p q;
     }
+
+-- a word, a 64-bit literal and a string, or the refusal, by a decoder that is lent
+pub word-lent : Offered word-lent-call.Kinds.ps word-lent-call.Kinds.r word-lent-call.Reads.Asked word-lent-call.Reads.Learnt
+word-lent = record { free = λ κs a. tt; one = λ κs a x y after other p q. (both p q, refl) }
+
+pub int64-lent : Offered int64-lent-call.Kinds.ps int64-lent-call.Kinds.r int64-lent-call.Reads.Asked int64-lent-call.Reads.Learnt
+int64-lent = record { free = λ κs a. tt; one = λ κs a x y after other p q. (both p q, refl) }
+
+pub string-lent : Offered string-lent-call.Kinds.ps string-lent-call.Kinds.r string-lent-call.Reads.Asked string-lent-call.Reads.Learnt
+string-lent = record { free = λ κs a. tt; one = λ κs a x y after other p q. (both p q, refl) }
 
 -- a word and the string after it, each or its refusal, and the place after both
 pub word-and-string :

@@ -13,8 +13,8 @@ listing-spec =
     (tie.spec
     (λ c. search needs)
     (λ c κs. omega arith)
-    (λ c. c .before .before .put-all .kept .0)
-    (λ c. listing-long _ (c .before .before .before .before .before .if1 .taken) (c .before .before .put-all .ensures))
+    (λ c. c .before .before .put-text .kept .0)
+    (λ c. listing-long _ (c .before .before .before .before .before .if1 .taken) (c .before .before .put-text .ensures))
     (λ c. search needs)
     (λ c. search needs)
     (λ c. search needs)
