@@ -1,13 +1,14 @@
 -- Laws of ASCII text: how the loop over it goes, that no byte is zero, and that it is UTF-8.
 use Prim.Native.Nat.{ℕ, zero, suc, _+_, _<_, _≤_}
 use mathlib.Core.Path.{_≡_, refl, ap, sym, subst, _∙_}
-use mathlib.Core.Bool.{Bool, true, false, not, _&&_}
+use mathlib.Core.Bool.{Bool, true, not, _&&_, and-assoc, and-true}
 use mathlib.Core.List.{List, [], _∷_}
 use mathlib.Core.Option.{Option, some}
 use native.Mathlib.Omega.{arith}
 use borrow.Author.Tests.{le-leb, ne-eqb}
 use lib.Dec.{T, leb, ltb, leb→le, ltb→lt, eqb}
 use lib.ListN.{length, take, drop, getD, drop-of-length-le}
+use lib.Ieee.Fits.{and-i}
 use mir.Facts.{and-yes}
 use Rattle.spec.specs.Base.{if_then_else_, every}
 use Rattle.spec.specs.Text.{Due, due, utf8Table, leadOf, dueAfter, onDue, utf8From, isUtf8}
@@ -16,17 +17,6 @@ use Rattle.text.proofs.Laws.{rest}
 
 -- THE LOOP
 
--- tests in a row
-in-a-row : (t u v w : Bool) → (t && ((u && v) && w)) ≡ (((t && u) && v) && w)
-in-a-row true true v w = refl
-in-a-row true false v w = refl
-in-a-row false u v w = refl
-
--- a last test that holds
-then-true : (t : Bool) → (t && true) ≡ t
-then-true true = refl
-then-true false = refl
-
 -- one byte further
 pub ascii-turn : (s : List ℕ) (i : ℕ) (t : Bool) → i < length s → isAsciiText s ≡ (t && isAsciiText (drop i s))
     → isAsciiText s ≡ (((t && leb 1 (getD s i 0)) && ltb (getD s i 0) 128) && isAsciiText (drop (i + 1) s))
@@ -34,12 +24,12 @@ unfolding isAsciiText
 ascii-turn s i t h e =
     e
     ∙ ap (λ (l : List ℕ). t && isAsciiText l) (rest s i h)
-    ∙ in-a-row t (leb 1 (getD s i 0)) (ltb (getD s i 0) 128) (isAsciiText (drop (i + 1) s))
+    ∙ simp and-assoc
 
 -- all of them
 pub ascii-end : (s : List ℕ) (i : ℕ) (t : Bool) → length s ≤ i → isAsciiText s ≡ (t && isAsciiText (drop i s)) → t ≡ isAsciiText s
 unfolding isAsciiText
-ascii-end s i t h e = sym (e ∙ ap (λ (l : List ℕ). t && isAsciiText l) (drop-of-length-le s {i = i} h) ∙ then-true t)
+ascii-end s i t h e = sym (e ∙ ap (λ (l : List ℕ). t && isAsciiText l) (drop-of-length-le s {i = i} h) ∙ and-true t)
 
 -- WHAT THEY ARE
 
@@ -73,11 +63,6 @@ well-formed (b ∷ s) h =
     let u = ascii-cons b s h in
     ap (λ (o : Option Due). onDue o (λ d. utf8From d s)) (whole-byte b (u .1)) ∙ well-formed s (u .2)
 
--- two tests that hold
-both : (t u : Bool) → T t → T u → T (t && u)
-both true u h g = g
-both false u h g = h
-
 -- those from a place on
 ascii-drop : (n : ℕ) (s : List ℕ) → T (isAsciiText s) → T (isAsciiText (drop n s))
 ascii-drop zero s h = h
@@ -90,7 +75,7 @@ unfolding isAsciiText
 ascii-take zero s h = tt
 ascii-take (suc n) [] h = h
 ascii-take (suc n) (b ∷ s) h =
-    both (leb 1 b && ltb b 128) (isAsciiText (take n s)) (and-yes (leb 1 b && ltb b 128) (isAsciiText s) h .0) (ascii-take n s (ascii-cons b s h .2))
+    and-i (leb 1 b && ltb b 128) (isAsciiText (take n s)) (and-yes (leb 1 b && ltb b 128) (isAsciiText s) h .0) (ascii-take n s (ascii-cons b s h .2))
 
 -- a part of it is ASCII text
 pub ascii-part : (n k : ℕ) (s : List ℕ) → T (isAsciiText s) → T (isAsciiText (take n (drop k s)))
