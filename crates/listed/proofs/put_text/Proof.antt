@@ -12,4 +12,4 @@ put-text-spec =
     (λ c κs. search needs)
     (λ c. omega arith)
     (λ c. search needs)
-    (λ c. record { is = ?; ends = refl }))
+    (λ c. record { is = c .before .before .put-bytes .ensures; ends = refl }))
