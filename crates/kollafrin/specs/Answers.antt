@@ -1,5 +1,6 @@
--- The answers as the words that a caller is lent, and a store that bytes are put into where they fit.
+-- The answers as the words that a caller is lent, what each call answers and leaves, and a store that bytes are put into where they fit.
 use Prim.Native.Nat.{ℕ, _/_, _%_}
+use mathlib.Core.Path.{_≡_}
 use mathlib.Core.List.{List, [], _∷_}
 use lib.Dec.{leb}
 use lib.ListN.{length, getD}
@@ -7,7 +8,10 @@ use Rattle.spec.specs.declared.Loaded.{Loaded}
 use Rattle.spec.specs.declared.Written.{Written}
 use Rattle.spec.specs.declared.Stands.{Stands}
 use Rattle.spec.specs.Base.{if_then_else_}
-use Rattle.spec.specs.Load.{laidOver}
+use Rattle.spec.specs.Words.{AllBytes}
+use Rattle.spec.specs.Load.{Stores, storesOf, laidOver, laidOn}
+use Rattle.spec.specs.Write.{Writing}
+use Rattle.loader.specs.Loading.{loading}
 
 -- the version of the layouts and calls, raised whenever the layout of a store or an answer, or what a call takes, changes
 unfoldable pub version : ℕ
@@ -20,13 +24,31 @@ loadAnswer x =
     ∷ x .counts .types ∷ getD (x .header) 0 0 ∷ getD (x .header) 1 0 ∷ getD (x .header) 2 0 ∷ getD (x .header) 3 0
     ∷ getD (x .header) 4 0 ∷ 0 ∷ 0 ∷ 0 ∷ []
 
+-- what a load of a module by a grammar answers, as its number and in words, and leaves in the stores; and that the module is bytes
+pub record LoadAnswers (m g : List ℕ) (before after : Stores) (answer : List ℕ) (r : ℕ) : Type 0 where
+  pub number : r ≡ loading m g before .said .number
+  pub words : answer ≡ loadAnswer (loading m g before .said)
+  pub stores : after ≡ laidOn before (storesOf (loading m g before))
+  pub bytes : AllBytes m
+
 -- number, index, bytes written: the low word, then the high word
 unfoldable pub writeAnswer : Written → List ℕ
 writeAnswer x = x .number ∷ x .index ∷ x .bytes % 4294967296 ∷ x .bytes / 4294967296 ∷ []
 
+-- what a write of which x became answers, as its number and in words, and leaves in the output
+pub record WriteAnswers (x : Writing) (out answer : List ℕ) (r : ℕ) : Type 0 where
+  pub number : r ≡ x .said .number
+  pub words : answer ≡ writeAnswer (x .said)
+  pub output : out ≡ x .output
+
 -- number, index, 1 for yes and 0 for no, 0
 unfoldable pub standAnswer : Stands → List ℕ
 standAnswer x = x .number ∷ x .index ∷ (if x .yes then 1 else 0) ∷ 0 ∷ []
+
+-- what is answered of standing, as the number and in words
+pub record StandAnswers (x : Stands) (answer : List ℕ) (r : ℕ) : Type 0 where
+  pub number : r ≡ x .number
+  pub words : answer ≡ standAnswer x
 
 -- bytes at the start of a store where they fit, else the store as it was
 unfoldable pub laidIn : List ℕ → List ℕ → List ℕ

@@ -9,13 +9,11 @@ ghost use mathlib.Core.Path.{_≡_};
 ghost use Prim.Native.Nat.{_<_};
 ghost use lib.ListN.{length};
 ghost use Rattle.spec.specs.Base.{if_then_else_};
-ghost use Rattle.spec.specs.Words.{AllBytes};
 ghost use Rattle.spec.specs.Builtin.{builtin};
-ghost use Rattle.spec.specs.Load.{storesOf, laidOver, Small};
+ghost use Rattle.spec.specs.Load.{lent, Small};
 ghost use Rattle.spec.specs.Write.{writeParse, writeModule, standing as standingOf};
 ghost use Rattle.records.specs.Steps.{given};
-ghost use Rattle.loader.specs.Loading.{loading};
-ghost use Rattle.kollafrin.specs.Answers.{version, loadAnswer, writeAnswer, standAnswer, laidIn};
+ghost use Rattle.kollafrin.specs.Answers.{version, loadAnswer, LoadAnswers, writeAnswer, WriteAnswers, StandAnswers, laidIn};
 use spec::Loaded;
 use spec::Stands;
 use spec::Written;
@@ -77,8 +75,7 @@ fn yes_or_no(yes: bool) -> u32
 // The answer of standing into words.
 fn say_standing(x: Stands, answer: &mut [u32; 4]) -> u32
     requires { ⌜ x .index < 4294967296 ⌝ }
-    ensures { λ r. ⌜ r ≡ x .number ⌝ }
-    ensures { λ _. ⌜ now (answer .exit) ≡ standAnswer x ⌝ }
+    ensures { λ r. ⌜ StandAnswers x (now (answer .exit)) r ⌝ }
 {
     let yes = yes_or_no(x.yes);
     *answer = [x.number, x.index as u32, yes, 0];
@@ -125,13 +122,10 @@ pub extern "C" fn kollafrin_load(
     types: &mut [u32],
     answer: &mut [u32; 16],
 ) -> u32
-    ensures { λ r. ⌜ r ≡ loading (now («module» .entry)) (now (grammar .entry)) (now (instructions .entry)) (now (log .entry)) (now (strings .entry)) (now (types .entry)) .said .number ⌝ }
-    ensures { λ _. ⌜ now (answer .exit) ≡ loadAnswer (loading (now («module» .entry)) (now (grammar .entry)) (now (instructions .entry)) (now (log .entry)) (now (strings .entry)) (now (types .entry)) .said) ⌝ }
-    ensures { λ _. ⌜ now (instructions .exit) ≡ laidOver (now (instructions .entry)) (storesOf (loading (now («module» .entry)) (now (grammar .entry)) (now (instructions .entry)) (now (log .entry)) (now (strings .entry)) (now (types .entry))) .instructions) ⌝ }
-    ensures { λ _. ⌜ now (log .exit) ≡ laidOver (now (log .entry)) (storesOf (loading (now («module» .entry)) (now (grammar .entry)) (now (instructions .entry)) (now (log .entry)) (now (strings .entry)) (now (types .entry))) .log) ⌝ }
-    ensures { λ _. ⌜ now (strings .exit) ≡ laidOver (now (strings .entry)) (storesOf (loading (now («module» .entry)) (now (grammar .entry)) (now (instructions .entry)) (now (log .entry)) (now (strings .entry)) (now (types .entry))) .strings) ⌝ }
-    ensures { λ _. ⌜ now (types .exit) ≡ laidOver (now (types .entry)) (storesOf (loading (now («module» .entry)) (now (grammar .entry)) (now (instructions .entry)) (now (log .entry)) (now (strings .entry)) (now (types .entry))) .types) ⌝ }
-    ensures { λ _. ⌜ AllBytes (now («module» .entry)) ⌝ }
+    ensures { λ r. ⌜ LoadAnswers (now («module» .entry)) (now (grammar .entry))
+        (lent (now (instructions .entry)) (now (log .entry)) (now (strings .entry)) (now (types .entry)))
+        (lent (now (instructions .exit)) (now (log .exit)) (now (strings .exit)) (now (types .exit)))
+        (now (answer .exit)) r ⌝ }
 {
     let x = loader::load(module, grammar, instructions, log, strings, types);
     say_loaded(x, answer)
@@ -147,13 +141,10 @@ pub extern "C" fn kollafrin_load_builtin(
     types: &mut [u32],
     answer: &mut [u32; 16],
 ) -> u32
-    ensures { λ r. ⌜ r ≡ loading (now («module» .entry)) builtin (now (instructions .entry)) (now (log .entry)) (now (strings .entry)) (now (types .entry)) .said .number ⌝ }
-    ensures { λ _. ⌜ now (answer .exit) ≡ loadAnswer (loading (now («module» .entry)) builtin (now (instructions .entry)) (now (log .entry)) (now (strings .entry)) (now (types .entry)) .said) ⌝ }
-    ensures { λ _. ⌜ now (instructions .exit) ≡ laidOver (now (instructions .entry)) (storesOf (loading (now («module» .entry)) builtin (now (instructions .entry)) (now (log .entry)) (now (strings .entry)) (now (types .entry))) .instructions) ⌝ }
-    ensures { λ _. ⌜ now (log .exit) ≡ laidOver (now (log .entry)) (storesOf (loading (now («module» .entry)) builtin (now (instructions .entry)) (now (log .entry)) (now (strings .entry)) (now (types .entry))) .log) ⌝ }
-    ensures { λ _. ⌜ now (strings .exit) ≡ laidOver (now (strings .entry)) (storesOf (loading (now («module» .entry)) builtin (now (instructions .entry)) (now (log .entry)) (now (strings .entry)) (now (types .entry))) .strings) ⌝ }
-    ensures { λ _. ⌜ now (types .exit) ≡ laidOver (now (types .entry)) (storesOf (loading (now («module» .entry)) builtin (now (instructions .entry)) (now (log .entry)) (now (strings .entry)) (now (types .entry))) .types) ⌝ }
-    ensures { λ _. ⌜ AllBytes (now («module» .entry)) ⌝ }
+    ensures { λ r. ⌜ LoadAnswers (now («module» .entry)) builtin
+        (lent (now (instructions .entry)) (now (log .entry)) (now (strings .entry)) (now (types .entry)))
+        (lent (now (instructions .exit)) (now (log .exit)) (now (strings .exit)) (now (types .exit)))
+        (now (answer .exit)) r ⌝ }
 {
     let x = loader::load_builtin(module, instructions, log, strings, types);
     say_loaded(x, answer)
@@ -172,9 +163,10 @@ pub extern "C" fn kollafrin_write_parse_order(
     out: &mut [u8],
     answer: &mut [u32; 4],
 ) -> u32
-    ensures { λ r. ⌜ r ≡ writeParse (now (header .entry)) (given (now (instructions .entry)) (now (log .entry)) (now (strings .entry)) «instruction_count» «log_count» «string_count») (now (out .entry)) .said .number ⌝ }
-    ensures { λ _. ⌜ now (answer .exit) ≡ writeAnswer (writeParse (now (header .entry)) (given (now (instructions .entry)) (now (log .entry)) (now (strings .entry)) «instruction_count» «log_count» «string_count») (now (out .entry)) .said) ⌝ }
-    ensures { λ _. ⌜ now (out .exit) ≡ writeParse (now (header .entry)) (given (now (instructions .entry)) (now (log .entry)) (now (strings .entry)) «instruction_count» «log_count» «string_count») (now (out .entry)) .output ⌝ }
+    ensures { λ r. ⌜ WriteAnswers
+        (writeParse (now (header .entry)) (given (now (instructions .entry)) (now (log .entry)) (now (strings .entry))
+        «instruction_count» «log_count» «string_count») (now (out .entry)))
+        (now (out .exit)) (now (answer .exit)) r ⌝ }
 {
     let words = *header;
     let x = assemble::write_parse_order(
@@ -203,9 +195,10 @@ pub extern "C" fn kollafrin_write_module_order(
     out: &mut [u8],
     answer: &mut [u32; 4],
 ) -> u32
-    ensures { λ r. ⌜ r ≡ writeModule (now (header .entry)) (given (now (instructions .entry)) (now (log .entry)) (now (strings .entry)) «instruction_count» «log_count» «string_count») (now (out .entry)) .said .number ⌝ }
-    ensures { λ _. ⌜ now (answer .exit) ≡ writeAnswer (writeModule (now (header .entry)) (given (now (instructions .entry)) (now (log .entry)) (now (strings .entry)) «instruction_count» «log_count» «string_count») (now (out .entry)) .said) ⌝ }
-    ensures { λ _. ⌜ now (out .exit) ≡ writeModule (now (header .entry)) (given (now (instructions .entry)) (now (log .entry)) (now (strings .entry)) «instruction_count» «log_count» «string_count») (now (out .entry)) .output ⌝ }
+    ensures { λ r. ⌜ WriteAnswers
+        (writeModule (now (header .entry)) (given (now (instructions .entry)) (now (log .entry)) (now (strings .entry))
+        «instruction_count» «log_count» «string_count») (now (out .entry)))
+        (now (out .exit)) (now (answer .exit)) r ⌝ }
 {
     let words = *header;
     let x = assemble::write_module_order(
@@ -232,8 +225,10 @@ pub extern "C" fn kollafrin_standing(
     string_count: usize,
     answer: &mut [u32; 4],
 ) -> u32
-    ensures { λ r. ⌜ r ≡ standingOf (given (now (instructions .entry)) (now (log .entry)) (now (strings .entry)) «instruction_count» «log_count» «string_count») .number ⌝ }
-    ensures { λ _. ⌜ now (answer .exit) ≡ standAnswer (standingOf (given (now (instructions .entry)) (now (log .entry)) (now (strings .entry)) «instruction_count» «log_count» «string_count»)) ⌝ }
+    ensures { λ r. ⌜ StandAnswers
+        (standingOf (given (now (instructions .entry)) (now (log .entry)) (now (strings .entry))
+        «instruction_count» «log_count» «string_count»))
+        (now (answer .exit)) r ⌝ }
 {
     let x = assemble::standing(
         instructions,

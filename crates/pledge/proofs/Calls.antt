@@ -10,14 +10,13 @@ use denote.Triple.Clauses.{Lasts, atExit}
 use borrow.Fn.Kinds.{PK, RK, Out, Dens, resT, endedOf}
 use Rattle.spec.specs.declared.Loaded.{Loaded}
 use Rattle.spec.specs.declared.Written.{Written}
-use Rattle.spec.specs.Words.{AllBytes}
 use Rattle.spec.specs.Records.{recordSize, entrySize}
-use Rattle.spec.specs.Load.{counts, Outcome, load, Stores, storesOf, roomIn, laidOn}
+use Rattle.spec.specs.Load.{counts, Outcome, Stores, lent}
 use Rattle.spec.specs.Check.{Given}
 use Rattle.spec.specs.Write.{Writing}
 use Rattle.spec.specs.Builtin.{builtin}
 use Rattle.records.specs.Steps.{given as records-given}
-use Rattle.round_trip.specs.Trip.{lent}
+use Rattle.loader.specs.Loading.{loading, Loads as LoadsSo}
 use Rattle.loader.proofs.load as load-fn
 use Rattle.loader.proofs.load_builtin as load-builtin-fn
 use Rattle.assemble.proofs.write_parse_order as write-parse-fn
@@ -49,7 +48,7 @@ pub record Load : Type 0 where
 
 -- what the definition makes of it
 abbrev pub outcome : Load → Outcome
-outcome v = load (v .grammar) (roomIn (v .before)) (v .bytes)
+outcome v = loading (v .bytes) (v .grammar) (v .before)
 
 -- the records that it leaves: each store up to its count
 abbrev pub records : Load → Stores
@@ -58,12 +57,10 @@ records v =
     lent (take (recordSize * n .instructions) (v .after .instructions)) (take (n .log) (v .after .log))
     (take (n .strings) (v .after .strings)) (take (entrySize * n .types) (v .after .types))
 
--- it is as the definition says: the answer; and in each store the records of what is kept, laid over what was there. The module is
--- bytes
-pub record Loads (v : Load) : Type 0 where
-  pub said : v .answer ≡ outcome v .said
-  pub stores : v .after ≡ laidOn (v .before) (storesOf (outcome v))
-  pub bytes : AllBytes (v .bytes)
+-- it is as the contract of a load says: the answer; and in each store the records of what is left, laid over what was there. The
+-- module is bytes
+abbrev pub Loads : Load → Type 0
+Loads v = LoadsSo (v .bytes) (v .grammar) (v .before) (v .after) (v .answer)
 
 -- a call of `load`
 abbrev pub LoadCall : Type 0

@@ -13,7 +13,7 @@ use Rattle.spec.specs.declared.State.{State}
 use Rattle.spec.specs.declared.Loaded.{Loaded}
 use Rattle.spec.specs.declared.Written.{Written}
 use Rattle.spec.specs.Layout.{endNumber}
-use Rattle.spec.specs.Load.{Outcome, lacksRoom, load, Stores, storesOf, roomIn, laidOn}
+use Rattle.spec.specs.Load.{Outcome, lacksRoom, load, Stores, lent, storesOf, roomIn, laidOn}
 use Rattle.spec.specs.Plain.{plainBy, isPlain}
 use Rattle.spec.specs.Check.{check, givenBy}
 use Rattle.spec.specs.Write.{parseBytes, moduleBytes, Writing, writeParse, writeModule, written, wrote}
@@ -42,8 +42,7 @@ use Rattle.kollafrin.proofs.kollafrin_write_module_order.Statement as door-writ
 use Rattle.kollafrin.proofs.kollafrin_write_module_order.Met as door-write-module-proof
 use Rattle.round_trip.proofs.round_trip.Statement as round-trip-contract
 use Rattle.round_trip.proofs.round_trip.Met as round-trip-proof
-use Rattle.round_trip.specs.Trip.{lent, RoundTrip}
-use Rattle.round_trip.proofs.Trips.{laid-each}
+use Rattle.round_trip.specs.Trip.{RoundTrip}
 use Rattle.pledge.proofs.Calls.{Load, outcome, records, Loads, LoadCall, load-seen, LoadBuiltinCall, load-builtin-seen, DoorLoadCall, door-load-seen, DoorLoadBuiltinCall, door-load-builtin-seen, Loading, by-load, by-load-builtin, by-door, by-door-builtin, seen, Write, Writes, WriteParseCall, write-parse-seen, WriteModuleCall, write-module-seen, DoorWriteParseCall, door-write-parse-seen, DoorWriteModuleCall, door-write-module-seen, ParseWriting, by-write-parse, by-door-parse, parse-seen, ModuleWriting, by-write-module, by-door-module, module-seen, RoundTripCall}
 use Rattle.pledge.proofs.Told.{loaded-by, written-by, refused-by, leaves-so, records-are}
 
@@ -52,52 +51,28 @@ use Rattle.pledge.proofs.Told.{loaded-by, written-by, refused-by, leave
 -- `load` answers what the definition of a load says of the module, by the grammar and the room in the stores; and leaves each store
 -- with the records of the instructions kept from its start on, and past them what was there
 pub load-loads : (c : LoadCall) → Loads (load-seen c)
-unfolding loading roomIn
-load-loads c =
-    let p = c .told in
-    let t = p .1 in
-    record { said = p .0; stores = laid-each _ _ (t .0) (t .1 .0) (t .1 .1 .0) (t .1 .1 .1 .0); bytes = t .1 .1 .1 .1 }
+load-loads c = c .told
 
 pub load-met : {M : Type 1} → load-contract.statement M
 load-met = load-proof.met
 
 -- `load_builtin` does the same by the built-in grammar
 pub load-builtin-loads : (c : LoadBuiltinCall) → Loads (load-builtin-seen c)
-unfolding loading roomIn
-load-builtin-loads c =
-    let p = c .told in
-    let t = p .1 in
-    record { said = p .0; stores = laid-each _ _ (t .0) (t .1 .0) (t .1 .1 .0) (t .1 .1 .1 .0); bytes = t .1 .1 .1 .1 }
+load-builtin-loads c = c .told
 
 pub load-builtin-met : {M : Type 1} → load-builtin-contract.statement M
 load-builtin-met = load-builtin-proof.met
 
 -- `kollafrin_load` does the same, its answer in words
 pub door-load-loads : (c : DoorLoadCall) → Loads (door-load-seen c)
-unfolding loading roomIn
-door-load-loads c =
-    let p = c .told .1 in
-    let t = p .1 in
-    record {
-      said = loaded-by _ _ _ _ (p .0);
-      stores = laid-each _ _ (t .0) (t .1 .0) (t .1 .1 .0) (t .1 .1 .1 .0);
-      bytes = t .1 .1 .1 .1;
-    }
+door-load-loads c = loaded-by (c .told)
 
 pub door-load-met : {M : Type 1} → door-load-contract.statement M
 door-load-met = door-load-proof.met
 
 -- and `kollafrin_load_builtin`
 pub door-load-builtin-loads : (c : DoorLoadBuiltinCall) → Loads (door-load-builtin-seen c)
-unfolding loading roomIn
-door-load-builtin-loads c =
-    let p = c .told .1 in
-    let t = p .1 in
-    record {
-      said = loaded-by _ _ _ _ (p .0);
-      stores = laid-each _ _ (t .0) (t .1 .0) (t .1 .1 .0) (t .1 .1 .1 .0);
-      bytes = t .1 .1 .1 .1;
-    }
+door-load-builtin-loads c = loaded-by (c .told)
 
 pub door-load-builtin-met : {M : Type 1} → door-load-builtin-contract.statement M
 door-load-builtin-met = door-load-builtin-proof.met
@@ -118,7 +93,7 @@ write-parse-met = write-parse-proof.met
 
 -- `kollafrin_write_parse_order` does the same, its answer in words
 pub door-write-parse-writes : (c : DoorWriteParseCall) → Writes writeParse (door-write-parse-seen c)
-door-write-parse-writes c = record { said = written-by _ _ (c .told .1 .0); output = c .told .1 .1 }
+door-write-parse-writes c = record { said = written-by _ _ (c .told .words); output = c .told .output }
 
 pub door-write-parse-met : {M : Type 1} → door-write-parse-contract.statement M
 door-write-parse-met = door-write-parse-proof.met
@@ -137,7 +112,7 @@ write-module-met = write-module-proof.met
 
 -- and `kollafrin_write_module_order`, its answer in words
 pub door-write-module-writes : (c : DoorWriteModuleCall) → Writes writeModule (door-write-module-seen c)
-door-write-module-writes c = record { said = written-by _ _ (c .told .1 .0); output = c .told .1 .1 }
+door-write-module-writes c = record { said = written-by _ _ (c .told .words); output = c .told .output }
 
 pub door-write-module-met : {M : Type 1} → door-write-module-contract.statement M
 door-write-module-met = door-write-module-proof.met
@@ -161,12 +136,14 @@ pub record CutSays (v u : Load) : Type 0 where
 module _ (c : Loading) where
   -- a load's number is 0 to 28, or 31
   pub load-number : OfLoad (seen c .answer .number)
-  load-number = let v = seen c in rw (loads c .said) (number-bound (v .grammar) (roomIn (v .before)) (v .bytes))
+  unfolding loading
+  load-number = let v = seen c in rw (loads c .leaves .said) (number-bound (v .grammar) (roomIn (v .before)) (v .bytes))
 
   -- and comes from the grammar (24), the module's length (31), the header (1 to 3), reading an instruction (4 to 14), the layout (15
   -- to 23), room that lacks (25 to 28), or the end (0, 16, 21)
   pub load-source : Source (seen c .grammar) (seen c .bytes) OfRoom (seen c .answer .number)
-  load-source = let v = seen c in rw (loads c .said) (number-source (v .grammar) (roomIn (v .before)) (v .bytes))
+  unfolding loading
+  load-source = let v = seen c in rw (loads c .leaves .said) (number-source (v .grammar) (roomIn (v .before)) (v .bytes))
 
   -- a load, refused or not, leaves each store as the records of the instructions before the fault laid over what was there
   pub load-leaves : Leaves (seen c .before) (outcome (seen c)) (seen c .after)
@@ -176,19 +153,19 @@ module _ (c : Loading) where
   -- and header words, and is answered by 0, 16 or 21 there
   pub load-first-fault : (d : Loading) → 1 ≤ seen c .answer .index → seen d .grammar ≡ seen c .grammar → seen d .before ≡ seen c .before
       → seen d .bytes ≡ take (endOf (outcome (seen c))) (seen c .bytes) → CutSays (seen c) (seen d)
-  unfolding storesOf
+  unfolding loading storesOf
   load-first-fault d h g t s =
       let v : Load = seen c in
       let l : Loads v = loads c in
       let m : Loads (seen d) = loads d in
-      let cut = first-fault (v .grammar) (roomIn (v .before)) (v .bytes) (rw (← l .said) h) in
+      let cut = first-fault (v .grammar) (roomIn (v .before)) (v .bytes) (rw (← l .leaves .said) h) in
       let same : outcome (seen d) ≡ ended (cut .0) (outcome v) = rw (g, t, s) (cut .1) in
-      let told : seen d .answer ≡ ended (cut .0) (outcome v) .said = m .said ∙ ap (λ (o : Outcome). o .said) same in
+      let told : seen d .answer ≡ ended (cut .0) (outcome v) .said = m .leaves .said ∙ ap (λ (o : Outcome). o .said) same in
       record {
         stores =
-            m .stores ∙ ap₂ (λ (b : Stores) (o : Outcome). laidOn b (storesOf o)) t same ∙ sym (l .stores);
-        counts = ap (λ (a : Loaded). a .counts) told ∙ ap (λ (a : Loaded). a .counts) (sym (l .said));
-        header = ap (λ (a : Loaded). a .header) told ∙ ap (λ (a : Loaded). a .header) (sym (l .said));
+            m .leaves .stores ∙ ap₂ (λ (b : Stores) (o : Outcome). laidOn b (storesOf o)) t same ∙ sym (l .leaves .stores);
+        counts = ap (λ (a : Loaded). a .counts) told ∙ ap (λ (a : Loaded). a .counts) (sym (l .leaves .said));
+        header = ap (λ (a : Loaded). a .header) told ∙ ap (λ (a : Loaded). a .header) (sym (l .leaves .said));
         state = cut .0;
         number = ap (λ (a : Loaded). a .number) told;
         offset = ap (λ (a : Loaded). a .offset) told;
@@ -222,13 +199,14 @@ PlainLoad c = isPlain (seen c .grammar) (roomIn (seen c .before)) (seen c .bytes
 pub same-bytes : (c d : Loading) → PlainLoad c → PlainLoad d → seen c .answer .header ≡ seen d .answer .header
     → records (seen c) ≡ records (seen d)
     → seen c .bytes ≡ seen d .bytes
+unfolding loading
 same-bytes c d plain-c plain-d header same =
     let v : Load = seen c in
     let u : Load = seen d in
     let l : Loads v = loads c in
     let m : Loads u = loads d in
     same-records (v .grammar) (u .grammar) (roomIn (v .before)) (roomIn (u .before)) (v .bytes) (u .bytes) (l .bytes) (m .bytes) plain-c
-    plain-d (ap (λ (a : Loaded). a .header) (sym (l .said)) ∙ header ∙ ap (λ (a : Loaded). a .header) (m .said))
+    plain-d (ap (λ (a : Loaded). a .header) (sym (l .leaves .said)) ∙ header ∙ ap (λ (a : Loaded). a .header) (m .leaves .said))
     (sym (records-are v l) ∙ same ∙ records-are u m)
 
 -- a write w is handed the header words and records of a load v, as the load left them
@@ -247,8 +225,9 @@ module _ (c : Loading) (p : ParseWriting) (hands : Hands (seen c) (parse-seen p)
   -- what is then written, where it fits
   handed-writes : length (written (outcome v)) ≤ length (w .before)
       → writeParse (w .header) (w .records) (w .before) ≡ wrote (written (outcome v)) (w .before)
+  unfolding loading
   handed-writes fits =
-      rw (hands .header, hands .records, loads c .said, loads c .stores)
+      rw (hands .header, hands .records, loads c .leaves .said, loads c .leaves .stores)
       (writes (v .grammar) (roomIn (v .before)) (v .bytes) (loads c .bytes) (laidOn (v .before) (storesOf (outcome v)))
       (load-begins (v .grammar) (v .bytes) (v .before)) (w .before) fits)
 
@@ -257,6 +236,7 @@ module _ (c : Loading) (p : ParseWriting) (hands : Hands (seen c) (parse-seen p)
   pub written-back : PlainLoad c → length (seen c .bytes) ≤ length (parse-seen p .before)
       → let it = wrote (seen c .bytes) (parse-seen p .before) in
       (parse-seen p .answer ≡ it .said) × (parse-seen p .after ≡ it .output)
+  unfolding loading
   written-back plain fits =
       let is : v .bytes ≡ written (outcome v) = plain-is-written (v .grammar) (roomIn (v .before)) (v .bytes) (loads c .bytes) plain in
       let wrote-it : writeParse (w .header) (w .records) (w .before) ≡ wrote (v .bytes) (w .before) =
@@ -269,10 +249,10 @@ module _ (c : Loading) (p : ParseWriting) (hands : Hands (seen c) (parse-seen p)
       → seen d .grammar ≡ seen c .grammar → lacksRoom (seen d .answer) ≡ false
       → seen d .bytes ≡ take (parse-seen p .answer .bytes) (parse-seen p .after)
       → PlainLoad d × (seen d .answer ≡ seen c .answer) × (records (seen d) ≡ records (seen c))
-  unfolding isPlain
+  unfolding loading isPlain
   comes-again accepted fits d g roomy s =
       let u : Load = seen d in
-      let zero : outcome v .said .number ≡ 0 = ap (λ (a : Loaded). a .number) (sym (loads c .said)) ∙ accepted in
+      let zero : outcome v .said .number ≡ 0 = ap (λ (a : Loaded). a .number) (sym (loads c .leaves .said)) ∙ accepted in
       let back = comes-back (v .grammar) (roomIn (v .before)) (v .bytes) (loads c .bytes) zero in
       let it = handed-writes (omega (arith, back .long)) in
       let bytes : u .bytes ≡ written (outcome v) =
@@ -283,11 +263,11 @@ module _ (c : Loading) (p : ParseWriting) (hands : Hands (seen c) (parse-seen p)
       let room : outcome u ≡ load (v .grammar) (roomIn (v .before)) (written (outcome v)) =
       ap₂ (λ (h b : List ℕ). load h (roomIn (u .before)) b) g bytes
       ∙ any-room (v .grammar) (roomIn (u .before)) (roomIn (v .before)) (written (outcome v))
-      (ap lacksRoom (ap₂ (λ (h b : List ℕ). load h (roomIn (u .before)) b .said) (sym g) (sym bytes) ∙ sym (loads d .said)) ∙ roomy)
+      (ap lacksRoom (ap₂ (λ (h b : List ℕ). load h (roomIn (u .before)) b .said) (sym g) (sym bytes) ∙ sym (loads d .leaves .said)) ∙ roomy)
       (rw again) in
       let same : outcome u ≡ outcome v = room ∙ back .same in (
         ap₂ plainBy bytes room ∙ back .plain,
-        loads d .said ∙ ap (λ (o : Outcome). o .said) same ∙ sym (loads c .said),
+        loads d .leaves .said ∙ ap (λ (o : Outcome). o .said) same ∙ sym (loads c .leaves .said),
         records-are u (loads d) ∙ ap storesOf same ∙ sym (records-are v (loads c)),
       )
 

@@ -64,14 +64,6 @@ both p q = p ∙ sym q
 pub and : {A B : Type 0} {x y : A} {u v : B} → x ≡ y → u ≡ v → _≡_ {A = A × B} (x, u) (y, v)
 and p q = ap₂ (λ x u. (x, u)) p q
 
--- two fours of stores of which the same is told, whatever else is told, and what follows them
-pub both-stores : {A B C D E P : Type 0} {a x e : A} {b y f : B} {c z g : C} {d w h : D} {m n : E}
-    → (a ≡ e) × ((b ≡ f) × ((c ≡ g) × ((d ≡ h) × P))) → (x ≡ e) × ((y ≡ f) × ((z ≡ g) × ((w ≡ h) × P))) → m ≡ n
-    → _≡_ {A = A × (B × (C × (D × E)))} (a, (b, (c, (d, m)))) (x, (y, (z, (w, n))))
-both-stores p q r =
-    and (both (p .0) (q .0))
-    (and (both (p .1 .0) (q .1 .0)) (and (both (p .1 .1 .0) (q .1 .1 .0)) (and (both (p .1 .1 .1 .0) (q .1 .1 .1 .0)) r)))
-
 -- two answers and two values left in what was lent, of which the same fact holds; and what follows the values
 pub both-lent : {A B C : Type 0} {x y e : A} {u v f : B} {t : C} (w : World) (m n : w .M) → Coded A → Coded B
     → fact (w .𝓤) ((x ≡ e) × (u ≡ f)) .holds m → fact (w .𝓤) ((y ≡ e) × (v ≡ f)) .holds n

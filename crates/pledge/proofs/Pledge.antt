@@ -55,7 +55,7 @@ use Rattle.kollafrin.proofs.kollafrin_load_builtin as door-load-builtin-call
 use Rattle.kollafrin.proofs.kollafrin_write_parse_order as door-write-parse-call
 use Rattle.kollafrin.proofs.kollafrin_write_module_order as door-write-module-call
 use Rattle.kollafrin.proofs.kollafrin_standing as door-standing-call
-use Rattle.pledge.proofs.Offered.{Offered, OfferedLent, both, and, both-stores, both-lent}
+use Rattle.pledge.proofs.Offered.{Offered, OfferedLent, both, and, both-lent}
 
 -- TEXT
 
@@ -212,12 +212,18 @@ check = record { free = λ κs a. tt; one = λ κs a x y after other p q. (same-
 
 -- LOADING AND WRITING
 
+-- two fours of stores, and what follows them
+and-stores : {A : Type 0} {t u : Stores} {x y : A} → t ≡ u → x ≡ y
+    → _≡_ {A = List ℕ × (List ℕ × (List ℕ × (List ℕ × A)))} (t .instructions, (t .log, (t .strings, (t .types, x))))
+    (u .instructions, (u .log, (u .strings, (u .types, y))))
+and-stores {A} p q = ap₂ (λ (t : Stores) (x : A). (t .instructions, (t .log, (t .strings, (t .types, x))))) p q
+
 -- a load by the bytes of a grammar: the answer and all four stores after it
 pub load : Offered load-call.Kinds.ps load-call.Kinds.r load-call.Reads.Asked load-call.Reads.Learnt
 load =
     record {
       free = λ κs a. tt;
-      one = λ κs a x y after other p q. (both (p .0) (q .0), and refl (and refl (both-stores (p .1) (q .1) refl)));
+      one = λ κs a x y after other p q. (both (p .leaves .said) (q .leaves .said), and refl (and refl (and-stores (both (p .leaves .stores) (q .leaves .stores)) refl)));
     }
 
 -- a load by the built-in grammar: the answer and all four stores after it
@@ -226,7 +232,7 @@ pub load-builtin :
 load-builtin =
     record {
       free = λ κs a. tt;
-      one = λ κs a x y after other p q. (both (p .0) (q .0), and refl (both-stores (p .1) (q .1) refl));
+      one = λ κs a x y after other p q. (both (p .leaves .said) (q .leaves .said), and refl (and-stores (both (p .leaves .stores) (q .leaves .stores)) refl));
     }
 
 -- a write in the order read: the answer and the output after it
@@ -256,12 +262,6 @@ same-yes : (x y : Bool) → (x ≡ true → y ≡ true) → (y ≡ true → x �
 same-yes true y f g = sym (f refl)
 same-yes false true f g = g refl
 same-yes false false f g = refl
-
--- two fours of stores, and what follows them
-and-stores : {A : Type 0} {t u : Stores} {x y : A} → t ≡ u → x ≡ y
-    → _≡_ {A = List ℕ × (List ℕ × (List ℕ × (List ℕ × A)))} (t .instructions, (t .log, (t .strings, (t .types, x))))
-    (u .instructions, (u .log, (u .strings, (u .types, y))))
-and-stores {A} p q = ap₂ (λ (t : Stores) (x : A). (t .instructions, (t .log, (t .strings, (t .types, x))))) p q
 
 -- a round trip: the answer, all eight stores and the output after it
 pub round-trip : Offered round-trip-call.Kinds.ps round-trip-call.Kinds.r round-trip-call.Reads.Asked round-trip-call.Reads.Learnt
@@ -295,8 +295,8 @@ door-load =
     record {
       free = λ κs a. tt;
       one = λ κs a x y after other p q.
-          let words = both (p .1 .0) (q .1 .0) in
-          (both (p .0) (q .0), and refl (and refl (both-stores (p .1 .1) (q .1 .1) (and words refl))));
+          let stores = and-stores (both (p .stores) (q .stores)) (and (both (p .words) (q .words)) refl) in
+          (both (p .number) (q .number), and refl (and refl stores));
     }
 
 -- the same by the built-in grammar
@@ -306,8 +306,8 @@ door-load-builtin =
     record {
       free = λ κs a. tt;
       one = λ κs a x y after other p q.
-          let words = both (p .1 .0) (q .1 .0) in
-          (both (p .0) (q .0), and refl (both-stores (p .1 .1) (q .1 .1) (and words refl)));
+          let stores = and-stores (both (p .stores) (q .stores)) (and (both (p .words) (q .words)) refl) in
+          (both (p .number) (q .number), and refl stores);
     }
 
 -- a write in the order read: the number, the output and the words of the answer
@@ -317,9 +317,9 @@ door-write-parse =
     record {
       free = λ κs a. tt;
       one = λ κs a x y after other p q. (
-        both (p .0) (q .0),
-        ap₂ (λ (o : List ℕ) (w : List ℕ). (tt, (tt, (tt, (tt, (tt, (tt, (tt, (o, (w, tt)))))))))) (both (p .1 .1) (q .1 .1))
-            (both (p .1 .0) (q .1 .0)),
+        both (p .number) (q .number),
+        ap₂ (λ (o : List ℕ) (w : List ℕ). (tt, (tt, (tt, (tt, (tt, (tt, (tt, (o, (w, tt)))))))))) (both (p .output) (q .output))
+            (both (p .words) (q .words)),
       );
     }
 
@@ -330,9 +330,9 @@ door-write-module =
     record {
       free = λ κs a. tt;
       one = λ κs a x y after other p q. (
-        both (p .0) (q .0),
-        ap₂ (λ (o : List ℕ) (w : List ℕ). (tt, (tt, (tt, (tt, (tt, (tt, (tt, (o, (w, tt)))))))))) (both (p .1 .1) (q .1 .1))
-            (both (p .1 .0) (q .1 .0)),
+        both (p .number) (q .number),
+        ap₂ (λ (o : List ℕ) (w : List ℕ). (tt, (tt, (tt, (tt, (tt, (tt, (tt, (o, (w, tt)))))))))) (both (p .output) (q .output))
+            (both (p .words) (q .words)),
       );
     }
 
@@ -343,5 +343,5 @@ door-standing =
     record {
       free = λ κs a. tt;
       one = λ κs a x y after other p q.
-          (both (p .0) (q .0), ap (λ (w : List ℕ). (tt, (tt, (tt, (tt, (tt, (tt, (w, tt)))))))) (both (p .1) (q .1)));
+          (both (p .number) (q .number), ap (λ (w : List ℕ). (tt, (tt, (tt, (tt, (tt, (tt, (w, tt)))))))) (both (p .words) (q .words)));
     }

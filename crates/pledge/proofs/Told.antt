@@ -6,12 +6,11 @@ use native.Mathlib.Omega.{arith}
 use lib.Dec.{ltb}
 use lib.ListN.{length, getD}
 use lib.Seq.{take-at}
-use Rattle.spec.specs.declared.Counts.{Counts}
 use Rattle.spec.specs.declared.Loaded.{Loaded}
 use Rattle.spec.specs.declared.Written.{Written}
 use Rattle.spec.specs.Base.{joined}
 use Rattle.spec.specs.Records.{Placed, recordSize, recordsFrom, logFrom, stringStore, entrySize, entryWords}
-use Rattle.spec.specs.Load.{Outcome, load, storesOf, roomIn}
+use Rattle.spec.specs.Load.{Outcome, load, Stores, storesOf, roomIn}
 use Rattle.spec.specs.Check.{Checked, bad, good}
 use Rattle.spec.specs.Write.{writeBy}
 use Rattle.demands.proofs.Choice.{cases}
@@ -19,7 +18,8 @@ use Rattle.demands.proofs.Starts.{header-five, load-is}
 use Rattle.demands.proofs.Stores.{records-length, entries-length}
 use Rattle.demands.proofs.KeptSays.{takenBy, load-says}
 use Rattle.demands.proofs.Leaves.{Leaves, load-leaves}
-use Rattle.kollafrin.specs.Answers.{loadAnswer, writeAnswer}
+use Rattle.loader.specs.Loading.{loading, Loads as LoadsSo}
+use Rattle.kollafrin.specs.Answers.{loadAnswer, LoadAnswers, writeAnswer}
 use Rattle.pledge.proofs.Calls.{Load, outcome, records, Loads, loadedBy, writtenBy}
 
 -- THE ANSWERS AT THE DOOR
@@ -34,13 +34,14 @@ five-words (a ∷ b ∷ c ∷ []) n = absurd (omega arith)
 five-words (a ∷ b ∷ c ∷ d ∷ []) n = absurd (omega arith)
 five-words (a ∷ b ∷ c ∷ d ∷ e ∷ f ∷ h) n = absurd (omega arith)
 
--- the words of a load's answer say it
-pub loaded-by : (g : List ℕ) (room : Counts) (s ws : List ℕ)
-    → let x = load g room s .said in ws ≡ loadAnswer x → loadedBy ws ≡ x
-unfolding loadAnswer
-loaded-by g room s ws e =
-    let x : Loaded = load g room s .said in
-    ap loadedBy e
+-- a load at the door is one whose answer its words say
+pub loaded-by : {m g : List ℕ} {before after : Stores} {ws : List ℕ} {r : ℕ} → LoadAnswers m g before after ws r
+    → LoadsSo m g before after (loadedBy ws)
+unfolding loading loadAnswer
+loaded-by {m} {g} {before} a =
+    let x : Loaded = load g (roomIn before) m .said in
+    let said =
+    ap loadedBy (a .words)
     ∙ ap (λ (h : List ℕ). record {
       number = x .number;
       offset = x .offset;
@@ -48,7 +49,8 @@ loaded-by g room s ws e =
       value = x .value;
       header = h;
       counts = x .counts;
-    }) (five-words (x .header) (header-five (load-is g room s)))
+    }) (five-words (x .header) (header-five (load-is g (roomIn before) m))) in
+    record { leaves = record { said = said; stores = a .stores }; bytes = a .bytes }
 
 -- the words of a writer's answer say it
 pub written-by : (x : Written) (ws : List ℕ) → ws ≡ writeAnswer x → writtenBy ws ≡ x
@@ -69,15 +71,16 @@ refused-by (good is) f out not-0 =
 module _ (v : Load) (l : Loads v) where
   -- what a load leaves in the stores
   pub leaves-so : Leaves (v .before) (outcome v) (v .after)
-  leaves-so = rw (l .stores) (load-leaves (v .grammar) (v .bytes) (v .before))
+  unfolding loading
+  leaves-so = rw (l .leaves .stores) (load-leaves (v .grammar) (v .bytes) (v .before))
 
   -- the records that it leaves are those of what it keeps
   pub records-are : records v ≡ storesOf (outcome v)
-  unfolding storesOf takenBy
+  unfolding loading storesOf takenBy
   records-are =
       let x : Outcome = outcome v in
       let n : v .answer .counts ≡ takenBy (x .kept) (x .types) =
-      ap (λ (a : Loaded). a .counts) (l .said) ∙ load-says (v .grammar) (roomIn (v .before)) (v .bytes) .counts in
+      ap (λ (a : Loaded). a .counts) (l .leaves .said) ∙ load-says (v .grammar) (roomIn (v .before)) (v .bytes) .counts in
       rw (
         n,
         leaves-so .instructions,

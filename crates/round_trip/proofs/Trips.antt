@@ -8,6 +8,7 @@ use borrow.Author.Tests.{eqb-true, eq-eqb, ltb-true, ltb-false, lt-ltb}
 use lib.Dec.{ltb, eqb}
 use lib.ListN.{length, take}
 use lib.Seq.{take-append-seam, length-take-le, length-sets}
+use Rattle.spec.specs.declared.Counts.{Counts}
 use Rattle.spec.specs.declared.Loaded.{Loaded}
 use Rattle.spec.specs.declared.Written.{Written}
 use Rattle.spec.specs.Records.{Placed}
@@ -16,7 +17,7 @@ use Rattle.spec.specs.Plain.{plainBy, isPlain}
 use Rattle.spec.specs.Check.{Given, Checked, bad, good, check, givenBy}
 use Rattle.spec.specs.Write.{parseBytes, Writing, unwritten, writeBy, writeParse, written, wrote}
 use Rattle.spec.specs.Words.{AllBytes}
-use Rattle.loader.specs.Loading.{loading}
+use Rattle.loader.specs.Loading.{loading, Loads}
 use Rattle.records.specs.Steps.{given}
 use Rattle.demands.proofs.Choice.{left, right, both, cases}
 use Rattle.demands.proofs.Stores.{BeginWith}
@@ -24,7 +25,7 @@ use Rattle.demands.proofs.Leaves.{load-begins}
 use Rattle.demands.proofs.ReadBack.{reads-back}
 use Rattle.demands.proofs.Rooms.{Roomy, any-room}
 use Rattle.demands.proofs.Demand3.{ComesBack, comes-back, writes, plain-is-written}
-use Rattle.round_trip.specs.Trip.{lent, first, back, second, CameBack, Suited, RoundTrip}
+use Rattle.round_trip.specs.Trip.{first, back, second, CameBack, Suited, RoundTrip}
 
 -- THE OUTPUT
 
@@ -58,12 +59,12 @@ module _ (g s : List ℕ) (by : AllBytes s) (t : Stores) (out : List ℕ) (u : S
 
   -- bytes that fit are written
   back-fits : length (written X) ≤ length out → back g s t out u ≡ wrote (written X) out
-  unfolding back first
+  unfolding back first loading
   back-fits h = writes g (roomIn t) s by (laidOn t (storesOf X)) begins out h
 
   -- bytes that do not are refused
   back-full : length out < length (written X) → back g s t out u ≡ unwritten 29 0 out
-  unfolding back first writeParse
+  unfolding back first loading writeParse
   back-full h = rw (reads-back g (roomIn t) s by (laidOn t (storesOf X)) begins, lt-ltb (length out) (length (written X)) h)
 
   -- so what was written fits
@@ -76,14 +77,14 @@ module _ (g s : List ℕ) (by : AllBytes s) (t : Stores) (out : List ℕ) (u : S
 
   -- what is loaded again is what was written
   second-fits : length (written X) ≤ length out → second g s t out u ≡ load g (roomIn u) (written X)
-  unfolding second
+  unfolding second loading
   second-fits h =
       ap (λ (w : Writing). load g (roomIn u) (take (w .said .bytes) (w .output))) (back-fits h)
       ∙ ap (load g (roomIn u)) (take-append-seam (written X) _)
 
   -- an accepted module, whose bytes fit the output and are not refused for room, came back
   returned : X .said .number ≡ 0 → length (written X) ≤ length out → Roomy (load g (roomIn u) (written X)) → CameBack g s t out u
-  unfolding first isPlain
+  unfolding first loading isPlain
   returned z h f =
       let c : ComesBack g (roomIn t) s (written X) = comes-back g (roomIn t) s by z in
       let again : load g (roomIn t) (written X) .said .number ≡ 0 = ap (λ (o : Outcome). o .said .number) (c .same) ∙ z in
@@ -102,7 +103,7 @@ module _ (g s : List ℕ) (by : AllBytes s) (t : Stores) (out : List ℕ) (u : S
   -- a module whose three numbers are 0 came back
   three-zeros : first g s t out u .said .number ≡ 0 → back g s t out u .said .number ≡ 0 → second g s t out u .said .number ≡ 0
       → CameBack g s t out u
-  unfolding first
+  unfolding first loading
   three-zeros a b c =
       let h = written-fits b in
       returned a h
@@ -110,7 +111,7 @@ module _ (g s : List ℕ) (by : AllBytes s) (t : Stores) (out : List ℕ) (u : S
 
   -- so does one that is suited
   suited : Suited g s t out u → CameBack g s t out u
-  unfolding first
+  unfolding first loading
   suited q =
       let long = comes-back g (roomIn t) s by (q .accepted) .long in
       let fits : length (written X) ≤ length out = omega (arith, long, q .output) in
@@ -159,46 +160,25 @@ answer-within h x out e = rw (e .0, e .1) (parse-within h x out)
 pub taken : (n : ℕ) (l : List ℕ) → n ≤ length l → n ≡ length (take n l)
 taken n l h = sym (length-take-le n l h)
 
--- four stores after records were laid over each
-pub laid-each : (t v : Stores) {i' l' s' t' : List ℕ} → i' ≡ laidOver (t .instructions) (v .instructions)
-    → l' ≡ laidOver (t .log) (v .log) → s' ≡ laidOver (t .strings) (v .strings) → t' ≡ laidOver (t .types) (v .types)
-    → lent i' l' s' t' ≡ laidOn t v
-unfolding laidOn
-laid-each t v p q r x = rw (p, q, r, x)
-
--- what a load tells of its answer and of four stores after it, and of the module
-abbrev LoadTells : (s g i l st ty : List ℕ) (a : Loaded) (i' l' st' ty' : List ℕ) → Type 0
-LoadTells s g i l st ty a i' l' st' ty' =
-    (a ≡ loading s g i l st ty .said) × ((i' ≡ laidOver i (storesOf (loading s g i l st ty) .instructions))
-    × ((l' ≡ laidOver l (storesOf (loading s g i l st ty) .log))
-    × ((st' ≡ laidOver st (storesOf (loading s g i l st ty) .strings))
-    × ((ty' ≡ laidOver ty (storesOf (loading s g i l st ty) .types)) × AllBytes s))))
-
 -- the three calls, and the test of their numbers
-pub trips : {g s i l st ty out j m r q i' l' st' ty' out' j' m' r' q' : List ℕ} {a b : Loaded} {w : Written} {yes : Bool}
-    → LoadTells s g i l st ty a i' l' st' ty'
-    → let x : Writing =
-    writeParse (a .header) (given i' l' st' (a .counts .instructions) (a .counts .log) (a .counts .strings)) out in
+pub trips : {g s out out' : List ℕ} {t t' u u' : Stores} {a b : Loaded} {w : Written} {yes : Bool} → Loads s g t t' a
+    → let n : Counts = a .counts in
+    let x : Writing =
+    writeParse (a .header) (given (t' .instructions) (t' .log) (t' .strings) (n .instructions) (n .log) (n .strings)) out in
     (w ≡ x .said) × (out' ≡ x .output)
-    → LoadTells (take (w .bytes) out') g j m r q b j' m' r' q'
-    → yes ≡ (eqb (a .number) 0 && eqb (w .number) 0 && eqb (b .number) 0)
-    → RoundTrip g s (lent i l st ty) out (lent j m r q) yes (lent i' l' st' ty') out' (lent j' m' r' q')
-unfolding loading first back second givenBy roomIn
-trips {g} {s} {i} {l} {st} {ty} {out} {j} {m} {r} {q} {out' = out'} {b = b} {w = w} p e f y =
-    let t : Stores = lent i l st ty in
-    let u : Stores = lent j m r q in
-    let loaded = laid-each t (storesOf (first g s t out u)) (p .1 .0) (p .1 .1 .0) (p .1 .1 .1 .0) (p .1 .1 .1 .1 .0) in
+    → Loads (take (w .bytes) out') g u u' b → yes ≡ (eqb (a .number) 0 && eqb (w .number) 0 && eqb (b .number) 0)
+    → RoundTrip g s t out u yes t' out' u'
+unfolding first back second givenBy
+trips {g} {s} {out} {t = t} {u = u} {b = b} p e f y =
     let x =
-    ap₂ (λ (a : Loaded) (t' : Stores). writeParse (a .header) (givenBy t' (a .counts)) out) (p .0) loaded in
+    ap₂ (λ (a : Loaded) (t' : Stores). writeParse (a .header) (givenBy t' (a .counts)) out) (p .leaves .said) (p .leaves .stores) in
     let said = e .0 ∙ ap (λ (w : Writing). w .said) x in
     let output = e .1 ∙ ap (λ (w : Writing). w .output) x in
-    let z =
-    ap₂ (λ (n : ℕ) (o : List ℕ). load g (roomIn u) (take n o)) (ap (λ (w : Written). w .bytes) said) output in
-    closes g s (p .1 .1 .1 .1 .1) t out u
-    (y ∙ ap₂ (λ (a : Loaded) (w : Written). eqb (a .number) 0 && eqb (w .number) 0 && eqb (b .number) 0) (p .0) said
+    let z = ap₂ (λ (n : ℕ) (o : List ℕ). loading (take n o) g u) (ap (λ (w : Written). w .bytes) said) output in
+    closes g s (p .bytes) t out u
+    (y ∙ ap₂ (λ (a : Loaded) (w : Written). eqb (a .number) 0 && eqb (w .number) 0 && eqb (b .number) 0) (p .leaves .said) said
     ∙ ap (λ (n : ℕ). eqb (first g s t out u .said .number) 0 && eqb (back g s t out u .said .number) 0 && eqb n 0)
-    (ap (λ (b : Loaded). b .number) (f .0) ∙ ap (λ (o : Outcome). o .said .number) z))
-    loaded
+    (ap (λ (b : Loaded). b .number) (f .leaves .said) ∙ ap (λ (o : Outcome). o .said .number) z))
+    (p .leaves .stores)
     output
-    (laid-each u (storesOf (loading (take (w .bytes) out') g j m r q)) (f .1 .0) (f .1 .1 .0) (f .1 .1 .1 .0) (f .1 .1 .1 .1 .0)
-    ∙ ap (λ (o : Outcome). laidOn u (storesOf o)) z)
+    (f .leaves .stores ∙ ap (λ (o : Outcome). laidOn u (storesOf o)) z)

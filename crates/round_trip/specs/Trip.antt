@@ -4,20 +4,17 @@ use mathlib.Core.Path.{_≡_}
 use mathlib.Core.Bool.{Bool, true, false}
 use mathlib.Core.List.{List}
 use lib.ListN.{length, take}
-use Rattle.spec.specs.Load.{Outcome, lacksRoom, load, Stores, storesOf, roomIn, laidOn}
+use Rattle.spec.specs.Load.{Outcome, lacksRoom, Stores, storesOf, roomIn, laidOn}
 use Rattle.spec.specs.Plain.{isPlain}
 use Rattle.spec.specs.Write.{Writing, writeParse, written, wrote}
 use Rattle.spec.specs.Check.{givenBy}
-
--- stores that are lent
-abbrev pub lent : List ℕ → List ℕ → List ℕ → List ℕ → Stores
-lent i l s t = record { instructions = i; log = l; strings = s; types = t }
+use Rattle.loader.specs.Loading.{loading}
 
 -- by a grammar, of a module, with stores, an output and other stores
 module _ (grammar s : List ℕ) (t : Stores) (out : List ℕ) (u : Stores) where
   -- the module's load
   unfoldable pub first : Outcome
-  first = load grammar (roomIn t) s
+  first = loading s grammar t
 
   -- the writing of its records
   unfoldable pub back : Writing
@@ -25,7 +22,7 @@ module _ (grammar s : List ℕ) (t : Stores) (out : List ℕ) (u : Stores) where
 
   -- the load of what was written
   unfoldable pub second : Outcome
-  second = load grammar (roomIn u) (take (back .said .bytes) (back .output))
+  second = loading (take (back .said .bytes) (back .output)) grammar u
 
   -- the module came back: it was accepted; its records were written as bytes, which are itself where it is plain; those are plain,
   -- and load to the same outcome (header words, counts, instructions, type entries) and the same records

@@ -2,7 +2,8 @@
 ghost use mathlib.Core.Path.{_≡_};
 ghost use mathlib.Core.Bool.{_&&_};
 ghost use lib.Dec.{eqb};
-ghost use Rattle.round_trip.specs.Trip.{lent, RoundTrip};
+ghost use Rattle.spec.specs.Load.{lent};
+ghost use Rattle.round_trip.specs.Trip.{RoundTrip};
 
 // Whether three numbers are 0.
 fn all_zero(a: u32, b: u32, c: u32) -> bool
@@ -31,7 +32,14 @@ pub fn round_trip(
     strings_back: &mut [u8],
     types_back: &mut [u32],
 ) -> bool
-    ensures { λ r. ⌜ RoundTrip (now (grammar .entry)) (now («module» .entry)) (lent (now (instructions .entry)) (now (log .entry)) (now (strings .entry)) (now (types .entry))) (now (out .entry)) (lent (now («instructions_back» .entry)) (now («log_back» .entry)) (now («strings_back» .entry)) (now («types_back» .entry))) r (lent (now (instructions .exit)) (now (log .exit)) (now (strings .exit)) (now (types .exit))) (now (out .exit)) (lent (now («instructions_back» .exit)) (now («log_back» .exit)) (now («strings_back» .exit)) (now («types_back» .exit))) ⌝ }
+    ensures { λ r. ⌜ RoundTrip (now (grammar .entry)) (now («module» .entry))
+        (lent (now (instructions .entry)) (now (log .entry)) (now (strings .entry)) (now (types .entry)))
+        (now (out .entry))
+        (lent (now («instructions_back» .entry)) (now («log_back» .entry)) (now («strings_back» .entry)) (now («types_back» .entry)))
+        r
+        (lent (now (instructions .exit)) (now (log .exit)) (now (strings .exit)) (now (types .exit)))
+        (now (out .exit))
+        (lent (now («instructions_back» .exit)) (now («log_back» .exit)) (now («strings_back» .exit)) (now («types_back» .exit))) ⌝ }
 {
     let first = loader::load(module, grammar, instructions, log, strings, types);
     let header = first.header;

@@ -10,7 +10,7 @@ kollafrin-load-builtin-spec =
     (tie.spec
     (λ c κs. search needs)
     (λ c κs.
-    loaded-small _ _ _ _ _ _ _ (c .before .before .before .before .before .before .before .before .before .load-builtin .ensures .0))
+    loaded-small (c .before .before .before .before .before .before .before .before .before .load-builtin .ensures))
     (λ c. search needs)
     (λ c. search needs)
     (λ c. search needs)

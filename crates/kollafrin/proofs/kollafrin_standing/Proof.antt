@@ -1,6 +1,6 @@
 -- `kollafrin::kollafrin_standing`: the answer is that of standing, and fits its words.
 use borrow.Author.Needs.{needs}
-use Rattle.kollafrin.proofs.Laws.{standing-small, standing-said}
+use Rattle.demands.proofs.Indices.{standing-index}
 use Rattle.kollafrin.proofs.kollafrin_standing.Statement.{statement}
 use Rattle.kollafrin.proofs.kollafrin_standing.Tie as tie
 
@@ -10,5 +10,5 @@ kollafrin-standing-spec =
     (tie.spec
     (λ c κs. search needs)
     (λ c κs.
-    standing-small _ _ (c .before .standing .ensures) (λ i. c .before .before .before .before .shared-slice-known .given i .fits))
-    (λ c. standing-said (c .say-standing .ensures) (c .before .before .standing .ensures)))
+    rw (c .before .standing .ensures) (standing-index _ (λ i. c .before .before .before .before .shared-slice-known .given i .fits)))
+    (λ c. rw (← c .before .before .standing .ensures) (c .say-standing .ensures)))

@@ -1,6 +1,7 @@
 -- `kollafrin::kollafrin_write_parse_order`: the answer is the writer's, and fits its words.
 use borrow.Author.Needs.{needs}
-use Rattle.kollafrin.proofs.Laws.{parse-small, written-said}
+use Rattle.demands.proofs.Indices.{parse-index}
+use Rattle.kollafrin.proofs.Laws.{written-said}
 use Rattle.kollafrin.proofs.kollafrin_write_parse_order.Statement.{statement}
 use Rattle.kollafrin.proofs.kollafrin_write_parse_order.Tie as tie
 
@@ -10,7 +11,7 @@ kollafrin-write-parse-order-spec =
     (tie.spec
     (λ c κs. search needs)
     (λ c κs.
-    parse-small _ _ _ _ (c .before .before .before .write-parse-order .ensures .0) (λ i.
-    c .before .before .before .before .before .before .before .before .before .shared-slice-known .given i .fits))
+    rw (c .before .before .before .write-parse-order .ensures .0) (parse-index _ _ _ (λ i.
+    c .before .before .before .before .before .before .before .before .before .shared-slice-known .given i .fits)))
     (λ c. search needs)
     (λ c. written-said (c .say-written .ensures) (c .before .before .before .before .write-parse-order .ensures)))

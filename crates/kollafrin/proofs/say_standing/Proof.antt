@@ -1,14 +1,15 @@
 -- `kollafrin::say_standing`: each word of the answer is what it says.
 use mathlib.Core.Path.{refl}
 use borrow.Author.Needs.{needs}
-use Rattle.kollafrin.proofs.Laws.{stand-words}
+use Rattle.kollafrin.specs.Answers.{standAnswer}
 use Rattle.kollafrin.proofs.say_standing.Statement.{statement}
 use Rattle.kollafrin.proofs.say_standing.Tie as tie
 
 pub say-standing-spec : {M : Type 1} → statement M
+unfolding standAnswer
 say-standing-spec =
     tie.close
     (tie.spec
     (λ c κs. search needs)
     (λ c. search needs)
-    (λ c. (refl, stand-words _ _ (c .before .before .yes-or-no .ensures))))
+    (λ c. record { number = refl; words = rw (c .before .before .yes-or-no .ensures) }))
