@@ -11,9 +11,9 @@ use Rattle.spec.specs.declared.Loaded.{Loaded}
 use Rattle.spec.specs.Base.{every}
 use Rattle.spec.specs.Words.{bytesOf}
 use Rattle.spec.specs.Builtin.{builtin}
-use Rattle.spec.specs.Load.{Outcome, enough, roomOf, load, storesOf, laidOver, Covers}
+use Rattle.spec.specs.Load.{Outcome, enough, load, Stores, storesOf, roomIn, laidOn, Covers}
 use Rattle.spec.specs.Fittings.{Shown, Fitting, fitting, shown, roomFor, found, claimed, fittings, fittings-hold}
-use Rattle.loader.specs.Loading.{loading}
+use Rattle.loader.specs.Loading.{loading, Loads}
 use Rattle.demands.proofs.Choice.{left, right}
 use Rattle.demands.proofs.Room.{load-roomy}
 use Rattle.demands.proofs.Rooms.{any-room}
@@ -29,31 +29,21 @@ tells (fitting s x ∷ fs) f e m P p =
     let rest : found f fs ≡ claimed fs = cc in
     ((λ q. subst P (ap (λ (t : List ℕ). shown t (f t)) q ∙ first) p), tells fs f rest m P p)
 
-module _ (m g i l s t : List ℕ) (b : g ≡ builtin)
-    (c : Covers (roomOf (length i) (length l) (length s) (length t)) (roomFor m)) where
+module _ {m : List ℕ} {t : Stores} (c : Covers (roomIn t) (roomFor m)) where
   -- a load into stores with room is the one with the room that suffices
-  roomy : loading m g i l s t ≡ load builtin (roomFor m) m
+  roomy : loading m builtin t ≡ load builtin (roomFor m) m
   unfolding loading
-  roomy =
-      let room = roomOf (length i) (length l) (length s) (length t) in
-      ap (λ (x : List ℕ). load x room m) b
-      ∙ any-room builtin room (roomFor m) m (load-roomy builtin room m c) (load-roomy builtin (roomFor m) m (omega arith))
+  roomy = any-room builtin (roomIn t) (roomFor m) m (load-roomy builtin (roomIn t) m c) (load-roomy builtin (roomFor m) m (omega arith))
 
   -- what a load with the built-in grammar answers and leaves, by its contract, is what the table says of the module
-  pub told : {P : Type 0} (r : Loaded) (i₁ l₁ s₁ t₁ : List ℕ)
-      → (r ≡ loading m g i l s t .said) × ((i₁ ≡ laidOver i (storesOf (loading m g i l s t) .instructions))
-      × ((l₁ ≡ laidOver l (storesOf (loading m g i l s t) .log)) × ((s₁ ≡ laidOver s (storesOf (loading m g i l s t) .strings))
-      × ((t₁ ≡ laidOver t (storesOf (loading m g i l s t) .types)) × P))))
-      → Told fittings m (λ x. Shows x r i l s t i₁ l₁ s₁ t₁)
+  pub told : {g : List ℕ} {u : Stores} {r : Loaded} → g ≡ builtin → Loads m g t u r → Told fittings m (λ x. Shows x t u r)
   unfolding shown
-  told r i₁ l₁ s₁ t₁ (e, (ei, (el, (es, (et, bytes))))) =
-      tells fittings (λ n. load builtin (roomFor n) n) fittings-hold m (λ x. Shows x r i l s t i₁ l₁ s₁ t₁)
+  told {u = u} {r = r} b l =
+      let is = ap (λ (g : List ℕ). loading m g t) b ∙ roomy in
+      tells fittings (λ n. load builtin (roomFor n) n) fittings-hold m (λ x. Shows x t u r)
       (record {
-        said = e ∙ ap (λ (o : Outcome). o .said) roomy;
-        instructions = ei ∙ ap (λ (o : Outcome). laidOver i (storesOf o .instructions)) roomy;
-        log = el ∙ ap (λ (o : Outcome). laidOver l (storesOf o .log)) roomy;
-        strings = es ∙ ap (λ (o : Outcome). laidOver s (storesOf o .strings)) roomy;
-        types = et ∙ ap (λ (o : Outcome). laidOver t (storesOf o .types)) roomy;
+        said = l .leaves .said ∙ ap (λ (o : Outcome). o .said) is;
+        stores = l .leaves .stores ∙ ap (λ (o : Outcome). laidOn t (storesOf o)) is;
       })
 
 -- THE WHOLE TABLE
@@ -67,22 +57,21 @@ all-short : every short fittings ≡ true
 unfolding short fittings bytesOf
 all-short = refl
 
-module _ (i l s t : List ℕ) (c : Covers (roomOf (length i) (length l) (length s) (length t)) (enough 9)) where
+module _ (t : Stores) (c : Covers (roomIn t) (enough 9)) where
   -- the room that suffices for nine words suffices for such a module
-  suffices : (m : List ℕ) → length m ≤ 56 → Covers (roomOf (length i) (length l) (length s) (length t)) (roomFor m)
+  suffices : (m : List ℕ) → length m ≤ 56 → Covers (roomIn t) (roomFor m)
   unfolding enough
   suffices m h = omega arith
 
   -- so stores with that room may be lent to the load of each
   all-found : (fs : List Fitting) → every short fs ≡ true
-      → found (λ m. loading m builtin i l s t) fs ≡ found (λ m. load builtin (roomFor m) m) fs
+      → found (λ m. loading m builtin t) fs ≡ found (λ m. load builtin (roomFor m) m) fs
   unfolding found short
   all-found [] h = refl
   all-found (fitting m x ∷ fs) h =
       ap₂ (λ (o : Outcome) (rest : List Shown). shown m o ∷ rest)
-      (roomy m builtin i l s t refl (suffices m (leb-true (length m) 56 (left _ (every short fs) h))))
-      (all-found fs (right (leb (length m) 56) _ h))
+      (roomy (suffices m (leb-true (length m) 56 (left _ (every short fs) h)))) (all-found fs (right (leb (length m) 56) _ h))
 
   -- the fourteen fittings hold of loads into such stores, as their contracts state them
-  pub loads-hold : found (λ m. loading m builtin i l s t) fittings ≡ claimed fittings
+  pub loads-hold : found (λ m. loading m builtin t) fittings ≡ claimed fittings
   loads-hold = all-found fittings all-short ∙ fittings-hold

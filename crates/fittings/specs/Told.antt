@@ -3,16 +3,13 @@ use Prim.Native.Nat.{ℕ}
 use mathlib.Core.Path.{_≡_}
 use mathlib.Core.List.{List, [], _∷_}
 use Rattle.spec.specs.declared.Loaded.{Loaded}
-use Rattle.spec.specs.Load.{laidOver}
+use Rattle.spec.specs.Load.{Stores, laidOn}
 use Rattle.spec.specs.Fittings.{Shown, Fitting, fitting}
 
--- an answer, and four stores after a load by what they were before, are what a fitting shows
-pub record Shows (x : Shown) (r : Loaded) (i₀ l₀ s₀ t₀ i₁ l₁ s₁ t₁ : List ℕ) : Type 0 where
+-- an answer, and the stores after a load by what they were before, are what a fitting shows
+pub record Shows (x : Shown) (before after : Stores) (r : Loaded) : Type 0 where
   pub said : r ≡ x .said
-  pub instructions : i₁ ≡ laidOver i₀ (x .stores .instructions)
-  pub log : l₁ ≡ laidOver l₀ (x .stores .log)
-  pub strings : s₁ ≡ laidOver s₀ (x .stores .strings)
-  pub types : t₁ ≡ laidOver t₀ (x .stores .types)
+  pub stores : after ≡ laidOn before (x .stores)
 
 -- whatever a table says that a module shows, is so
 unfoldable pub Told : List Fitting → List ℕ → (Shown → Type 0) → Type 0

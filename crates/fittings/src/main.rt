@@ -3,13 +3,16 @@
 // counts. Where the two loads differ, the line says so.
 ghost use Prim.Native.Nat.{_+_, _≤_};
 ghost use lib.ListN.{length};
-ghost use Rattle.spec.specs.Load.{roomOf, Covers};
+ghost use Rattle.spec.specs.Load.{lent, roomIn, Covers};
 ghost use Rattle.spec.specs.Fittings.{fittings, roomFor};
 ghost use Rattle.fittings.specs.Told.{Told, Shows};
 use libc::STDIN_FILENO;
 use libc::STDOUT_FILENO;
 use spec::Counts;
 use spec::Loaded;
+
+// How many words a type entry has.
+const ENTRY: usize = 3;
 
 // THE LOADS: where the table has the module, each shows what the table says
 
@@ -21,8 +24,10 @@ fn by_bytes(
     strings: &mut [u8],
     types: &mut [u32],
 ) -> Loaded
-    requires { ⌜ Covers (roomOf (length (now instructions)) (length (now log)) (length (now strings)) (length (now types))) (roomFor (now «module»)) ⌝ }
-    ensures { λ r. ⌜ Told fittings (now («module» .entry)) (λ x. Shows x r (now (instructions .entry)) (now (log .entry)) (now (strings .entry)) (now (types .entry)) (now (instructions .exit)) (now (log .exit)) (now (strings .exit)) (now (types .exit))) ⌝ }
+    requires { ⌜ Covers (roomIn (lent (now instructions) (now log) (now strings) (now types))) (roomFor (now «module»)) ⌝ }
+    ensures { λ r. ⌜ Told fittings (now («module» .entry)) (λ x. Shows x
+        (lent (now (instructions .entry)) (now (log .entry)) (now (strings .entry)) (now (types .entry)))
+        (lent (now (instructions .exit)) (now (log .exit)) (now (strings .exit)) (now (types .exit))) r) ⌝ }
 {
     let table = builtin::table();
     loader::load(module, &table, instructions, log, strings, types)
@@ -36,8 +41,10 @@ fn prepared(
     strings: &mut [u8],
     types: &mut [u32],
 ) -> Loaded
-    requires { ⌜ Covers (roomOf (length (now instructions)) (length (now log)) (length (now strings)) (length (now types))) (roomFor (now «module»)) ⌝ }
-    ensures { λ r. ⌜ Told fittings (now («module» .entry)) (λ x. Shows x r (now (instructions .entry)) (now (log .entry)) (now (strings .entry)) (now (types .entry)) (now (instructions .exit)) (now (log .exit)) (now (strings .exit)) (now (types .exit))) ⌝ }
+    requires { ⌜ Covers (roomIn (lent (now instructions) (now log) (now strings) (now types))) (roomFor (now «module»)) ⌝ }
+    ensures { λ r. ⌜ Told fittings (now («module» .entry)) (λ x. Shows x
+        (lent (now (instructions .entry)) (now (log .entry)) (now (strings .entry)) (now (types .entry)))
+        (lent (now (instructions .exit)) (now (log .exit)) (now (strings .exit)) (now (types .exit))) r) ⌝ }
 {
     loader::load_builtin(module, instructions, log, strings, types)
 }
@@ -176,10 +183,10 @@ fn answer(x: Loaded) {
 // Writes an answer, and the stores up to its counts.
 fn show(x: Loaded, instructions: &[u32], log: &[u8], strings: &[u8], types: &[u32]) {
     answer(x);
-    words(instructions, 8, x.counts.instructions);
+    words(instructions, records::RECORD, x.counts.instructions);
     bytes(log, x.counts.log);
     bytes(strings, x.counts.strings);
-    words(types, 3, x.counts.types);
+    words(types, ENTRY, x.counts.types);
 }
 
 // Whether the prepared load of a module gives the same answer, and the same stores from empty ones.

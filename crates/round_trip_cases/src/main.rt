@@ -3,6 +3,9 @@
 ghost use Prim.Native.Nat.{_≤_};
 use libc::STDOUT_FILENO;
 
+// How many words a type entry has.
+const ENTRY: usize = 3;
+
 // Writes a case in words and whether the module came back, with so many bytes of output, and other stores that have the room that
 // always suffices for so many words.
 fn case(text: &[u8], module: &[u8], grammar: &[u8], room: usize, words: usize)
@@ -17,10 +20,10 @@ fn case(text: &[u8], module: &[u8], grammar: &[u8], room: usize, words: usize)
     let mut log_back = [0u8; 1152];
     let mut strings_back = [0u8; 512];
     let mut types_back = [0u32; 384];
-    let records = 8 * words;
+    let instruction_words = records::RECORD * words;
     let log_bytes = 9 * words;
     let string_bytes = 4 * words;
-    let entries = 3 * words;
+    let type_words = ENTRY * words;
     let yes = round_trip::round_trip(
         module,
         grammar,
@@ -29,10 +32,10 @@ fn case(text: &[u8], module: &[u8], grammar: &[u8], room: usize, words: usize)
         &mut strings,
         &mut types,
         &mut out[..room],
-        &mut instructions_back[..records],
+        &mut instructions_back[..instruction_words],
         &mut log_back[..log_bytes],
         &mut strings_back[..string_bytes],
-        &mut types_back[..entries],
+        &mut types_back[..type_words],
     );
     io::write_all(STDOUT_FILENO, text);
     if yes {

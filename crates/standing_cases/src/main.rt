@@ -2,6 +2,7 @@
 // the header. The modules are their bytes, the header's twenty in the first line of each.
 use libc::STDOUT_FILENO;
 use spec::Loaded;
+use spec::refusals;
 
 // Writes some text.
 fn say(text: &[u8]) {
@@ -57,7 +58,7 @@ fn orders(x: Loaded, instructions: &[u32], log: &[u8], strings: &[u8]) {
         c.strings,
         &mut sorted,
     );
-    if (a.number != 0) | (b.number != 0) {
+    if (a.number != refusals::ACCEPTED) | (b.number != refusals::ACCEPTED) {
         say(b" not written\n");
         return;
     }
@@ -83,7 +84,7 @@ fn case(name: &[u8], module: &[u8]) {
     );
     say(name);
     say(b":");
-    if x.number != 0 {
+    if x.number != refusals::ACCEPTED {
         say(b" refused\n");
         return;
     }

@@ -1,11 +1,11 @@
 -- `fittings::line` meets its contract: its stores suffice for a module of 255 bytes.
-use Rattle.spec.specs.Load.{enough, roomOf}
+use Rattle.spec.specs.Load.{enough, roomOf, roomIn}
 use borrow.Author.Needs.{needs}
 use Rattle.fittings.proofs.line.Statement.{statement}
 use Rattle.fittings.proofs.line.Tie as tie
 
 pub line-spec : {M : Type 1} → statement M
-unfolding enough roomOf
+unfolding enough roomOf roomIn
 line-spec =
     tie.close
     (tie.spec

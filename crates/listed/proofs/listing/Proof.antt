@@ -1,9 +1,8 @@
 -- `listed::listing` meets its contract.
 use borrow.Author.Needs.{needs}
 use native.Mathlib.Omega.{arith}
-use mathlib.Core.Path.{refl, sym}
-use lib.ListN.{replicate}
-use Rattle.listed.proofs.Recorded.{listing-long, kept-few, listing-is}
+use mathlib.Core.Path.{sym}
+use Rattle.listed.proofs.Recorded.{listing-long, listing-room, kept-few, listing-is}
 use Rattle.listed.proofs.listing.Statement.{statement}
 use Rattle.listed.proofs.listing.Tie as tie
 
@@ -21,6 +20,6 @@ listing-spec =
     (λ c. search needs)
     (λ c κs. search needs)
     (λ c. sym (c .before .before .before .before .before .before .load-builtin .kept .1 .0))
-    (λ c κs. let few = kept-few _ (replicate 8152 0) (replicate 9171 0) (replicate 4076 0) (replicate 3057 0) refl refl refl refl _ (c .before .before .before .before .before .before .load-builtin .ensures .0) in (few, omega arith, omega (arith, c .before .before .before .before .before .before .load-builtin .kept .1 .0)))
+    (λ c κs. (kept-few listing-room (c .before .before .before .before .before .before .load-builtin .ensures), omega arith, omega (arith, kept-few listing-room (c .before .before .before .before .before .before .load-builtin .ensures), c .before .before .before .before .before .before .load-builtin .kept .1 .0)))
     (λ c. c .before .before .load-text .kept .0)
-    (λ c. listing-is _ (replicate 8152 0) (replicate 9171 0) (replicate 4076 0) (replicate 3057 0) refl refl refl refl _ (c .before .before .before .before .before .before .before .before .before .load-builtin .ensures .0) _ (c .before .before .before .before .before .before .before .before .before .load-builtin .ensures .1 .0) (c .before .before .before .before .before .before .before .before .before .load-builtin .ensures .1 .1 .1 .1 .1) (c .before .before .before .before .before .before .before .before .before .before .before .before .before .before .if1 .left) (c .before .before .load-text .ensures)))
+    (λ c. listing-is listing-room (c .before .before .before .before .before .before .before .before .before .load-builtin .ensures) (c .before .before .before .before .before .before .before .before .before .before .before .before .before .before .if1 .left) (c .before .before .load-text .ensures)))

@@ -1,9 +1,10 @@
 -- `replay::replay` meets its contract.
 use Prim.Native.Nat.{_≤_, _-_}
+use mathlib.Core.Path.{subst}
 use native.Mathlib.Omega.{arith}
 use borrow.Author.Needs.{needs}
 use lib.ListN.{length}
-use Rattle.replay.proofs.Turns.{follows-next}
+use Rattle.replay.specs.Entries.{Follows}
 use Rattle.replay.proofs.replay.Statement.{statement}
 use Rattle.replay.proofs.replay.Tie as tie
 
@@ -14,6 +15,7 @@ abbrev μ-loop : tie.MeasureT-loop
 μ-loop s count at₀ i₀ differences₀ at i differences = count - i
 
 pub replay-spec : {M : Type 1} → statement M
+unfolding Follows
 replay-spec =
     tie.close
     (tie.spec
@@ -21,18 +23,18 @@ replay-spec =
     μ-loop
     (λ c κs. search needs)
     (λ c. search needs)
-    (λ c κs. omega arith)
     (λ c κs. search needs)
-    (λ c. (omega arith, omega arith, omega arith))
-    (λ c. omega arith)
-    (λ c κs. c .before .loop .inv .0)
+    (λ c κs. search needs)
     (λ c. search needs)
     (λ c. search needs)
     (λ c κs. search needs)
     (λ c. search needs)
-    (λ c. omega (arith, follows-next (c .before .before .before .entry .ensures .0) (c .before .turn .given .1)))
-    (λ c. omega arith)
-    (λ c. let n = follows-next (c .before .before .before .entry .ensures .0) (c .before .turn .given .1) in (n .1, omega arith, omega arith))
+    (λ c. search needs)
+    (λ c κs. search needs)
+    (λ c. search needs)
+    (λ c. omega (arith, subst (Follows _) (c .before .turn .given .1) (c .before .before .before .entry .ensures)))
+    (λ c. search needs)
+    (λ c. let n = subst (Follows _) (c .before .turn .given .1) (c .before .before .before .entry .ensures) in (n .0, omega arith, omega arith))
     (λ c κs. search needs)
     (λ c κs. search needs)
     (λ c. search needs))

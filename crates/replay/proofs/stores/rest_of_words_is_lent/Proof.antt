@@ -1,14 +1,12 @@
 -- `replay::stores::rest_of_words_is_lent` meets its contract.
 use Prim.Native.Nat.{_≤_, _-_}
-use native.Mathlib.Omega.{arith}
 use lib.ListN.{length}
-use Rattle.replay.specs.Lent.{Between}
-use Rattle.replay.proofs.Places.{between-none, between-more, between-less, never}
+use borrow.Author.Needs.{needs}
 use Rattle.replay.proofs.stores.rest_of_words_is_lent.Statement.{statement}
 use Rattle.replay.proofs.stores.rest_of_words_is_lent.Tie as tie
 
 abbrev Inv-loop : tie.InvT-loop
-Inv-loop store from i₀ i = (from ≤ i) × Between from i (λ k. 2779096485) store
+Inv-loop store from i₀ i = from ≤ i
 
 abbrev μ-loop : tie.MeasureT-loop
 μ-loop store from i₀ i = length store - i
@@ -19,11 +17,11 @@ rest-of-words-is-lent-spec =
     (tie.spec
     Inv-loop
     μ-loop
-    (λ c. (omega arith, between-none _ _ _))
-    (λ c. omega arith)
-    (λ c. omega arith)
-    (λ c. never)
-    (λ c. omega arith)
-    (λ c. omega arith)
-    (λ c. (omega arith, between-more _ _ _ _ (c .before .before .before .loop .inv .1) (omega arith)))
-    (λ c e. between-less _ _ _ _ _ (c .before .loop .inv .1) (omega arith)))
+    (λ c. search needs)
+    (λ c. search needs)
+    (λ c. search needs)
+    (λ c. search needs)
+    (λ c. search needs)
+    (λ c. search needs)
+    (λ c. search needs)
+    (λ c. search needs))

@@ -1,14 +1,11 @@
 -- `replay::stores::words_start` meets its contract.
-use Prim.Native.Nat.{_*_, _≤_, _-_}
-use native.Mathlib.Omega.{arith}
-use Rattle.spec.specs.Words.{fourAt}
-use Rattle.replay.specs.Lent.{Between}
-use Rattle.replay.proofs.Places.{between-none, between-more, between-less, never}
+use Prim.Native.Nat.{_≤_, _-_}
+use borrow.Author.Needs.{needs}
 use Rattle.replay.proofs.stores.words_start.Statement.{statement}
 use Rattle.replay.proofs.stores.words_start.Tie as tie
 
 abbrev Inv-loop : tie.InvT-loop
-Inv-loop store bytes count i₀ i = (i ≤ count) × Between 0 i (λ k. fourAt (4 * k) bytes) store
+Inv-loop store bytes count i₀ i = i ≤ count
 
 abbrev μ-loop : tie.MeasureT-loop
 μ-loop store bytes count i₀ i = count - i
@@ -19,13 +16,13 @@ words-start-spec =
     (tie.spec
     Inv-loop
     μ-loop
-    (λ c. (omega arith, between-none _ _ _))
-    (λ c. omega arith)
-    (λ c. omega arith)
-    (λ c. omega arith)
-    (λ c κs. omega arith)
-    (λ c. never)
-    (λ c. omega arith)
-    (λ c. omega arith)
-    (λ c. (omega arith, between-more _ _ _ _ (c .before .before .before .before .loop .inv .1) (omega (arith, c .before .word-at .ensures))))
-    (λ c e. between-less _ _ _ _ _ (c .before .loop .inv .1) (omega arith)))
+    (λ c. search needs)
+    (λ c. search needs)
+    (λ c. search needs)
+    (λ c. search needs)
+    (λ c κs. search needs)
+    (λ c. search needs)
+    (λ c. search needs)
+    (λ c. search needs)
+    (λ c. search needs)
+    (λ c. search needs))

@@ -1,3 +1,0 @@
-pub mod Places
-pub mod Turns
-pub mod Kept
