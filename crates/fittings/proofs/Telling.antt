@@ -29,7 +29,7 @@ tells (fitting s x ∷ fs) f e m P p =
     let rest : found f fs ≡ claimed fs = cc in
     ((λ q. subst P (ap (λ (t : List ℕ). shown t (f t)) q ∙ first) p), tells fs f rest m P p)
 
-module _ {m : List ℕ} {t : Stores} (c : Covers (roomIn t) (roomFor m)) where
+module _ (m : List ℕ) (t : Stores) (c : Covers (roomIn t) (roomFor m)) where
   -- a load into stores with room is the one with the room that suffices
   roomy : loading m builtin t ≡ load builtin (roomFor m) m
   unfolding loading
@@ -70,7 +70,7 @@ module _ (t : Stores) (c : Covers (roomIn t) (enough 9)) where
   all-found [] h = refl
   all-found (fitting m x ∷ fs) h =
       ap₂ (λ (o : Outcome) (rest : List Shown). shown m o ∷ rest)
-      (roomy (suffices m (leb-true (length m) 56 (left _ (every short fs) h)))) (all-found fs (right (leb (length m) 56) _ h))
+      (roomy m t (suffices m (leb-true (length m) 56 (left _ (every short fs) h)))) (all-found fs (right (leb (length m) 56) _ h))
 
   -- the fourteen fittings hold of loads into such stores, as their contracts state them
   pub loads-hold : found (λ m. loading m builtin t) fittings ≡ claimed fittings

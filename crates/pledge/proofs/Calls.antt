@@ -167,28 +167,18 @@ pub record Writes (order : List ℕ → Given → List ℕ → Writing) (w : Wri
   pub said : w .answer ≡ order (w .header) (w .records) (w .before) .said
   pub output : w .after ≡ order (w .header) (w .records) (w .before) .output
 
--- a call of `write_parse_order`
+-- calls of `write_parse_order` and `write_module_order`, which take and answer alike
+abbrev pub WriteCall : Out _ write-parse-fn.Kinds.ps write-parse-fn.Kinds.r → Type 0
+WriteCall tells = Call write-parse-fn.Kinds.ps write-parse-fn.Kinds.r tells
+
 abbrev pub WriteParseCall : Type 0
-WriteParseCall = Call write-parse-fn.Kinds.ps write-parse-fn.Kinds.r write-parse-fn.Reads.Learnt
+WriteParseCall = WriteCall write-parse-fn.Reads.Learnt
 
-abbrev pub write-parse-seen : WriteParseCall → Write
-write-parse-seen c =
-    let a = c .given .1 in
-    let n = a .1 .1 .1 in
-    record {
-      header = c .given .0;
-      records = records-given (now (a .0)) (now (a .1 .0)) (now (a .1 .1 .0)) (n .0) (n .1 .0) (n .1 .1 .0);
-      before = now (n .1 .1 .1 .0);
-      answer = c .answer;
-      after = c .left .1 .1 .1 .1 .1 .1 .1 .0;
-    }
-
--- a call of `write_module_order`
 abbrev pub WriteModuleCall : Type 0
-WriteModuleCall = Call write-module-fn.Kinds.ps write-module-fn.Kinds.r write-module-fn.Reads.Learnt
+WriteModuleCall = WriteCall write-module-fn.Reads.Learnt
 
-abbrev pub write-module-seen : WriteModuleCall → Write
-write-module-seen c =
+abbrev pub write-seen : {tells : Out _ write-parse-fn.Kinds.ps write-parse-fn.Kinds.r} → WriteCall tells → Write
+write-seen c =
     let a = c .given .1 in
     let n = a .1 .1 .1 in
     record {
@@ -203,29 +193,18 @@ write-module-seen c =
 abbrev pub writtenBy : List ℕ → Written
 writtenBy ws = record { number = getD ws 0 0; index = getD ws 1 0; bytes = getD ws 2 0 + 4294967296 * getD ws 3 0 }
 
--- a call of `kollafrin_write_parse_order`
+-- calls of `kollafrin_write_parse_order` and `kollafrin_write_module_order`
+abbrev pub DoorWriteCall : Out _ door-write-parse-fn.Kinds.ps door-write-parse-fn.Kinds.r → Type 0
+DoorWriteCall tells = Call door-write-parse-fn.Kinds.ps door-write-parse-fn.Kinds.r tells
+
 abbrev pub DoorWriteParseCall : Type 0
-DoorWriteParseCall = Call door-write-parse-fn.Kinds.ps door-write-parse-fn.Kinds.r door-write-parse-fn.Reads.Learnt
+DoorWriteParseCall = DoorWriteCall door-write-parse-fn.Reads.Learnt
 
-abbrev pub door-write-parse-seen : DoorWriteParseCall → Write
-door-write-parse-seen c =
-    let a = c .given .1 in
-    let n = a .1 .1 .1 in
-    let z = c .left .1 .1 .1 .1 .1 .1 .1 in
-    record {
-      header = now (c .given .0);
-      records = records-given (now (a .0)) (now (a .1 .0)) (now (a .1 .1 .0)) (n .0) (n .1 .0) (n .1 .1 .0);
-      before = now (n .1 .1 .1 .0);
-      answer = writtenBy (z .1 .0);
-      after = z .0;
-    }
-
--- a call of `kollafrin_write_module_order`
 abbrev pub DoorWriteModuleCall : Type 0
-DoorWriteModuleCall = Call door-write-module-fn.Kinds.ps door-write-module-fn.Kinds.r door-write-module-fn.Reads.Learnt
+DoorWriteModuleCall = DoorWriteCall door-write-module-fn.Reads.Learnt
 
-abbrev pub door-write-module-seen : DoorWriteModuleCall → Write
-door-write-module-seen c =
+abbrev pub door-write-seen : {tells : Out _ door-write-parse-fn.Kinds.ps door-write-parse-fn.Kinds.r} → DoorWriteCall tells → Write
+door-write-seen c =
     let a = c .given .1 in
     let n = a .1 .1 .1 in
     let z = c .left .1 .1 .1 .1 .1 .1 .1 in
@@ -244,8 +223,8 @@ pub data ParseWriting : Type 0 where
 
 -- the write that it is
 abbrev pub parse-seen : ParseWriting → Write
-parse-seen (by-write-parse c) = write-parse-seen c
-parse-seen (by-door-parse c) = door-write-parse-seen c
+parse-seen (by-write-parse c) = write-seen c
+parse-seen (by-door-parse c) = door-write-seen c
 
 -- a call of either that writes in module order
 pub data ModuleWriting : Type 0 where
@@ -254,8 +233,8 @@ pub data ModuleWriting : Type 0 where
 
 -- the write that it is
 abbrev pub module-seen : ModuleWriting → Write
-module-seen (by-write-module c) = write-module-seen c
-module-seen (by-door-module c) = door-write-module-seen c
+module-seen (by-write-module c) = write-seen c
+module-seen (by-door-module c) = door-write-seen c
 
 -- THE ROUND TRIP
 

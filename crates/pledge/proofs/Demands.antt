@@ -43,7 +43,7 @@ use Rattle.kollafrin.proofs.kollafrin_write_module_order.Met as door-write-modu
 use Rattle.round_trip.proofs.round_trip.Statement as round-trip-contract
 use Rattle.round_trip.proofs.round_trip.Met as round-trip-proof
 use Rattle.round_trip.specs.Trip.{RoundTrip}
-use Rattle.pledge.proofs.Calls.{Load, outcome, records, Loads, LoadCall, load-seen, LoadBuiltinCall, load-builtin-seen, DoorLoadCall, door-load-seen, DoorLoadBuiltinCall, door-load-builtin-seen, Loading, by-load, by-load-builtin, by-door, by-door-builtin, seen, Write, Writes, WriteParseCall, write-parse-seen, WriteModuleCall, write-module-seen, DoorWriteParseCall, door-write-parse-seen, DoorWriteModuleCall, door-write-module-seen, ParseWriting, by-write-parse, by-door-parse, parse-seen, ModuleWriting, by-write-module, by-door-module, module-seen, RoundTripCall}
+use Rattle.pledge.proofs.Calls.{Load, outcome, records, Loads, LoadCall, load-seen, LoadBuiltinCall, load-builtin-seen, DoorLoadCall, door-load-seen, DoorLoadBuiltinCall, door-load-builtin-seen, Loading, by-load, by-load-builtin, by-door, by-door-builtin, seen, Write, Writes, WriteParseCall, WriteModuleCall, write-seen, DoorWriteParseCall, DoorWriteModuleCall, door-write-seen, ParseWriting, by-write-parse, by-door-parse, parse-seen, ModuleWriting, by-write-module, by-door-module, module-seen, RoundTripCall}
 use Rattle.pledge.proofs.Told.{loaded-by, written-by, refused-by, leaves-so, records-are}
 
 -- DEMAND 2: each contract as a reader follows it, and the theorem that the code meets it
@@ -85,14 +85,14 @@ loads (by-door c) = door-load-loads c
 loads (by-door-builtin c) = door-load-builtin-loads c
 
 -- `write_parse_order` answers, and leaves in the output, what the definition says of writing the records in the order read
-pub write-parse-writes : (c : WriteParseCall) → Writes writeParse (write-parse-seen c)
+pub write-parse-writes : (c : WriteParseCall) → Writes writeParse (write-seen c)
 write-parse-writes c = record { said = c .told .0; output = c .told .1 }
 
 pub write-parse-met : {M : Type 1} → write-parse-contract.statement M
 write-parse-met = write-parse-proof.met
 
 -- `kollafrin_write_parse_order` does the same, its answer in words
-pub door-write-parse-writes : (c : DoorWriteParseCall) → Writes writeParse (door-write-parse-seen c)
+pub door-write-parse-writes : (c : DoorWriteParseCall) → Writes writeParse (door-write-seen c)
 door-write-parse-writes c = record { said = written-by _ _ (c .told .words); output = c .told .output }
 
 pub door-write-parse-met : {M : Type 1} → door-write-parse-contract.statement M
@@ -104,14 +104,14 @@ parse-writes (by-write-parse c) = write-parse-writes c
 parse-writes (by-door-parse c) = door-write-parse-writes c
 
 -- `write_module_order` does the same for module order
-pub write-module-writes : (c : WriteModuleCall) → Writes writeModule (write-module-seen c)
+pub write-module-writes : (c : WriteModuleCall) → Writes writeModule (write-seen c)
 write-module-writes c = record { said = c .told .0; output = c .told .1 }
 
 pub write-module-met : {M : Type 1} → write-module-contract.statement M
 write-module-met = write-module-proof.met
 
 -- and `kollafrin_write_module_order`, its answer in words
-pub door-write-module-writes : (c : DoorWriteModuleCall) → Writes writeModule (door-write-module-seen c)
+pub door-write-module-writes : (c : DoorWriteModuleCall) → Writes writeModule (door-write-seen c)
 door-write-module-writes c = record { said = written-by _ _ (c .told .words); output = c .told .output }
 
 pub door-write-module-met : {M : Type 1} → door-write-module-contract.statement M
