@@ -21,7 +21,7 @@ use Rattle.loader.specs.Loading.{loading}
 use Rattle.demands.proofs.Returns.{endOf, ended}
 use Rattle.demands.proofs.Numbers.{OfRoom, Source, OfLoad}
 use Rattle.demands.proofs.Rooms.{any-room}
-use Rattle.demands.proofs.Leaves.{Leaves, load-leaves as leaves-of, load-begins}
+use Rattle.demands.proofs.Leaves.{Leaves, load-begins}
 use Rattle.demands.proofs.Demand1.{number-bound, number-source, first-fault}
 use Rattle.demands.proofs.Demand3.{comes-back, plain-is-written, writes, same-records}
 use Rattle.loader.proofs.load.Statement as load-contract
