@@ -6,24 +6,6 @@ use Rattle.tracker.proofs.Literal.{literal-there, literal-missing}
 use Rattle.tracker.proofs.track_int.Statement.{statement}
 use Rattle.tracker.proofs.track_int.Tie as tie
 
-returns : tie.Need-returns
-returns c = int-few _ _ _ (c .if1 .taken)
-
-operand-of-requires : tie.Need-operand-of-requires
-operand-of-requires c κs = c .before .pre .first (omega arith)
-
-enum-known-a : tie.Need-enum-known-a
-enum-known-a c = search needs
-
-returns-2 : tie.Need-returns-2
-returns-2 c = int-no-width _ _ _ (c .before .before .if1 .left) (literal-missing _ _ (c .before .operand-of .ensures) (c .match .keys2))
-
-operand-of-requires-2 : tie.Need-operand-of-requires-2
-operand-of-requires-2 c κs = c .before .before .before .before .before .pre .second (c .before .before .before .before .if1 .left)
-
-enum-known-b : tie.Need-enum-known-b
-enum-known-b c = search needs
-
 returns-3 : tie.Need-returns-3
 returns-3 c =
     let width = literal-there _ _ (c .before .before .before .before .before .operand-of .ensures) _ (c .before .before .before .a .given .1) in
@@ -45,12 +27,12 @@ pub track-int-spec : {M : Type 1} → statement M
 track-int-spec =
     tie.close
     (tie.spec
-    returns
-    operand-of-requires
-    enum-known-a
-    returns-2
-    operand-of-requires-2
-    enum-known-b
+    (λ c. int-few _ _ _ (c .if1 .taken))
+    (λ c κs. c .before .pre .first (omega arith))
+    (λ c. search needs)
+    (λ c. int-no-width _ _ _ (c .before .before .if1 .left) (literal-missing _ _ (c .before .operand-of .ensures) (c .match .keys2)))
+    (λ c κs. c .before .before .before .before .before .pre .second (c .before .before .before .before .if1 .left))
+    (λ c. search needs)
     returns-3
     returns-4
     returns-5)

@@ -10,12 +10,6 @@ use Rattle.tracker.proofs.Hinting.{none-new, none-noted, noted-as}
 use Rattle.tracker.proofs.TypeTracker.track.Statement.{statement}
 use Rattle.tracker.proofs.TypeTracker.track.Tie as tie
 
-enum-known-rid : tie.Need-enum-known-rid
-enum-known-rid c = search needs
-
-enum-told : tie.Need-enum-told
-enum-told c = search needs
-
 returns : tie.Need-returns
 returns c =
     let asked = c .before .before .before .before .pre in
@@ -27,18 +21,6 @@ returns c =
 
 typed-requires : tie.Need-typed-requires
 typed-requires c κs = let asked = c .before .before .before .before .before .before .before .pre in (room-before _ _ _ _ _ _ _ _ (asked .1 .0), (asked .0, asked .1 .1))
-
-enum-known-typed : tie.Need-enum-known-typed
-enum-known-typed c = search needs
-
-enum-told-2 : tie.Need-enum-told-2
-enum-told-2 c = search needs
-
-same-length : tie.Need-same-length
-same-length c = search needs
-
-same-length-2 : tie.Need-same-length-2
-same-length-2 c = search needs
 
 returns-2 : tie.Need-returns-2
 returns-2 c =
@@ -55,12 +37,6 @@ define-requires c κs =
     let e = result-defined _ _ _ _ _ _ _ _ (c .before .before .before .before .before .before .before .before .before .rid .given .1) _ (c .before .before .before .before .before .typed .ensures) _ _ (c .before .before .before .typed2 .given .1) in
     (room-before _ _ _ _ _ _ _ _ (asked .1 .0), (asked .0, omega (arith, ap length e, asked .1 .0)))
 
-same-length-3 : tie.Need-same-length-3
-same-length-3 c = search needs
-
-same-length-4 : tie.Need-same-length-4
-same-length-4 c = search needs
-
 returns-3 : tie.Need-returns-3
 returns-3 c =
     let e = result-defined _ _ _ _ _ _ _ _ (c .before .before .before .before .before .before .before .before .before .before .before .before .before .before .rid .given .1) _ (c .before .before .before .before .before .before .before .before .before .before .typed .ensures) _ _ (c .before .before .before .before .before .before .before .before .typed2 .given .1) in
@@ -72,16 +48,16 @@ pub track-spec : {M : Type 1} → statement M
 track-spec =
     tie.close
     (tie.spec
-    enum-known-rid
-    enum-told
+    (λ c. search needs)
+    (λ c. search needs)
     returns
     typed-requires
-    enum-known-typed
-    enum-told-2
-    same-length
-    same-length-2
+    (λ c. search needs)
+    (λ c. search needs)
+    (λ c. search needs)
+    (λ c. search needs)
     returns-2
     define-requires
-    same-length-3
-    same-length-4
+    (λ c. search needs)
+    (λ c. search needs)
     returns-3)
