@@ -11,7 +11,8 @@ use Rattle.spec.specs.Records.{Entry, entry}
 use Rattle.spec.specs.Layout.{isType}
 use Rattle.spec.specs.Types.{entryOf, define, defineInt, defineFloat, inherit, trackValue}
 use Rattle.tracker.specs.Entries.{entriesOf}
-use Rattle.tracker.specs.Track.{intOf, floatOf, typeOf, trackOf}
+use Rattle.tracker.specs.declared.Told.{Told}
+use Rattle.tracker.specs.Track.{intOf, floatOf, typeOf, trackOf, toldWith, toldOf}
 use Rattle.tracker.proofs.Laws.{length-entries}
 
 -- as many entries, or one more
@@ -77,8 +78,11 @@ track-grows op t none count a b es = grown-same es
 track-grows op t (some i) count a b es =
     grown-if es (typeOf op i count a b es) (trackValue i t es) (isType op) (grown-type op i count a b es) (grown-value i t es)
 
+-- so it does by what is told of an instruction
+pub told-grows : (t : Told) (es : List Entry) → Grown es (toldOf t es)
+unfolding toldOf toldWith
+told-grows t es = track-grows _ _ _ _ _ _ es
+
 -- a store with room for the entries after an instruction has room for those before it
-pub room-before : (op : ℕ) (t rid : Option ℕ) (count : ℕ) (a b : Option ℕ) (n : ℕ) (l : List ℕ)
-    → 3 * length (trackOf op t rid count a b (entriesOf n l)) ≤ length l → 3 * n ≤ length l
-room-before op t rid count a b n l h =
-    omega (arith, track-grows op t rid count a b (entriesOf n l) .least, length-entries n l)
+pub room-before : (t : Told) (n : ℕ) (l : List ℕ) → 3 * length (toldOf t (entriesOf n l)) ≤ length l → 3 * n ≤ length l
+room-before t n l h = omega (arith, told-grows t (entriesOf n l) .least, length-entries n l)

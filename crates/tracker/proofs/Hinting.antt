@@ -106,11 +106,6 @@ module _ (n g : ℕ) (hs : List ℕ) (es : List Entry) where
   unfolding hintsWith greatestWith
   one-noted i w s e ks p k q = rw e (p, q)
 
--- what is noted of entries is noted of the same
-pub noted-as : (n g : ℕ) (hs : List ℕ) (es fs : List Entry) → es ≡ fs → (ks : List ℕ) → ks ≡ hintsWith n (newOf n es) hs → (k : ℕ)
-    → k ≡ greatestWith (newOf n es) g → (ks ≡ hintsWith n (newOf n fs) hs) × (k ≡ greatestWith (newOf n fs) g)
-noted-as n g hs es fs e ks p k q = rw (← e) (p, q)
-
 module _ (a b : ℕ) where
   -- the second is the greater
   pub second-greater : a < b → b ≡ greaterOf a b

@@ -5,3 +5,4 @@ pub mod Results
 pub mod Growth
 pub mod Instruction
 pub mod Hinting
+pub mod Tracking

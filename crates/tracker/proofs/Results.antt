@@ -17,7 +17,8 @@ use Rattle.tracker.specs.declared.Id.the-variants.{Absent, Is}
 use Rattle.tracker.specs.declared.Resolved.{Resolved}
 use Rattle.tracker.specs.declared.Resolved.the-variants.{«Type», Unknown}
 use Rattle.tracker.specs.Entries.{entriesOf, stored, resolvedIs}
-use Rattle.tracker.specs.Track.{idIs, intOf, floatOf, typeOf, trackOf, defined}
+use Rattle.tracker.specs.declared.Told.{Told}
+use Rattle.tracker.specs.Track.{idIs, literalOf, intOf, floatOf, typeOf, trackOf, toldWith, toldOf, defined}
 use Rattle.tracker.proofs.Laws.{holds, length-entries, stored-own}
 
 -- AN INTEGER TYPE
@@ -107,33 +108,34 @@ pub value-absent : (rtype : Id) → rtype ≡ Absent → (i : ℕ) (es : List En
 unfolding defined idIs
 value-absent rtype e i es = rw e
 
-module _ (op count : ℕ) (t a b : Option ℕ) (es : List Entry) where
-  module _ (y : Bool) (p : y ≡ isType op) (r : Resolved) where
+module _ (t : Told) (es : List Entry) where
+  module _ (y : Bool) (p : y ≡ isType (t .opcode)) (r : Resolved) where
     -- a result that is a type
-    pub result-type : y ≡ true → ((i : ℕ) → defined i r es ≡ typeOf op i count a b es) → (i : ℕ) → defined i r es ≡ trackOf op t (some i) count a b es
-    unfolding trackOf
+    pub result-type : y ≡ true → ((i : ℕ) → defined i r es ≡ typeOf (t .opcode) i (t .operands) (literalOf (t .first)) (literalOf (t .second)) es)
+        → (i : ℕ) → defined i r es ≡ toldWith t (some i) es
+    unfolding toldWith trackOf
     result-type q h i = simp (sym p ∙ q) (h i)
 
     -- a result that is none
-    pub result-value : y ≡ false → ((i : ℕ) → defined i r es ≡ trackValue i t es) → (i : ℕ) → defined i r es ≡ trackOf op t (some i) count a b es
-    unfolding trackOf
+    pub result-value : y ≡ false → ((i : ℕ) → defined i r es ≡ trackValue i (idIs (t .rtype)) es) → (i : ℕ) → defined i r es ≡ toldWith t (some i) es
+    unfolding toldWith trackOf
     result-value q h i = simp (sym p ∙ q) (h i)
 
   -- no result id: the entries stay
-  pub result-absent : (rid : Id) → rid ≡ Absent → es ≡ trackOf op t (idIs rid) count a b es
-  unfolding trackOf idIs
-  result-absent rid e = rw e
+  pub result-absent : t .rid ≡ Absent → es ≡ toldOf t es
+  unfolding toldOf toldWith trackOf idIs
+  result-absent e = rw e
 
   -- an id, and the type of the result
-  module _ (rid : Id) (i : ℕ) (e : rid ≡ Is i) (r : Resolved) (h : (j : ℕ) → defined j r es ≡ trackOf op t (some j) count a b es) where
+  module _ (i : ℕ) (e : t .rid ≡ Is i) (r : Resolved) (h : (j : ℕ) → defined j r es ≡ toldWith t (some j) es) where
     -- nothing is known: the entries stay
-    pub result-unknown : r ≡ Unknown → es ≡ trackOf op t (idIs rid) count a b es
-    unfolding defined idIs
+    pub result-unknown : r ≡ Unknown → es ≡ toldOf t es
+    unfolding toldOf toldWith defined idIs
     result-unknown q = rw e (ap (λ (x : Resolved). defined i x es) (sym q) ∙ h i)
 
     -- a type: the id is defined
-    pub result-defined : (w s : ℕ) → r ≡ «Type» w s → define i w s es ≡ trackOf op t (idIs rid) count a b es
-    unfolding defined idIs
+    pub result-defined : (w s : ℕ) → r ≡ «Type» w s → define i w s es ≡ toldOf t es
+    unfolding toldOf toldWith defined idIs
     result-defined w s q = rw e (ap (λ (x : Resolved). defined i x es) (sym q) ∙ h i)
 
 -- THE ENTRIES AFTER AN INSTRUCTION

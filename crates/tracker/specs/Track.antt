@@ -4,6 +4,7 @@ use mathlib.Core.Path.{_≡_}
 use mathlib.Core.List.{List, [], _∷_}
 use mathlib.Core.Option.{Option, none, some}
 use lib.Dec.{leb, eqb}
+use lib.ListN.{length}
 use Rattle.spec.specs.Base.{if_then_else_}
 use Rattle.spec.specs.Records as records
 use Rattle.spec.specs.Records.{Entry}
@@ -15,6 +16,10 @@ use Rattle.tracker.specs.declared.Id.{Id}
 use Rattle.tracker.specs.declared.Id.the-variants.{Absent, Is}
 use Rattle.tracker.specs.declared.Resolved.{Resolved}
 use Rattle.tracker.specs.declared.Resolved.the-variants.{«Type», Unknown}
+use Rattle.tracker.specs.declared.Told.{Told}
+use Rattle.tracker.specs.declared.TypeTracker.{TypeTracker}
+use Rattle.tracker.specs.Entries.{stored}
+use Rattle.tracker.specs.Hints.{newOf, hintsWith, greatestWith, Hinted}
 
 -- the id that is there, or none
 unfoldable pub idIs : Id → Option ℕ
@@ -47,6 +52,14 @@ unfoldable pub trackOf : ℕ → Option ℕ → Option ℕ → ℕ → Option �
 trackOf op t none count a b es = es
 trackOf op t (some i) count a b es = if isType op then typeOf op i count a b es else trackValue i t es
 
+-- the entries after an instruction of which this is told, with a result id, or none, in place of its own
+unfoldable pub toldWith : Told → Option ℕ → List Entry → List Entry
+toldWith t i es = trackOf (t .opcode) (idIs (t .rtype)) i (t .operands) (literalOf (t .first)) (literalOf (t .second)) es
+
+-- the entries after an instruction of which this is told
+unfoldable pub toldOf : Told → List Entry → List Entry
+toldOf t es = toldWith t (idIs (t .rid)) es
+
 -- the first two of some operands have these literal numbers, where they are there
 unfoldable pub Literals : List records.Operand → Option ℕ → Option ℕ → Type 0
 Literals [] a b = Unit
@@ -57,3 +70,11 @@ Literals (x ∷ y ∷ os) a b = (literalInt x ≡ a) × (literalInt y ≡ b)
 unfoldable pub defined : ℕ → Resolved → List Entry → List Entry
 defined i («Type» w s) es = define i w s es
 defined i Unknown es = es
+
+-- a tracker and its stores after a change of the entries: they are stored, those that are new are hinted, and the hints are right
+pub record Tracked (t : TypeTracker) (types hints types₁ hints₁ : List ℕ) (es : List Entry) (r : TypeTracker) : Type 0 where
+  pub count : r .count ≡ length es
+  pub store : types₁ ≡ stored types es
+  pub hints-are : hints₁ ≡ hintsWith (t .count) (newOf (t .count) es) hints
+  pub greatest : r .greatest ≡ greatestWith (newOf (t .count) es) (t .greatest)
+  pub hinted : Hinted (r .count) types₁ hints₁ (r .greatest)

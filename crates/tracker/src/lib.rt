@@ -8,9 +8,9 @@ ghost use lib.Seq.{sets};
 ghost use Rattle.spec.specs.Records.{Entry};
 ghost use Rattle.spec.specs.Types.{entryOf, define, trackValue};
 ghost use Rattle.operand.specs.Parts.{Fits};
-ghost use Rattle.tracker.specs.Entries.{entriesOf, stored, placeOf, typeAt, resolvedIs};
-ghost use Rattle.tracker.specs.Hints.{hintOf, hintFor, noted, newOf, hintsWith, greaterOf, greatestWith, Hinted};
-ghost use Rattle.tracker.specs.Track.{idIs, literalOf, FirstFit, intOf, floatOf, typeOf, trackOf, defined};
+ghost use Rattle.tracker.specs.Entries.{entriesOf, placeOf, typeAt, resolvedIs};
+ghost use Rattle.tracker.specs.Hints.{hintOf, hintFor, noted, greaterOf, Hinted};
+ghost use Rattle.tracker.specs.Track.{idIs, literalOf, FirstFit, intOf, floatOf, typeOf, toldWith, toldOf, defined, Tracked};
 use operand::Operand;
 use operand::Parts;
 use operand::operand_of;
@@ -29,6 +29,16 @@ pub enum Id {
 pub enum Resolved {
     Type { width: u32, sort: u32 },
     Unknown,
+}
+
+// What type tracking is told of an instruction: its opcode, its results, how many operands, and kind and value of the first two.
+pub struct Told {
+    pub opcode: u16,
+    pub rtype: Id,
+    pub rid: Id,
+    pub operands: usize,
+    pub first: Parts,
+    pub second: Parts,
 }
 
 // How many entries there are in the store, which is lent to each call, and an id above which none has an entry.
@@ -225,52 +235,35 @@ impl TypeTracker {
     }
 
     // The type that the result of an instruction has, where it is tracked.
-    fn typed(
-        self,
-        types: &[u32],
-        hints: &[u16],
-        opcode: u16,
-        rtype: Id,
-        count: usize,
-        first: Parts,
-        second: Parts,
-    ) -> Resolved
+    fn typed(self, types: &[u32], hints: &[u16], told: Told) -> Resolved
         requires { ⌜ 3 * self .count ≤ length (now types) ⌝ }
         requires { ⌜ Hinted (self .count) (now types) (now hints) (self .greatest) ⌝ }
-        requires { ⌜ FirstFit count first second ⌝ }
+        requires { ⌜ FirstFit (told .operands) (told .first) (told .second) ⌝ }
         ensures { λ r. ⌜ ((id : ℕ) → defined id r (entriesOf (self .count) (now (types .entry)))
-            ≡ trackOf opcode (idIs rtype) (some id) count (literalOf first) (literalOf second)
-            (entriesOf (self .count) (now (types .entry)))) ⌝ }
+            ≡ toldWith told (some id) (entriesOf (self .count) (now (types .entry)))) ⌝ }
     {
-        if reflect::is_type(opcode) {
-            return track_type(opcode, count, first, second);
+        if reflect::is_type(told.opcode) {
+            let first = told.first;
+            let second = told.second;
+            return track_type(told.opcode, told.operands, first, second);
         }
+        let rtype = told.rtype;
         self.track_value(types, hints, rtype)
     }
 
     // How many entries there are after an instruction, before anything is stored.
-    pub fn after(
-        self,
-        types: &[u32],
-        hints: &[u16],
-        opcode: u16,
-        rtype: Id,
-        rid: Id,
-        count: usize,
-        first: Parts,
-        second: Parts,
-    ) -> usize
+    pub fn after(self, types: &[u32], hints: &[u16], told: Told) -> usize
         requires { ⌜ 3 * self .count ≤ length (now types) ⌝ }
         requires { ⌜ Hinted (self .count) (now types) (now hints) (self .greatest) ⌝ }
-        requires { ⌜ FirstFit count first second ⌝ }
-        ensures { λ r. ⌜ r ≡ length (trackOf opcode (idIs rtype) (idIs rid) count (literalOf first) (literalOf second)
-            (entriesOf (self .count) (now (types .entry)))) ⌝ }
+        requires { ⌜ FirstFit (told .operands) (told .first) (told .second) ⌝ }
+        ensures { λ r. ⌜ r ≡ length (toldOf told (entriesOf (self .count) (now (types .entry)))) ⌝ }
     {
         let entries = self.count;
+        let rid = told.rid;
         let Id::Is(id) = rid else {
             return entries;
         };
-        let typed = self.typed(types, hints, opcode, rtype, count, first, second);
+        let typed = self.typed(types, hints, told);
         let Resolved::Type { width: _, sort: _ } = typed else {
             return entries;
         };
@@ -293,11 +286,7 @@ impl TypeTracker {
         requires { ⌜ 3 * self .count ≤ length (now types) ⌝ }
         requires { ⌜ Hinted (self .count) (now types) (now hints) (self .greatest) ⌝ }
         requires { ⌜ 3 * length (define id width sort (entriesOf (self .count) (now types))) ≤ length (now types) ⌝ }
-        ensures { λ r. ⌜ r .count ≡ length (define id width sort (entriesOf (self .count) (now (types .entry)))) ⌝ }
-        ensures { λ _. ⌜ now (types .exit) ≡ stored (now (types .entry)) (define id width sort (entriesOf (self .count) (now (types .entry)))) ⌝ }
-        ensures { λ _. ⌜ now (hints .exit) ≡ hintsWith (self .count) (newOf (self .count) (define id width sort (entriesOf (self .count) (now (types .entry))))) (now (hints .entry)) ⌝ }
-        ensures { λ r. ⌜ r .greatest ≡ greatestWith (newOf (self .count) (define id width sort (entriesOf (self .count) (now (types .entry))))) (self .greatest) ⌝ }
-        ensures { λ r. ⌜ Hinted (r .count) (now (types .exit)) (now (hints .exit)) (r .greatest) ⌝ }
+        ensures { λ r. ⌜ Tracked self (now (types .entry)) (now (hints .entry)) (now (types .exit)) (now (hints .exit)) (define id width sort (entriesOf (self .count) (now (types .entry)))) r ⌝ }
     {
         let count = self.count;
         let greatest = self.greatest;
@@ -314,35 +303,17 @@ impl TypeTracker {
     }
 
     // Tracks an instruction: the entries after it, where there is room for them.
-    pub fn track(
-        self,
-        types: &mut [u32],
-        hints: &mut [u16],
-        opcode: u16,
-        rtype: Id,
-        rid: Id,
-        count: usize,
-        first: Parts,
-        second: Parts,
-    ) -> TypeTracker
+    pub fn track(self, types: &mut [u32], hints: &mut [u16], told: Told) -> TypeTracker
         requires { ⌜ Hinted (self .count) (now types) (now hints) (self .greatest) ⌝ }
-        requires { ⌜ 3 * length (trackOf opcode (idIs rtype) (idIs rid) count (literalOf first) (literalOf second)
-            (entriesOf (self .count) (now types))) ≤ length (now types) ⌝ }
-        requires { ⌜ FirstFit count first second ⌝ }
-        ensures { λ r. ⌜ r .count ≡ length (trackOf opcode (idIs rtype) (idIs rid) count (literalOf first) (literalOf second)
-            (entriesOf (self .count) (now (types .entry)))) ⌝ }
-        ensures { λ _. ⌜ now (types .exit) ≡ stored (now (types .entry)) (trackOf opcode (idIs rtype) (idIs rid) count (literalOf first) (literalOf second)
-            (entriesOf (self .count) (now (types .entry)))) ⌝ }
-        ensures { λ _. ⌜ now (hints .exit) ≡ hintsWith (self .count) (newOf (self .count) (trackOf opcode (idIs rtype) (idIs rid) count (literalOf first) (literalOf second)
-            (entriesOf (self .count) (now (types .entry))))) (now (hints .entry)) ⌝ }
-        ensures { λ r. ⌜ r .greatest ≡ greatestWith (newOf (self .count) (trackOf opcode (idIs rtype) (idIs rid) count (literalOf first) (literalOf second)
-            (entriesOf (self .count) (now (types .entry))))) (self .greatest) ⌝ }
-        ensures { λ r. ⌜ Hinted (r .count) (now (types .exit)) (now (hints .exit)) (r .greatest) ⌝ }
+        requires { ⌜ 3 * length (toldOf told (entriesOf (self .count) (now types))) ≤ length (now types) ⌝ }
+        requires { ⌜ FirstFit (told .operands) (told .first) (told .second) ⌝ }
+        ensures { λ r. ⌜ Tracked self (now (types .entry)) (now (hints .entry)) (now (types .exit)) (now (hints .exit)) (toldOf told (entriesOf (self .count) (now (types .entry)))) r ⌝ }
     {
+        let rid = told.rid;
         let Id::Is(id) = rid else {
             return self;
         };
-        let typed = self.typed(types, hints, opcode, rtype, count, first, second);
+        let typed = self.typed(types, hints, told);
         let Resolved::Type { width, sort } = typed else {
             return self;
         };

@@ -10,6 +10,6 @@ typed-spec =
     (tie.spec
     (λ c κs. search needs)
     (λ c κs. search needs)
-    (λ c. result-type _ _ _ _ _ _ _ (c .before .before .is-type .ensures) _ (c .before .if1 .taken) (λ i. c .track-type .ensures i _))
+    (λ c. result-type _ _ _ (c .before .before .before .before .is-type .ensures) _ (c .before .before .before .if1 .taken) (λ i. c .track-type .ensures i _))
     (λ c κs. search needs)
-    (λ c. result-value _ _ _ _ _ _ _ (c .before .before .is-type .ensures) _ (c .before .if1 .left) (c .track-value .ensures)))
+    (λ c. result-value _ _ _ (c .before .before .is-type .ensures) _ (c .before .if1 .left) (c .track-value .ensures)))
