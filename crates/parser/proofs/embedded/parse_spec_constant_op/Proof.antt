@@ -11,6 +11,15 @@ use borrow.Author.Needs.{needs}
 use Rattle.parser.proofs.embedded.parse_spec_constant_op.Statement.{statement}
 use Rattle.parser.proofs.embedded.parse_spec_constant_op.Tie as tie
 
+push-requires : tie.Need-push-requires
+push-requires c κs = let s = few-small _ _ _ (c .before .before .before .before .before .before .before .before .before .before .before .before .before .before .before .before .pre .1) in (s .0, s .1, number-fits _)
+
+parse-once-requires : tie.Need-parse-once-requires
+parse-once-requires c κs = let h = (sym (c .before .before .before .before .before .before .before .before .before .before .before .before .before .w2 .given .1) ∙ c .before .before .before .before .before .before .before .before .before .before .before .before .before .before .before .word .ensures) in let t = row-told _ _ _ _ (c .before .before .before .before .before .before .before .before .before .before .before .find-row .ensures .0) (c .before .before .before .before .before .before .before .before .before .found .given .1) in (c .before .before .before .before .before .before .before .before .before .before .before .before .before .before .before .before .before .before .before .before .before .pre .0, (few-pushed _ _ _ _ _ _ _ _ (c .before .before .before .before .before .before .before .before .before .before .before .before .before .before .before .before .before .before .before .before .before .pre .1) (step-word _ _ _ _ h) (omega arith) (c .before .before .before .before .push .ensures .0), place-told _ _ _ (c .before .before .before .before .before .before .before .before .before .before .before .find-row .ensures .1) (c .before .before .before .before .before .before .before .before .before .found .given .1), row-operands _ _ (c .before .before .before .before .before .before .before .before .before .before .before .before .before .before .before .before .before .before .before .before .before .pre .0) _ _ t, sym (c .before .before .before .before .before .before .before .may-embed .ensures) ∙ not-false _ (c .before .before .before .before .before .before .if1 .left)))
+
+returns-4 : tie.Need-returns-4
+returns-4 c = let h = (sym (c .before .before .before .before .before .before .before .before .before .before .before .before .before .before .before .before .before .before .w2 .given .1) ∙ c .before .before .before .before .before .before .before .before .before .before .before .before .before .before .before .before .before .before .before .before .word .ensures) in seq (held-narrow _ _ _ _ _ _ _ refl (c .before .before .before .before .before .before .before .before .before .push .ensures .0) (c .before .before .before .before .before .before .before .before .before .push .ensures .1)) _ _ _ _ _ _ (step-went _ _ _ _ (step-word _ _ _ _ h) _ (c .before .before .before .before .before .before .before .before .before .before .before .before .before .before .before .before .before .before .before .before .before .before .before .before .before .before .pre .1 .limited)) (embedded-row _ _ _ _ _ h _ (c .before .before .before .before .before .before .before .before .before .before .before .before .before .before .before .before .find-row .ensures .0) _ (c .before .before .before .before .before .before .before .before .before .before .before .before .before .before .found .given .1) _ (c .before .before .before .before .before .before .before .before .before .before .before .before .may-embed .ensures) (c .before .before .before .before .before .before .before .before .before .before .before .if1 .left)) _ (c .before .before .before .before .parse-once .ensures)
+
 pub parse-spec-constant-op-spec : {M : Type 1} → statement M
 parse-spec-constant-op-spec =
     tie.close
@@ -28,9 +37,9 @@ parse-spec-constant-op-spec =
     (λ c κs. search needs)
     (λ c. deny _ _ _ _ _ _ _ _ _ _ _ _ (c .bad2 .ensures) (embedded-barred _ _ _ _ _ (sym (c .before .before .before .before .before .before .before .before .w2 .given .1) ∙ c .before .before .before .before .before .before .before .before .before .before .word .ensures) _ (c .before .before .before .before .before .before .find-row .ensures .0) _ (c .before .before .before .before .found .given .1) _ (c .before .before .may-embed .ensures) (c .before .if1 .taken)))
     (λ c. search needs)
-    (λ c κs. let s = few-small _ _ _ (c .before .before .before .before .before .before .before .before .before .before .before .before .before .before .before .before .pre .1) in (s .0, s .1, number-fits _))
-    (λ c κs. let h = (sym (c .before .before .before .before .before .before .before .before .before .before .before .before .before .w2 .given .1) ∙ c .before .before .before .before .before .before .before .before .before .before .before .before .before .before .before .word .ensures) in let t = row-told _ _ _ _ (c .before .before .before .before .before .before .before .before .before .before .before .find-row .ensures .0) (c .before .before .before .before .before .before .before .before .before .found .given .1) in (c .before .before .before .before .before .before .before .before .before .before .before .before .before .before .before .before .before .before .before .before .before .pre .0, (few-pushed _ _ _ _ _ _ _ _ (c .before .before .before .before .before .before .before .before .before .before .before .before .before .before .before .before .before .before .before .before .before .pre .1) (step-word _ _ _ _ h) (omega arith) (c .before .before .before .before .push .ensures .0), place-told _ _ _ (c .before .before .before .before .before .before .before .before .before .before .before .find-row .ensures .1) (c .before .before .before .before .before .before .before .before .before .found .given .1), row-operands _ _ (c .before .before .before .before .before .before .before .before .before .before .before .before .before .before .before .before .before .before .before .before .before .pre .0) _ _ t, sym (c .before .before .before .before .before .before .before .may-embed .ensures) ∙ not-false _ (c .before .before .before .before .before .before .if1 .left))))
+    push-requires
+    parse-once-requires
     (λ c. deny _ _ _ _ _ _ _ _ _ _ _ _ refl (embedded-bad _ _ _ _ _ (sym (c .before .w .given .1) ∙ c .before .before .before .word .ensures)))
     (λ c. search needs)
     (λ c. search needs)
-    (λ c. let h = (sym (c .before .before .before .before .before .before .before .before .before .before .before .before .before .before .before .before .before .before .w2 .given .1) ∙ c .before .before .before .before .before .before .before .before .before .before .before .before .before .before .before .before .before .before .before .before .word .ensures) in seq (held-narrow _ _ _ _ _ _ _ refl (c .before .before .before .before .before .before .before .before .before .push .ensures .0) (c .before .before .before .before .before .before .before .before .before .push .ensures .1)) _ _ _ _ _ _ (step-went _ _ _ _ (step-word _ _ _ _ h) _ (c .before .before .before .before .before .before .before .before .before .before .before .before .before .before .before .before .before .before .before .before .before .before .before .before .before .before .pre .1 .limited)) (embedded-row _ _ _ _ _ h _ (c .before .before .before .before .before .before .before .before .before .before .before .before .before .before .before .before .find-row .ensures .0) _ (c .before .before .before .before .before .before .before .before .before .before .before .before .before .before .found .given .1) _ (c .before .before .before .before .before .before .before .before .before .before .before .before .may-embed .ensures) (c .before .before .before .before .before .before .before .before .before .before .before .if1 .left)) _ (c .before .before .before .before .parse-once .ensures)))
+    returns-4)

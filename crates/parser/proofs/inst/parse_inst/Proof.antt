@@ -12,17 +12,17 @@ simple-operands-requires c κs =
     let b = c .before .before .before .before .before .before .before .before .before .before .before .before .before .before .before .before .before .before .pre in
     (b .0, ((b .1 .0 .0, h, row-limited _, b .1 .0 .2), ((omega (arith, b .1 .1 .0 .0), omega (arith, b .1 .1 .0 .1)), (place-told _ _ (b .0) _ _ _ (c .before .before .before .before .before .row-of .ensures .0) (c .before .before .before .before .before .row-of .ensures .1) (c .before .before .before .row .given .1), (b .1 .1 .1, row-short _ (omega arith))))))
 
-parse-body-requires : tie.Need-parse-body-requires
-parse-body-requires c κs =
-    let h = word-inside _ _ _ _ (sym (c .before .before .before .before .before .before .before .before .before .before .before .before .before .before .before .before .before .first2 .given .1) ∙ c .before .before .before .before .before .before .before .before .before .before .before .before .before .before .before .before .before .before .before .word .ensures) in
-    let b = c .before .before .before .before .before .before .before .before .before .before .before .before .before .before .before .before .before .before .before .before .before .before .before .before .before .before .before .pre in
-    (b .0, ((b .1 .0 .0, h, some-words _ (c .before .before .before .before .before .before .before .before .before .before .before .before .before .before .before .if1 .left), b .1 .0 .2), (b .1 .1 .0, (place-told _ _ (b .0) _ _ _ (c .before .before .before .before .before .before .before .before .before .before .before .before .before .before .row-of .ensures .0) (c .before .before .before .before .before .before .before .before .before .before .before .before .before .before .row-of .ensures .1) (c .before .before .before .before .before .before .before .before .before .before .before .before .row .given .1), b .1 .1 .1))))
-
 returns-3 : tie.Need-returns-3
 returns-3 c =
     inst-by _ _ _ _ _ _ (sym (c .before .before .before .before .before .before .before .before .before .before .before .before .before .before .before .before .before .first2 .given .1) ∙ c .before .before .before .before .before .before .before .before .before .before .before .before .before .before .before .before .before .before .before .word .ensures) (c .before .before .before .before .before .before .before .before .before .before .before .before .before .before .before .if1 .left) _ (c .before .before .before .before .before .before .before .before .before .before .before .before .before .before .row-of .ensures .0) _ (c .before .before .before .before .before .before .before .before .before .before .before .before .row .given .1)
     (place-told _ _ (c .before .before .before .before .before .before .before .before .before .before .before .before .before .before .before .before .before .before .before .before .before .before .before .before .before .before .before .pre .0) _ _ _ (c .before .before .before .before .before .before .before .before .before .before .before .before .before .before .row-of .ensures .0) (c .before .before .before .before .before .before .before .before .before .before .before .before .before .before .row-of .ensures .1) (c .before .before .before .before .before .before .before .before .before .before .before .before .row .given .1)) _ _ _ _ _ _ _ _
     (body-good _ _ _ _ _ _ _ _ _ _ _ _ _ _ _ (simple-walks _ _ _ _ _ _ _ _ _ _ _ _ _ (c .before .before .before .before .before .before .before .before .simple-operands .ensures) (c .before .before .simple .given .1)) _ _ refl _ _ (some-words _ (c .before .before .before .before .before .before .before .before .before .before .before .before .before .before .before .if1 .left)) (c .finished .ensures))
+
+parse-body-requires : tie.Need-parse-body-requires
+parse-body-requires c κs =
+    let h = word-inside _ _ _ _ (sym (c .before .before .before .before .before .before .before .before .before .before .before .before .before .before .before .before .before .first2 .given .1) ∙ c .before .before .before .before .before .before .before .before .before .before .before .before .before .before .before .before .before .before .before .word .ensures) in
+    let b = c .before .before .before .before .before .before .before .before .before .before .before .before .before .before .before .before .before .before .before .before .before .before .before .before .before .before .before .pre in
+    (b .0, ((b .1 .0 .0, h, some-words _ (c .before .before .before .before .before .before .before .before .before .before .before .before .before .before .before .if1 .left), b .1 .0 .2), (b .1 .1 .0, (place-told _ _ (b .0) _ _ _ (c .before .before .before .before .before .before .before .before .before .before .before .before .before .before .row-of .ensures .0) (c .before .before .before .before .before .before .before .before .before .before .before .before .before .before .row-of .ensures .1) (c .before .before .before .before .before .before .before .before .before .before .before .before .row .given .1), b .1 .1 .1))))
 
 returns-5 : tie.Need-returns-5
 returns-5 c =

@@ -8,63 +8,27 @@ use borrow.Author.Needs.{needs}
 use Rattle.parser.proofs.literals.parse_literal.Statement.{statement}
 use Rattle.parser.proofs.literals.parse_literal.Tie as tie
 
-literal-kind-requires : tie.Need-literal-kind-requires
-literal-kind-requires c κs = (c .before .before .before .before .before .before .before .pre .1 .0 .1, c .before .before .before .before .before .before .before .pre .1 .1)
-
-bad-requires : tie.Need-bad-requires
-bad-requires c κs = search needs
-
-returns : tie.Need-returns
-returns c = deny _ _ _ _ _ _ _ _ _ _ _ _ (c .bad .ensures) (literal-none _ _ _ _ _ (c .before .before .literal-kind .ensures .0) (c .before .if1 .taken))
-
-int64-requires : tie.Need-int64-requires
-int64-requires c κs = search needs
-
-enum-known-long : tie.Need-enum-known-long
-enum-known-long c = search needs
-
-enum-known-long-2 : tie.Need-enum-known-long-2
-enum-known-long-2 c = search needs
-
 push-requires : tie.Need-push-requires
 push-requires c κs = let s = few-small _ _ _ (c .before .before .before .before .before .before .before .before .before .before .before .before .before .before .before .pre .1 .0 .0) in (s .0, s .1, long-fits _ _ (c .before .before .before .before .before .if2 .taken))
 
-read-one-requires : tie.Need-read-one-requires
-read-one-requires c κs = (c .before .before .before .before .before .before .before .before .before .before .before .before .pre .0, (c .before .before .before .before .before .before .before .before .before .before .before .before .pre .1 .0 .0, literal-single _ (one-word _ (c .before .before .before .before .literal-kind .ensures .1) (c .before .before .before .if1 .left) (c .before .before .if2 .left))))
-
-returns-2 : tie.Need-returns-2
-returns-2 c = deny _ _ _ _ _ _ _ _ _ _ _ _ refl (long-bad _ _ _ _ _ (c .before .before .before .before .before .before .literal-kind .ensures .0) (c .before .before .before .before .before .if1 .left) (c .before .before .before .before .if2 .taken) _ _ (sym (c .before .long .given .1) ∙ c .before .before .before .int64 .ensures))
-
-same-length : tie.Need-same-length
-same-length c = search needs
-
 returns-3 : tie.Need-returns-3
 returns-3 c = let f = c .before .before .before .before .before .before .before .before .before .before .before .before .before .before .before .before .before .before .pre .1 .0 .0 in let t = step-long _ _ _ _ (sym (c .before .before .before .before .before .long2 .given .1) ∙ c .before .before .before .before .before .before .before .int64 .ensures) in accept _ _ _ _ _ _ _ _ _ _ _ _ (long-good _ _ _ _ _ (c .before .before .before .before .before .before .before .before .before .before .literal-kind .ensures .0) (c .before .before .before .before .before .before .before .before .before .if1 .left) (c .before .before .before .before .before .before .before .before .if2 .taken) _ _ (sym (c .before .before .before .before .before .long2 .given .1) ∙ c .before .before .before .before .before .before .before .int64 .ensures)) (held-wide _ _ _ _ _ _ _ (c .before .before .before .before .before .before .before .before .if2 .taken) (c .before .before .push .ensures .0) (c .before .before .push .ensures .1)) (few-pushed _ _ _ _ _ _ _ _ f t (omega arith) (c .before .before .push .ensures .0)) (long-went _ _ _ _ t (f .limited))
-
-same-length-2 : tie.Need-same-length-2
-same-length-2 c = search needs
-
-same-length-3 : tie.Need-same-length-3
-same-length-3 c = search needs
-
-returns-4 : tie.Need-returns-4
-returns-4 c = same-read _ _ _ _ _ _ _ _ _ _ _ (literal-word _ _ _ _ _ (c .before .before .before .before .before .before .before .before .before .literal-kind .ensures .0) (c .before .before .before .before .before .before .before .before .if1 .left) _ (one-word _ (c .before .before .before .before .before .before .before .before .before .literal-kind .ensures .1) (c .before .before .before .before .before .before .before .before .if1 .left) (c .before .before .before .before .before .before .before .if2 .left))) (c .before .before .before .before .read-one .ensures)
 
 pub parse-literal-spec : {M : Type 1} → statement M
 parse-literal-spec =
     tie.close
     (tie.spec
-    literal-kind-requires
-    bad-requires
-    returns
-    int64-requires
-    enum-known-long
-    enum-known-long-2
+    (λ c κs. (c .before .before .before .before .before .before .before .pre .1 .0 .1, c .before .before .before .before .before .before .before .pre .1 .1))
+    (λ c κs. search needs)
+    (λ c. deny _ _ _ _ _ _ _ _ _ _ _ _ (c .bad .ensures) (literal-none _ _ _ _ _ (c .before .before .literal-kind .ensures .0) (c .before .if1 .taken)))
+    (λ c κs. search needs)
+    (λ c. search needs)
+    (λ c. search needs)
     push-requires
-    read-one-requires
-    returns-2
-    same-length
+    (λ c κs. (c .before .before .before .before .before .before .before .before .before .before .before .before .pre .0, (c .before .before .before .before .before .before .before .before .before .before .before .before .pre .1 .0 .0, literal-single _ (one-word _ (c .before .before .before .before .literal-kind .ensures .1) (c .before .before .before .if1 .left) (c .before .before .if2 .left)))))
+    (λ c. deny _ _ _ _ _ _ _ _ _ _ _ _ refl (long-bad _ _ _ _ _ (c .before .before .before .before .before .before .literal-kind .ensures .0) (c .before .before .before .before .before .if1 .left) (c .before .before .before .before .if2 .taken) _ _ (sym (c .before .long .given .1) ∙ c .before .before .before .int64 .ensures)))
+    (λ c. search needs)
     returns-3
-    same-length-2
-    same-length-3
-    returns-4)
+    (λ c. search needs)
+    (λ c. search needs)
+    (λ c. same-read _ _ _ _ _ _ _ _ _ _ _ (literal-word _ _ _ _ _ (c .before .before .before .before .before .before .before .before .before .literal-kind .ensures .0) (c .before .before .before .before .before .before .before .before .if1 .left) _ (one-word _ (c .before .before .before .before .before .before .before .before .before .literal-kind .ensures .1) (c .before .before .before .before .before .before .before .before .if1 .left) (c .before .before .before .before .before .before .before .if2 .left))) (c .before .before .before .before .read-one .ensures)))

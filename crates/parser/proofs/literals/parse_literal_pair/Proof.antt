@@ -7,32 +7,8 @@ use borrow.Author.Needs.{needs}
 use Rattle.parser.proofs.literals.parse_literal_pair.Statement.{statement}
 use Rattle.parser.proofs.literals.parse_literal_pair.Tie as tie
 
-parse-literal-requires : tie.Need-parse-literal-requires
-parse-literal-requires c κs = (c .before .before .before .before .before .before .before .before .before .pre .0, (c .before .before .before .before .before .before .before .before .before .pre .1 .0, c .before .before .before .before .before .before .before .before .before .pre .1 .1))
-
-enum-known-r : tie.Need-enum-known-r
-enum-known-r c = search needs
-
-enum-told : tie.Need-enum-told
-enum-told c = search needs
-
-same-length : tie.Need-same-length
-same-length c = search needs
-
-same-length-2 : tie.Need-same-length-2
-same-length-2 c = search needs
-
-returns : tie.Need-returns
-returns c = first-bad _ _ _ (pair-is (grammarOf (c .before .before .before .before .before .before .before .before .before .before .before .before .before .before .before .before .args .g .now)) _ _ _) _ _ _ _ _ _ _ _ _ _ _ (c .before .before .before .before .before .before .parse-literal .ensures) (c .enum-told .given .1)
-
 read-one-requires : tie.Need-read-one-requires
 read-one-requires c κs = let a = good-told _ _ _ (c .before .before .before .before .before .before .before .before .before .parse-literal .ensures) (c .before .before .before .r .given .1) in (c .before .before .before .before .before .before .before .before .before .before .before .before .before .before .before .before .before .before .before .pre .0, (a .few, id-single))
-
-same-length-3 : tie.Need-same-length-3
-same-length-3 c = search needs
-
-same-length-4 : tie.Need-same-length-4
-same-length-4 c = search needs
 
 returns-2 : tie.Need-returns-2
 returns-2 c = let a = good-told _ _ _ (c .before .before .before .before .before .before .before .before .before .before .before .before .before .before .parse-literal .ensures) (c .before .before .before .before .before .before .before .before .r .given .1) in seq (a .held) _ _ _ _ _ _ (a .went) (first-done _ _ _ (pair-is (grammarOf (c .before .before .before .before .before .before .before .before .before .before .before .before .before .before .before .before .before .before .before .before .before .before .before .before .args .g .now)) _ _ _) _ _ (a .read)) _ (c .before .before .before .before .read-one .ensures)
@@ -41,13 +17,13 @@ pub parse-literal-pair-spec : {M : Type 1} → statement M
 parse-literal-pair-spec =
     tie.close
     (tie.spec
-    parse-literal-requires
-    enum-known-r
-    enum-told
-    same-length
-    same-length-2
-    returns
+    (λ c κs. (c .before .before .before .before .before .before .before .before .before .pre .0, (c .before .before .before .before .before .before .before .before .before .pre .1 .0, c .before .before .before .before .before .before .before .before .before .pre .1 .1)))
+    (λ c. search needs)
+    (λ c. search needs)
+    (λ c. search needs)
+    (λ c. search needs)
+    (λ c. first-bad _ _ _ (pair-is (grammarOf (c .before .before .before .before .before .before .before .before .before .before .before .before .before .before .before .before .args .g .now)) _ _ _) _ _ _ _ _ _ _ _ _ _ _ (c .before .before .before .before .before .before .parse-literal .ensures) (c .enum-told .given .1))
     read-one-requires
-    same-length-3
-    same-length-4
+    (λ c. search needs)
+    (λ c. search needs)
     returns-2)

@@ -3,8 +3,8 @@ use Rattle.parser.proofs.SlotLaws.{no-use}
 use Rattle.parser.proofs.rows.nothing_used.Statement.{statement}
 use Rattle.parser.proofs.rows.nothing_used.Tie as tie
 
-returns : tie.Need-returns
-returns c = no-use _ _ _
-
 pub nothing-used-spec : {M : Type 1} → statement M
-nothing-used-spec = tie.close (tie.spec returns)
+nothing-used-spec =
+    tie.close
+    (tie.spec
+    (λ c. no-use _ _ _))

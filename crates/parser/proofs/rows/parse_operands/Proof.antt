@@ -19,89 +19,8 @@ Inv-loop s g index types hints tracker place log₀ log-at strings₀ strings-at
 abbrev μ-loop : tie.MeasureT-loop
 μ-loop s g index types hints tracker place log₀ log-at strings₀ strings-at base d₀ u₀ p₀ log strings d u p = leftOf (d .limit)
 
-nothing-used-requires : tie.Need-nothing-used-requires Inv-loop μ-loop
-nothing-used-requires c κs = search needs
-
 loop-holds : tie.Need-loop-holds Inv-loop μ-loop
 loop-holds c = let p = c .before .before .before .before .before .before .before .before .pre .1 in row-starts _ _ _ _ _ _ _ _ _ _ _ (c .nothing-used .ensures) (p .0 .0) (p .0 .1) (p .0 .2) (p .1 .0 .0) (p .1 .0 .1) (p .1 .1 .0 .1)
-
-slot-at-requires : tie.Need-slot-at-requires Inv-loop μ-loop
-slot-at-requires c κs = search needs
-
-enum-known-x : tie.Need-enum-known-x Inv-loop μ-loop
-enum-known-x c = search needs
-
-enum-told : tie.Need-enum-told Inv-loop μ-loop
-enum-told c = search needs
-
-same-length : tie.Need-same-length Inv-loop μ-loop
-same-length c = row-log (c .before .before .before .before .loop .inv)
-
-same-length-2 : tie.Need-same-length-2 Inv-loop μ-loop
-same-length-2 c = row-strings (c .before .before .before .before .loop .inv)
-
-returns : tie.Need-returns Inv-loop μ-loop
-returns c = row-ends (c .before .before .before .before .loop .inv) (end-told _ _ _ (c .before .before .slot-at .ensures .0) (c .enum-told .given .1))
-
-limit-reached-requires : tie.Need-limit-reached-requires Inv-loop μ-loop
-limit-reached-requires c κs = search needs
-
-bad-requires : tie.Need-bad-requires Inv-loop μ-loop
-bad-requires c κs = search needs
-
-same-length-3 : tie.Need-same-length-3 Inv-loop μ-loop
-same-length-3 c = row-log (c .before .before .before .before .before .before .before .before .before .loop .inv)
-
-same-length-4 : tie.Need-same-length-4 Inv-loop μ-loop
-same-length-4 c = row-strings (c .before .before .before .before .before .before .before .before .before .loop .inv)
-
-returns-2 : tie.Need-returns-2 Inv-loop μ-loop
-returns-2 c = row-missing (c .before .before .before .before .before .before .before .before .before .loop .inv) _ _ _ (slot-told _ _ _ (c .before .before .before .before .before .before .before .slot-at .ensures .0) _ _ (c .before .before .before .before .before .x .given .1)) _ (c .before .before .before .limit-reached .ensures) (c .before .before .if1 .taken) (c .before .if2 .taken) _ (c .bad .ensures)
-
-same-length-5 : tie.Need-same-length-5 Inv-loop μ-loop
-same-length-5 c = row-log (c .before .before .before .before .before .before .before .before .loop .inv)
-
-same-length-6 : tie.Need-same-length-6 Inv-loop μ-loop
-same-length-6 c = row-strings (c .before .before .before .before .before .before .before .before .loop .inv)
-
-returns-3 : tie.Need-returns-3 Inv-loop μ-loop
-returns-3 c = row-spent (c .before .before .before .before .before .before .before .before .loop .inv) _ _ _ (slot-told _ _ _ (c .before .before .before .before .before .before .slot-at .ensures .0) _ _ (c .before .before .before .before .x .given .1)) _ (c .before .before .limit-reached .ensures) (c .before .if1 .taken) (c .if2 .left)
-
-parse-slot-requires : tie.Need-parse-slot-requires Inv-loop μ-loop
-parse-slot-requires c κs = (c .before .before .before .before .before .before .before .before .before .before .before .before .before .before .before .before .before .before .pre .0, ((c .before .before .before .before .before .before .before .before .before .loop .inv .few, c .before .before .before .before .before .before .before .before .before .before .before .before .before .before .before .before .before .before .pre .1 .0 .3, next-operand (c .before .before .before .before .before .before .before .before .before .loop .inv) _ _ _ (slot-told _ _ _ (c .before .before .before .before .before .before .before .slot-at .ensures .0) _ _ (c .before .before .before .before .before .x .given .1))), c .before .before .before .before .before .before .before .before .before .before .before .before .before .before .before .before .before .before .pre .1 .1 .1 .1))
-
-enum-known-r : tie.Need-enum-known-r Inv-loop μ-loop
-enum-known-r c = search needs
-
-enum-told-2 : tie.Need-enum-told-2 Inv-loop μ-loop
-enum-told-2 c = search needs
-
-same-length-7 : tie.Need-same-length-7 Inv-loop μ-loop
-same-length-7 c = c .before .before .before .before .before .before .parse-slot .kept .1 .1 .1 .1 .1 .1 .1 .1 .0 ∙ row-log (c .before .before .before .before .before .before .before .before .before .before .before .before .before .before .before .before .loop .inv)
-
-same-length-8 : tie.Need-same-length-8 Inv-loop μ-loop
-same-length-8 c = c .before .before .before .before .before .before .parse-slot .kept .1 .1 .1 .1 .1 .1 .1 .1 .1 .0 ∙ row-strings (c .before .before .before .before .before .before .before .before .before .before .before .before .before .before .before .before .loop .inv)
-
-returns-4 : tie.Need-returns-4 Inv-loop μ-loop
-returns-4 c = row-stops (c .before .before .before .before .before .before .before .before .before .before .before .before .before .before .before .before .loop .inv) _ _ _ (slot-told _ _ _ (c .before .before .before .before .before .before .before .before .before .before .before .before .before .before .slot-at .ensures .0) _ _ (c .before .before .before .before .before .before .before .before .before .before .before .before .x .given .1)) _ (c .before .before .before .before .before .before .before .before .before .before .limit-reached .ensures) (c .before .before .before .before .before .before .before .before .before .if1 .left) _ _ _ (c .before .before .before .before .before .before .parse-slot .ensures) _ _ (c .enum-told2 .given .1)
-
-next-place-requires : tie.Need-next-place-requires Inv-loop μ-loop
-next-place-requires c κs = omega (arith, c .before .before .before .before .before .before .before .before .before .before .before .before .before .before .before .before .loop-test .taken, indexed-short _ _ (c .before .before .before .before .before .before .before .before .before .before .before .before .before .before .before .before .before .before .before .before .before .before .before .before .before .before .pre .0))
-
-loop-less : tie.Need-loop-less Inv-loop μ-loop
-loop-less c = row-less (c .before .before .before .before .before .before .before .before .before .before .before .before .before .before .before .before .before .before .loop .inv) _ _ _ (slot-told _ _ _ (c .before .before .before .before .before .before .before .before .before .before .before .before .before .before .before .before .slot-at .ensures .0) _ _ (c .before .before .before .before .before .before .before .before .before .before .before .before .before .before .x .given .1)) _ (c .before .before .before .before .before .before .before .before .before .before .before .before .limit-reached .ensures) (c .before .before .before .before .before .before .before .before .before .before .before .if1 .left) _ _ _ (c .before .before .before .before .before .before .before .before .parse-slot .ensures) _ _ (c .before .before .r .given .1)
-
-loop-again : tie.Need-loop-again Inv-loop μ-loop
-loop-again c = row-turn (c .before .before .before .before .before .before .before .before .before .before .before .before .before .before .before .before .before .before .loop .inv) _ _ _ (slot-told _ _ _ (c .before .before .before .before .before .before .before .before .before .before .before .before .before .before .before .before .slot-at .ensures .0) _ _ (c .before .before .before .before .before .before .before .before .before .before .before .before .before .before .x .given .1)) _ (c .before .before .before .before .before .before .before .before .before .before .before .before .limit-reached .ensures) (c .before .before .before .before .before .before .before .before .before .before .before .if1 .left) _ _ _ (c .before .before .before .before .before .before .before .before .parse-slot .ensures) _ _ (c .before .before .r .given .1) _ (slots-next _ _ _ _ _ (slot-told _ _ _ (c .before .before .before .before .before .before .before .before .before .before .before .before .before .before .before .before .slot-at .ensures .0) _ _ (c .before .before .before .before .before .before .before .before .before .before .before .before .before .before .x .given .1)) (c .next-place .ensures))
-
-same-length-9 : tie.Need-same-length-9 Inv-loop μ-loop
-same-length-9 c = row-log (c .before .loop .inv)
-
-same-length-10 : tie.Need-same-length-10 Inv-loop μ-loop
-same-length-10 c = row-strings (c .before .loop .inv)
-
-returns-5 : tie.Need-returns-5 Inv-loop μ-loop
-returns-5 c = row-ends (c .before .loop .inv) (end-past _ _ (c .loop-test .left))
 
 pub parse-operands-spec : {M : Type 1} → statement M
 parse-operands-spec =
@@ -109,31 +28,31 @@ parse-operands-spec =
     (tie.spec
     Inv-loop
     μ-loop
-    nothing-used-requires
+    (λ c κs. search needs)
     loop-holds
-    slot-at-requires
-    enum-known-x
-    enum-told
-    same-length
-    same-length-2
-    returns
-    limit-reached-requires
-    bad-requires
-    same-length-3
-    same-length-4
-    returns-2
-    same-length-5
-    same-length-6
-    returns-3
-    parse-slot-requires
-    enum-known-r
-    enum-told-2
-    same-length-7
-    same-length-8
-    returns-4
-    next-place-requires
-    loop-less
-    loop-again
-    same-length-9
-    same-length-10
-    returns-5)
+    (λ c κs. search needs)
+    (λ c. search needs)
+    (λ c. search needs)
+    (λ c. row-log (c .before .before .before .before .loop .inv))
+    (λ c. row-strings (c .before .before .before .before .loop .inv))
+    (λ c. row-ends (c .before .before .before .before .loop .inv) (end-told _ _ _ (c .before .before .slot-at .ensures .0) (c .enum-told .given .1)))
+    (λ c κs. search needs)
+    (λ c κs. search needs)
+    (λ c. row-log (c .before .before .before .before .before .before .before .before .before .loop .inv))
+    (λ c. row-strings (c .before .before .before .before .before .before .before .before .before .loop .inv))
+    (λ c. row-missing (c .before .before .before .before .before .before .before .before .before .loop .inv) _ _ _ (slot-told _ _ _ (c .before .before .before .before .before .before .before .slot-at .ensures .0) _ _ (c .before .before .before .before .before .x .given .1)) _ (c .before .before .before .limit-reached .ensures) (c .before .before .if1 .taken) (c .before .if2 .taken) _ (c .bad .ensures))
+    (λ c. row-log (c .before .before .before .before .before .before .before .before .loop .inv))
+    (λ c. row-strings (c .before .before .before .before .before .before .before .before .loop .inv))
+    (λ c. row-spent (c .before .before .before .before .before .before .before .before .loop .inv) _ _ _ (slot-told _ _ _ (c .before .before .before .before .before .before .slot-at .ensures .0) _ _ (c .before .before .before .before .x .given .1)) _ (c .before .before .limit-reached .ensures) (c .before .if1 .taken) (c .if2 .left))
+    (λ c κs. (c .before .before .before .before .before .before .before .before .before .before .before .before .before .before .before .before .before .before .pre .0, ((c .before .before .before .before .before .before .before .before .before .loop .inv .few, c .before .before .before .before .before .before .before .before .before .before .before .before .before .before .before .before .before .before .pre .1 .0 .3, next-operand (c .before .before .before .before .before .before .before .before .before .loop .inv) _ _ _ (slot-told _ _ _ (c .before .before .before .before .before .before .before .slot-at .ensures .0) _ _ (c .before .before .before .before .before .x .given .1))), c .before .before .before .before .before .before .before .before .before .before .before .before .before .before .before .before .before .before .pre .1 .1 .1 .1)))
+    (λ c. search needs)
+    (λ c. search needs)
+    (λ c. c .before .before .before .before .before .before .parse-slot .kept .1 .1 .1 .1 .1 .1 .1 .1 .0 ∙ row-log (c .before .before .before .before .before .before .before .before .before .before .before .before .before .before .before .before .loop .inv))
+    (λ c. c .before .before .before .before .before .before .parse-slot .kept .1 .1 .1 .1 .1 .1 .1 .1 .1 .0 ∙ row-strings (c .before .before .before .before .before .before .before .before .before .before .before .before .before .before .before .before .loop .inv))
+    (λ c. row-stops (c .before .before .before .before .before .before .before .before .before .before .before .before .before .before .before .before .loop .inv) _ _ _ (slot-told _ _ _ (c .before .before .before .before .before .before .before .before .before .before .before .before .before .before .slot-at .ensures .0) _ _ (c .before .before .before .before .before .before .before .before .before .before .before .before .x .given .1)) _ (c .before .before .before .before .before .before .before .before .before .before .limit-reached .ensures) (c .before .before .before .before .before .before .before .before .before .if1 .left) _ _ _ (c .before .before .before .before .before .before .parse-slot .ensures) _ _ (c .enum-told2 .given .1))
+    (λ c κs. omega (arith, c .before .before .before .before .before .before .before .before .before .before .before .before .before .before .before .before .loop-test .taken, indexed-short _ _ (c .before .before .before .before .before .before .before .before .before .before .before .before .before .before .before .before .before .before .before .before .before .before .before .before .before .before .pre .0)))
+    (λ c. row-less (c .before .before .before .before .before .before .before .before .before .before .before .before .before .before .before .before .before .before .loop .inv) _ _ _ (slot-told _ _ _ (c .before .before .before .before .before .before .before .before .before .before .before .before .before .before .before .before .slot-at .ensures .0) _ _ (c .before .before .before .before .before .before .before .before .before .before .before .before .before .before .x .given .1)) _ (c .before .before .before .before .before .before .before .before .before .before .before .before .limit-reached .ensures) (c .before .before .before .before .before .before .before .before .before .before .before .if1 .left) _ _ _ (c .before .before .before .before .before .before .before .before .parse-slot .ensures) _ _ (c .before .before .r .given .1))
+    (λ c. row-turn (c .before .before .before .before .before .before .before .before .before .before .before .before .before .before .before .before .before .before .loop .inv) _ _ _ (slot-told _ _ _ (c .before .before .before .before .before .before .before .before .before .before .before .before .before .before .before .before .slot-at .ensures .0) _ _ (c .before .before .before .before .before .before .before .before .before .before .before .before .before .before .x .given .1)) _ (c .before .before .before .before .before .before .before .before .before .before .before .before .limit-reached .ensures) (c .before .before .before .before .before .before .before .before .before .before .before .if1 .left) _ _ _ (c .before .before .before .before .before .before .before .before .parse-slot .ensures) _ _ (c .before .before .r .given .1) _ (slots-next _ _ _ _ _ (slot-told _ _ _ (c .before .before .before .before .before .before .before .before .before .before .before .before .before .before .before .before .slot-at .ensures .0) _ _ (c .before .before .before .before .before .before .before .before .before .before .before .before .before .before .x .given .1)) (c .next-place .ensures)))
+    (λ c. row-log (c .before .loop .inv))
+    (λ c. row-strings (c .before .loop .inv))
+    (λ c. row-ends (c .before .loop .inv) (end-past _ _ (c .loop-test .left))))

@@ -24,4 +24,10 @@ unfolding idIs
 returns-3 c = selector-absent _ (c .before .before .if1 .left) (c .if2 .left)
 
 pub selector-of-spec : {M : Type 1} → statement M
-selector-of-spec = tie.close (tie.spec returns cast-t3 returns-2 returns-3)
+selector-of-spec =
+    tie.close
+    (tie.spec
+    returns
+    cast-t3
+    returns-2
+    returns-3)

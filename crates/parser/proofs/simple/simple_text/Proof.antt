@@ -8,29 +8,8 @@ use borrow.Author.Needs.{needs}
 use Rattle.parser.proofs.simple.simple_text.Statement.{statement}
 use Rattle.parser.proofs.simple.simple_text.Tie as tie
 
-string-requires : tie.Need-string-requires
-string-requires c κs = search needs
-
-enum-known-t : tie.Need-enum-known-t
-enum-known-t c = search needs
-
-enum-told : tie.Need-enum-told
-enum-told c = search needs
-
-returns : tie.Need-returns
-returns c = λ g. pass-read _ _ _ _ _ _ _ _
-
 push-text-requires : tie.Need-push-text-requires
 push-text-requires c κs = let s = few-small _ _ _ (c .before .before .before .before .before .before .before .before .before .before .pre) in let i = text-inside _ _ _ (sym (c .before .before .before .before .t .given .1) ∙ c .before .before .before .before .before .before .string .ensures) in ((s .0, s .1, omega (arith, s .2), omega (arith, i, c .before .before .before .before .before .before .before .before .before .before .pre .short), omega (arith, s .2)), omega (arith, i))
-
-taken-requires : tie.Need-taken-requires
-taken-requires c κs = search needs
-
-same-length : tie.Need-same-length
-same-length c = search needs
-
-same-length-2 : tie.Need-same-length-2
-same-length-2 c = search needs
 
 returns-2 : tie.Need-returns-2
 returns-2 c = λ g. let h = sym (c .before .before .before .before .before .before .before .before .before .before .t .given .1) ∙ c .before .before .before .before .before .before .before .before .before .before .before .before .string .ensures in let f = c .before .before .before .before .before .before .before .before .before .before .before .before .before .before .before .before .pre in let t = step-text _ _ _ _ h f in taken-read _ _ _ _ _ _ _ _ _ _ (c .taken .ensures) (accept _ _ _ _ _ _ _ _ _ _ _ _ (text-good _ _ _ _ _ refl refl refl (f .inside) _ h) (held-text _ _ _ (text-inside _ _ _ h) _ _ _ _ _ _ (omega (arith, few-small _ _ _ f .2)) (c .before .before .before .before .before .push-text .ensures .0) (c .before .before .before .before .before .push-text .ensures .1 .0) (c .before .before .before .before .before .push-text .ensures .1 .1)) (few-copied _ _ _ _ _ _ f t (c .before .before .before .before .before .push-text .ensures .0)) (text-went _ _ _ _ _ t (f .limited)))
@@ -39,12 +18,12 @@ pub simple-text-spec : {M : Type 1} → statement M
 simple-text-spec =
     tie.close
     (tie.spec
-    string-requires
-    enum-known-t
-    enum-told
-    returns
+    (λ c κs. search needs)
+    (λ c. search needs)
+    (λ c. search needs)
+    (λ c. λ g. pass-read _ _ _ _ _ _ _ _)
     push-text-requires
-    taken-requires
-    same-length
-    same-length-2
+    (λ c κs. search needs)
+    (λ c. search needs)
+    (λ c. search needs)
     returns-2)

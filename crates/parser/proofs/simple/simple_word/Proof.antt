@@ -6,21 +6,15 @@ use borrow.Author.Needs.{needs}
 use Rattle.parser.proofs.simple.simple_word.Statement.{statement}
 use Rattle.parser.proofs.simple.simple_word.Tie as tie
 
-next-word-requires : tie.Need-next-word-requires
-next-word-requires c κs = search needs
-
-cast-push : tie.Need-cast-push
-cast-push c = search needs
-
 push-requires : tie.Need-push-requires
 push-requires c κs = let s = few-small _ _ _ (c .before .before .before .before .before .before .pre .0 .0) in (s .0, s .1, single-fits _ _ (c .before .before .before .before .before .before .pre .0 .1) (omega arith))
 
-same-length : tie.Need-same-length
-same-length c = search needs
-
-returns : tie.Need-returns
-returns c = λ g t. word-read _ _ _ _ _ _ _ _ _ _ _ (c .before .before .before .before .before .before .before .before .before .pre .0 .0) (c .before .before .before .before .before .before .before .before .before .pre .0 .1) (c .before .before .before .before .before .before .before .before .before .pre .0 .2) (c .before .before .before .before .before .before .before .before .before .pre .0 .3) (c .before .before .before .before .before .before .next-word .ensures) (c .before .before .push .ensures .0) (c .before .before .push .ensures .1)
-
 pub simple-word-spec : {M : Type 1} → statement M
 simple-word-spec =
-    tie.close (tie.spec next-word-requires cast-push push-requires same-length returns)
+    tie.close
+    (tie.spec
+    (λ c κs. search needs)
+    (λ c. search needs)
+    push-requires
+    (λ c. search needs)
+    (λ c. λ g t. word-read _ _ _ _ _ _ _ _ _ _ _ (c .before .before .before .before .before .before .before .before .before .pre .0 .0) (c .before .before .before .before .before .before .before .before .before .pre .0 .1) (c .before .before .before .before .before .before .before .before .before .pre .0 .2) (c .before .before .before .before .before .before .before .before .before .pre .0 .3) (c .before .before .before .before .before .before .next-word .ensures) (c .before .before .push .ensures .0) (c .before .before .push .ensures .1)))

@@ -10,12 +10,14 @@ returns : tie.Need-returns
 unfolding idIs
 returns c = sym (word-absent _ (c .if1 .taken))
 
-cast-t4 : tie.Need-cast-t4
-cast-t4 c = search needs
-
 returns-2 : tie.Need-returns-2
 unfolding idIs
 returns-2 c = sym (word-there _ _ (c .if1 .left) refl)
 
 pub id-of-spec : {M : Type 1} → statement M
-id-of-spec = tie.close (tie.spec returns cast-t4 returns-2)
+id-of-spec =
+    tie.close
+    (tie.spec
+    returns
+    (λ c. search needs)
+    returns-2)

@@ -5,11 +5,9 @@ use borrow.Author.Needs.{needs}
 use Rattle.parser.proofs.used.there.Statement.{statement}
 use Rattle.parser.proofs.used.there.Tie as tie
 
-add-result : tie.Need-add-result
-add-result c = search needs
-
-returns : tie.Need-returns
-returns c = word-there _ _ (omega arith) (omega arith)
-
 pub there-spec : {M : Type 1} → statement M
-there-spec = tie.close (tie.spec add-result returns)
+there-spec =
+    tie.close
+    (tie.spec
+    (λ c. search needs)
+    (λ c. word-there _ _ (omega arith) (omega arith)))
