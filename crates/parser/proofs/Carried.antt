@@ -14,18 +14,18 @@ use Rattle.grammar.specs.Index.{Indexed}
 use Rattle.grammar.specs.Find.{rowGood, rowGoodFrom}
 use Rattle.grammar.proofs.Carried.{row-carried, parameters-may-be}
 use Rattle.parser.specs.Parse.{isSingle, orNone, isOperand}
-use Rattle.parser.proofs.One.{both}
+use Rattle.spec.proofs.Choice.{left, right}
 
 -- a grammar has 65,535 bytes at most
 pub indexed-short : (g index : List ℕ) → Indexed g index → length g ≤ 65535
 unfolding wellFormed
-indexed-short g index i = leb-true (length g) 65535 (both (leb (length g) 65535) _ (i .well) .0)
+indexed-short g index i = leb-true (length g) 65535 (left (leb (length g) 65535) _ (i .well))
 
 -- kinds that may be parameters are each one record
 are-single : (ps : List ℕ) → every mayBeParameter ps ≡ true → every isSingle ps ≡ true
 unfolding isSingle
 are-single [] h = refl
-are-single (p ∷ ps) h = let x = both (mayBeParameter p) _ h in simp (x .0, are-single ps (x .1))
+are-single (p ∷ ps) h = simp (left (mayBeParameter p) _ h, are-single ps (right (mayBeParameter p) _ h))
 
 listed-by : (g index : List ℕ) → Indexed g index → (k v : ℕ) (o : Option (List ℕ)) → listed k v (grammarOf g .enumerants) ≡ o → every isSingle (orNone o) ≡ true
 unfolding orNone
@@ -45,10 +45,10 @@ are-operands : (op : ℕ) (before ss : List Slot) → rowGoodFrom op before ss �
 unfolding rowGoodFrom isOperand
 are-operands op before [] h = refl
 are-operands op before (slot k q ∷ ss) h =
-    let x = both (operandRule op before k q) _ h in
     simp (
-      first-of (mayBeOperand k) (leb q 2) (resultRule before k q) (literalRule op before k q) (fixedNext (fixedRow op) before k q) (x .0),
-      are-operands op (before ++ (slot k q ∷ [])) ss (x .1),
+      first-of (mayBeOperand k) (leb q 2) (resultRule before k q) (literalRule op before k q) (fixedNext (fixedRow op) before k q)
+          (left (operandRule op before k q) _ h),
+      are-operands op (before ++ (slot k q ∷ [])) ss (right (operandRule op before k q) _ h),
     )
 
 -- each operand of a row is of an operand's kind

@@ -27,15 +27,13 @@ use Rattle.grammar.specs.Find.{Sure, placeFound, rowFound}
 use Rattle.tracker.specs.Track.{literalOf, Literals}
 use Rattle.parser.specs.declared.used.Used.{Used}
 use Rattle.parser.specs.declared.used.Parsed.{Parsed}
-use Rattle.parser.specs.declared.used.Parsed.the-variants.{Good, Bad}
-use Rattle.parser.specs.declared.simple.Simple.{Simple}
-use Rattle.parser.specs.declared.simple.Simple.the-variants.{On}
+use Rattle.parser.specs.declared.used.Parsed.the-variants.{Got, Refused}
 use Rattle.parser.specs.declared.inst.InstRead.{InstRead}
-use Rattle.parser.specs.declared.inst.InstRead.the-variants.{Got, Refused}
+use Rattle.parser.specs.declared.inst.InstRead.the-variants.{Got as Inst, Refused as NoInst}
+use Rattle.parser.specs.declared.used.Frame.{Frame}
 use Rattle.parser.specs.Parse.{Notes, firstOf, secondOf, notesOf, noteAs, note, notes, noNotes, leftOf, isOperand, slotsAt, RowRead, Walks}
 use Rattle.parser.specs.Inst.{Ended, Decodes, DecodesOver, ShapeIs, RowIs}
-use Rattle.parser.specs.Simple.{RowReads}
-use Rattle.parser.specs.Body.{bodyRead}
+use Rattle.parser.specs.Body.{Framed, startOf, rowRead, bodyRead}
 use Rattle.parser.proofs.Carried.{row-operands}
 
 -- WHAT IS NOTED OF ALL OPERANDS
@@ -94,96 +92,72 @@ unfolding leftOf
 spent-left Unlimited h = refl
 spent-left (Words n) h = eqb-true n 0 h
 
--- a limit has the words that it has
-pub row-limited : (n : ℕ) → Words n ≡ Words (leftOf (Words n))
-unfolding leftOf
-row-limited n = refl
-
--- a limit of few words has few left
-pub row-short : (n : ℕ) → n ≤ 65535 → leftOf (Words n) ≤ 65535
-unfolding leftOf
-row-short n h = h
-
 -- words are left over at the end
-pub ended-left : (count op place : ℕ) (e : Decoder) (n : Used) (t : Bool) (r : InstRead) → t ≡ limitReached e → t ≡ false → r ≡ Refused (refusal 7 (e .offset) 0)
-    → Ended count op place e n r
+pub ended-left : (f : Frame) (e : Decoder) (n : Used) (t : Bool) (r : InstRead) → t ≡ limitReached e → t ≡ false → r ≡ NoInst (refusal 7 (e .offset) 0)
+    → Ended f e n r
 unfolding Ended
-ended-left count op place e n t r f z u = rw u (sym f ∙ z, refl)
+ended-left f e n t r p z u = rw u (sym p ∙ z, refl)
 
--- a row of simple operands that was read is a row that was read
-pub simple-walks : (s : List ℕ) (d : Decoder) (x : Read Seen) (log₀ strs₀ log strs : List ℕ) (a b c : ℕ) (v : Simple) (e : Decoder) (n : Used)
-    → RowReads s d x log₀ strs₀ log strs a b c v → v ≡ On e n → Walks s d x log₀ strs₀ log strs a b c (Good e n)
-unfolding RowReads
-simple-walks s d x log₀ strs₀ log strs a b c v e n w q = rw q at w
-
-module _ (g : Grammar) (types : List Entry) (s : List ℕ) (at count op : ℕ) (ss : List Slot) where
-  -- the decoder before the operands
-  abbrev pub startOf : Decoder
-  startOf = decoder (at + 4) (Words (count - 1))
-
+module _ (g : List ℕ) (types : List Entry) (s : List ℕ) (f : Frame) where
   -- the operands, then the end
-  body-by : (y : Read Seen) → readRow g types (leftOf (Words (count - 1))) ss nothingSeen (readerOf s startOf) ≡ y
-      → bodyRead g types at count op ss (readerAt s (at + 4) Unlimited) ≡ after y (λ x. allRead (instrOf at count op x))
-  unfolding bodyRead readerOf readerAt leftOf
-  body-by y e = ap (λ (m : Read Seen). after m (λ x. allRead (instrOf at count op x))) e
+  body-by : (y : Read Seen) → rowRead g types s (startOf f) (f .place) ≡ y → bodyRead g types s f ≡ after y (λ x. allRead (instrOf (f .at) (f .words) (f .opcode) x))
+  unfolding bodyRead rowRead leftOf readerOf readerAt
+  body-by y e = ap (λ (m : Read Seen). after m (λ x. allRead (instrOf (f .at) (f .words) (f .opcode) x))) e
 
-  module _ (log₀ strs₀ log strs : List ℕ) (a b c : ℕ) (v : Parsed)
-      (w : Walks s startOf (readRow g types (leftOf (Words (count - 1))) ss nothingSeen (readerOf s startOf)) log₀ strs₀ log strs a b c v) where
+  module _ (log₀ strs₀ log strs : List ℕ) (u : Used) where
     -- an operand was refused
-    pub body-bad : (place : ℕ) (y : Refusal) (e : Decoder) → v ≡ Bad y e
-        → Decodes s at (bodyRead g types at count op ss (readerAt s (at + 4) Unlimited)) log₀ strs₀ log strs a b c (Refused y)
-        × ShapeIs count op place (Refused y)
+    pub body-bad : (v : Parsed) → Walks s (startOf f) 0 (rowRead g types s (startOf f) (f .place)) log₀ strs₀ log strs u v → (y : Refusal) (e : Decoder) → v ≡ Refused y e
+        → Decodes s (f .at) (bodyRead g types s f) log₀ strs₀ log strs u (NoInst y) × ShapeIs f (NoInst y)
     unfolding Walks Decodes ShapeIs
-    body-bad place y e q =
-        let d : readRow g types (leftOf (Words (count - 1))) ss nothingSeen (readerOf s startOf) ≡ refused y (readerOf s e) = (rw q at w) in
+    body-bad v w y e q =
+        let d : rowRead g types s (startOf f) (f .place) ≡ refused y (readerOf s e) = (rw q at w) in
         (record { rest = readerOf s e; read = body-by _ d }, tt)
 
-    module _ (e : Decoder) (n : Used) (q : v ≡ Good e n) where
-      -- the operands were read
-      row-told : RowRead s startOf (readRow g types (leftOf (Words (count - 1))) ss nothingSeen (readerOf s startOf)) log₀ strs₀ log strs a b c e n
-      unfolding Walks
-      row-told = rw q at w
+    -- the operands were read, and no word is left over, or some are
+    body-end : (e : Decoder) (n : Used) → RowRead s (startOf f) 0 (rowRead g types s (startOf f) (f .place)) log₀ strs₀ log strs u e n → (r : InstRead) → 1 ≤ f .words
+        → Ended f e n r → Decodes s (f .at) (bodyRead g types s f) log₀ strs₀ log strs u r × ShapeIs f r
+    unfolding Decodes ShapeIs Ended leftOf limitReached
+    body-end e n d (NoInst y) h v = (
+      record {
+        rest = readerOf s e;
+        read = body-by _ (d .read) ∙ all-left s e _ (v .0) ∙ ap (λ (z : Refusal). refused z (readerOf s e)) (sym (v .1));
+      },
+      tt,
+    )
+    body-end e n d (Inst r) h v =
+        let k = v .1 in
+        let m : Instr = instrOf (f .at) (f .words) (f .opcode) (d .seen) in
+        let l : leftOf (e .limit) ≡ 0 = spent-left (e .limit) (v .0) in
+        let to : e .offset ≡ f .at + 4 * r .words = omega (arith, d .went .pace, l, h, k .words) in (
+          record {
+            instr = m;
+            read = body-by _ (d .read) ∙ all-spent s e m (v .0) ∙ ap (λ (p : ℕ). got m (readerAt s p Unlimited)) to;
+            inside = omega (arith, to, d .few .inside);
+            offset = refl;
+            words = sym (k .words);
+            moves = omega (arith, h, k .words);
+            opcode = sym (k .opcode);
+            rtype = sym (k .rtype ∙ d .walked .rtype);
+            rid = sym (k .rid ∙ d .walked .rid);
+            operands = used-count n _ (d .walked .noted) ∙ sym (k .operands);
+            few = omega (arith, to, d .few .operands, k .operands);
+            literals = rw (k .first, k .second) (used-literals n _ (d .walked .noted));
+            fits = rw (k .operands, k .first, k .second) (d .few .fits);
+            nlog = k .log ∙ d .walked .nlog;
+            nstrings = k .strings ∙ d .walked .nstrings;
+            few-log = omega (arith, to, d .few .log, k .log);
+            few-strings = omega (arith, to, d .few .strings, k .strings, d .walked .base);
+            log-laid = d .walked .log-laid;
+            strings-laid = d .walked .strings-laid;
+          },
+          rw (k .words, k .opcode, k .place-is) refl,
+        )
 
-      -- and no word is left over, or some are
-      pub body-good : (place : ℕ) (r : InstRead) → 1 ≤ count → Ended count op place e n r
-          → Decodes s at (bodyRead g types at count op ss (readerAt s (at + 4) Unlimited)) log₀ strs₀ log strs a b c r × ShapeIs count op place r
-      unfolding Decodes ShapeIs Ended leftOf limitReached
-      body-good place (Refused y) h u = (
-        record {
-          rest = readerOf s e;
-          read = body-by _ (row-told .read) ∙ all-left s e _ (u .0) ∙ ap (λ (z : Refusal). refused z (readerOf s e)) (sym (u .1));
-        },
-        tt,
-      )
-      body-good place (Got r) h u =
-          let d = row-told in
-          let k = u .1 in
-          let m : Instr = instrOf at count op (d .seen) in
-          let l : leftOf (e .limit) ≡ 0 = spent-left (e .limit) (u .0) in
-          let to : e .offset ≡ at + 4 * r .words = omega (arith, d .went .pace, l, h, k .words) in (
-            record {
-              instr = m;
-              read = body-by _ (d .read) ∙ all-spent s e m (u .0) ∙ ap (λ (p : ℕ). got m (readerAt s p Unlimited)) to;
-              inside = omega (arith, to, d .few .inside);
-              offset = refl;
-              words = sym (k .words);
-              moves = omega (arith, h, k .words);
-              opcode = sym (k .opcode);
-              rtype = sym (k .rtype ∙ d .walked .rtype);
-              rid = sym (k .rid ∙ d .walked .rid);
-              operands = used-count n _ (d .walked .noted) ∙ sym (k .operands);
-              few = omega (arith, to, d .few .operands, k .operands);
-              literals = rw (k .first, k .second) (used-literals n _ (d .walked .noted));
-              fits = rw (k .operands, k .first, k .second) (d .few .fits);
-              nlog = k .log ∙ d .walked .nlog;
-              nstrings = k .strings ∙ d .walked .nstrings;
-              few-log = omega (arith, to, d .few .log, k .log);
-              few-strings = omega (arith, to, d .few .strings, k .strings);
-              log-laid = d .walked .log-laid;
-              strings-laid = d .walked .strings-laid;
-            },
-            (k .words, k .opcode, k .place-is),
-          )
+    -- the same by the answer of the walk
+    pub body-good : (v : Parsed) → Walks s (startOf f) 0 (rowRead g types s (startOf f) (f .place)) log₀ strs₀ log strs u v → (e : Decoder) (n : Used) → v ≡ Got e n
+        → (r : InstRead) → 1 ≤ f .words → Ended f e n r → Decodes s (f .at) (bodyRead g types s f) log₀ strs₀ log strs u r × ShapeIs f r
+    unfolding Walks
+    body-good v w e n q r h k = body-end e n (rw q at w) r h k
 
 -- THE FIRST WORD
 
@@ -210,13 +184,21 @@ unfolding placeFound
 place-told g index i op r p e h q = ((rw q at h), row-operands g index i op (slotsAt g p) (found-at g r _ p e q))
 
 -- a word that was read is there
-pub word-inside : (s : List ℕ) (at w : ℕ) (e : Decoder) → Word w e ≡ wordFrom s (decoder at Unlimited) → at + 4 ≤ length s
+word-inside : (s : List ℕ) (at w : ℕ) (e : Decoder) → Word w e ≡ wordFrom s (decoder at Unlimited) → at + 4 ≤ length s
 word-inside s at w e h = word-got s (decoder at Unlimited) e w h .inside
 
 -- a count that is not zero
 pub some-words : (n : ℕ) → (n ≡ 0 → ⊥) → 1 ≤ n
 some-words zero h = absurd (h refl)
 some-words (suc n) h = omega arith
+
+-- the frame of an instruction whose first word was read and whose row was found
+pub inst-framed : (s g index : List ℕ) (at w p : ℕ) (e : Decoder) (f : Found) → Indexed g index → length s ≤ 67108864
+    → Word w e ≡ wordFrom s (decoder at Unlimited) → (w / 65536 ≡ 0 → ⊥) → rowFound g f ≡ rowOf (w % 65536) (grammarOf g .rows)
+    → placeFound f ≤ length g → f ≡ At p → Framed s g (record { at = at; words = w / 65536; opcode = w % 65536; place = p })
+inst-framed s g index at w p e f i b h z o l q =
+    let k = place-told g index i (w % 65536) f p o l q in
+    record { short = b; inside = word-inside s at w e h; moves = some-words (w / 65536) z; place-in = k .0; operands = k .1 }
 
 module _ (g : List ℕ) (types : List Entry) (s : List ℕ) (at : ℕ) where
   -- the first word, then the count, the row and the rest
@@ -228,45 +210,48 @@ module _ (g : List ℕ) (types : List Entry) (s : List ℕ) (at : ℕ) where
       ap (λ (m : Read ℕ). after m (λ w. if eqb (w / 65536) 0 then refuse 4 at else readBody (grammarOf g) types at (w / 65536) (w % 65536) (rowOf (w % 65536) (grammarOf g .rows)))) e
 
   -- a refusal before the operands
-  decline : (x : Read Instr) (l t : List ℕ) (a b c : ℕ) (r : InstRead) (y : Refusal) (q : Reader) → r ≡ Refused y → x ≡ refused y q
-      → DecodesOver s at x l t a b c r × RowIs g types s at x r
+  decline : (x : Read Instr) (l t : List ℕ) (u : Used) (r : InstRead) (y : Refusal) (q : Reader) → r ≡ NoInst y → x ≡ refused y q
+      → DecodesOver s at x l t u r × RowIs g types s at x r
   unfolding Decodes RowIs
-  decline x l t a b c r y q u e = rw u (record { log₀ = l; strs₀ = t; decodes = record { rest = q; read = e } }, tt)
+  decline x l t u r y q v e = rw v (record { log₀ = l; strs₀ = t; decodes = record { rest = q; read = e } }, tt)
 
-  -- the row of an instruction by its shape
-  row-is : (count op p : ℕ) (x : Read Instr) (r : InstRead) → ShapeIs count op p r → (p ≤ length g) × (every isOperand (slotsAt g p) ≡ true)
-      → x ≡ bodyRead (grammarOf g) types at count op (slotsAt g p) (readerAt s (at + 4) Unlimited) → RowIs g types s at x r
+  -- the row of an instruction by its frame
+  row-is : (n op p : ℕ) (x : Read Instr) (r : InstRead) → ShapeIs (record { at = at; words = n; opcode = op; place = p }) r
+      → (p ≤ length g) × (every isOperand (slotsAt g p) ≡ true) → x ≡ bodyRead g types s (record { at = at; words = n; opcode = op; place = p })
+      → RowIs g types s at x r
   unfolding ShapeIs RowIs
-  row-is count op p x (Got r) h q e = record { inside = rw (h .2) (q .0); operands = rw (h .2) (q .1); body = rw (h .0, h .1, h .2) e }
-  row-is count op p x (Refused y) h q e = tt
+  row-is n op p x (Inst r) h q e =
+      let z = subst (λ (f : Frame). (f .place ≤ length g) × (every isOperand (slotsAt g (f .place)) ≡ true) × (x ≡ bodyRead g types s f)) (sym h) (q .0, q .1, e) in
+      record { inside = z .0; operands = z .1; body = z .2 }
+  row-is n op p x (NoInst y) h q e = tt
 
-  module _ (l t : List ℕ) (a b c : ℕ) where
+  module _ (l t : List ℕ) (u : Used) where
     -- there is no word
     pub inst-no-word : (y : Refusal) (e : Decoder) → NoWord y e ≡ wordFrom s (decoder at Unlimited)
-        → DecodesOver s at (readInstr (grammarOf g) types (readerAt s at Unlimited)) l t a b c (Refused y)
-        × RowIs g types s at (readInstr (grammarOf g) types (readerAt s at Unlimited)) (Refused y)
-    inst-no-word y e h = decline _ l t a b c _ y _ refl (first-by _ (word-refused s (decoder at Unlimited) e y h))
+        → DecodesOver s at (readInstr (grammarOf g) types (readerAt s at Unlimited)) l t u (NoInst y)
+        × RowIs g types s at (readInstr (grammarOf g) types (readerAt s at Unlimited)) (NoInst y)
+    inst-no-word y e h = decline _ l t u _ y _ refl (first-by _ (word-refused s (decoder at Unlimited) e y h))
 
     -- its count is zero
-    pub inst-zero : (w : ℕ) (e : Decoder) → Word w e ≡ wordFrom s (decoder at Unlimited) → (r : InstRead) → w / 65536 ≡ 0 → r ≡ Refused (refusal 4 at 0)
-        → DecodesOver s at (readInstr (grammarOf g) types (readerAt s at Unlimited)) l t a b c r
+    pub inst-zero : (w : ℕ) (e : Decoder) → Word w e ≡ wordFrom s (decoder at Unlimited) → (r : InstRead) → w / 65536 ≡ 0 → r ≡ NoInst (refusal 4 at 0)
+        → DecodesOver s at (readInstr (grammarOf g) types (readerAt s at Unlimited)) l t u r
         × RowIs g types s at (readInstr (grammarOf g) types (readerAt s at Unlimited)) r
-    inst-zero w e h r z u =
-        decline _ l t a b c r _ (readerOf s e) u (first-by _ (word-got s (decoder at Unlimited) e w h .reads) ∙ simp (eq-eqb (w / 65536) 0 z))
+    inst-zero w e h r z v =
+        decline _ l t u r _ (readerOf s e) v (first-by _ (word-got s (decoder at Unlimited) e w h .reads) ∙ simp (eq-eqb (w / 65536) 0 z))
 
   module _ (w : ℕ) (e : Decoder) (h : Word w e ≡ wordFrom s (decoder at Unlimited)) (z : w / 65536 ≡ 0 → ⊥)
       (f : Found) (o : rowFound g f ≡ rowOf (w % 65536) (grammarOf g .rows)) where
     -- its opcode has no row
-    pub inst-unknown : (l t : List ℕ) (a b c : ℕ) (r : InstRead) → f ≡ Nothing → r ≡ Refused (refusal 5 at (w % 65536))
-        → DecodesOver s at (readInstr (grammarOf g) types (readerAt s at Unlimited)) l t a b c r
+    pub inst-unknown : (l t : List ℕ) (u : Used) (r : InstRead) → f ≡ Nothing → r ≡ NoInst (refusal 5 at (w % 65536))
+        → DecodesOver s at (readInstr (grammarOf g) types (readerAt s at Unlimited)) l t u r
         × RowIs g types s at (readInstr (grammarOf g) types (readerAt s at Unlimited)) r
-    inst-unknown l t a b c r q u =
-        decline _ l t a b c r _ (readerOf s e) u
+    inst-unknown l t u r q v =
+        decline _ l t u r _ (readerOf s e) v
         (first-by _ (word-got s (decoder at Unlimited) e w h .reads) ∙ simp (ne-eqb (w / 65536) 0 z, found-none g f _ o q))
 
     -- its opcode has a row
     inst-row : (p : ℕ) → f ≡ At p → readInstr (grammarOf g) types (readerAt s at Unlimited)
-        ≡ bodyRead (grammarOf g) types at (w / 65536) (w % 65536) (slotsAt g p) (readerAt s (at + 4) Unlimited)
+        ≡ bodyRead g types s (record { at = at; words = w / 65536; opcode = w % 65536; place = p })
     unfolding bodyRead readerOf
     inst-row p q =
         let d = word-got s (decoder at Unlimited) e w h in
@@ -275,10 +260,10 @@ module _ (g : List ℕ) (types : List Entry) (s : List ℕ) (at : ℕ) where
         first-by _ (d .reads) ∙ simp (ne-eqb (w / 65536) 0 z, found-at g f _ p o q, x)
 
     -- the instruction is that of the row
-    pub inst-by : (p : ℕ) → f ≡ At p → (p ≤ length g) × (every isOperand (slotsAt g p) ≡ true) → (l₀ t₀ l t : List ℕ) (a b c : ℕ) (r : InstRead)
-        → Decodes s at (bodyRead (grammarOf g) types at (w / 65536) (w % 65536) (slotsAt g p) (readerAt s (at + 4) Unlimited)) l₀ t₀ l t a b c r
-        × ShapeIs (w / 65536) (w % 65536) p r
-        → DecodesOver s at (readInstr (grammarOf g) types (readerAt s at Unlimited)) l t a b c r
+    pub inst-by : (p : ℕ) → f ≡ At p → (p ≤ length g) × (every isOperand (slotsAt g p) ≡ true) → (l₀ t₀ l t : List ℕ) (u : Used) (r : InstRead)
+        → Decodes s at (bodyRead g types s (record { at = at; words = w / 65536; opcode = w % 65536; place = p })) l₀ t₀ l t u r
+        × ShapeIs (record { at = at; words = w / 65536; opcode = w % 65536; place = p }) r
+        → DecodesOver s at (readInstr (grammarOf g) types (readerAt s at Unlimited)) l t u r
         × RowIs g types s at (readInstr (grammarOf g) types (readerAt s at Unlimited)) r
-    inst-by p q k l₀ t₀ l t a b c r d =
+    inst-by p q k l₀ t₀ l t u r d =
         (record { log₀ = l₀; strs₀ = t₀; decodes = rw (inst-row p q) (d .0) }, row-is _ _ p _ r (d .1) k (inst-row p q))

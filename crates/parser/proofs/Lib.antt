@@ -1,4 +1,5 @@
 pub mod UsedLaws
+pub mod KindLaws
 pub mod Walk
 pub mod One
 pub mod Carried

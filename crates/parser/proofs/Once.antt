@@ -1,17 +1,17 @@
 -- Laws of embedded operations: a row's operands at their places, each read once, and the operation before them.
-use Prim.Native.Nat.{ℕ, _+_, _%_, _<_, _≤_}
+use Prim.Native.Nat.{ℕ, _+_, _%_, _≤_}
 use mathlib.Core.Path.{_≡_, refl, ap, sym, _∙_}
-use mathlib.Core.Bool.{Bool, true, false, not, _||_}
+use mathlib.Core.Bool.{Bool, true, false, not, _||_, and-eq-true-iff}
 use mathlib.Core.List.{List, [], _∷_, _++_}
 use mathlib.Core.Option.{Option, none, some}
 use native.Mathlib.Omega.{arith}
-use borrow.Author.Tests.{leb-true, leb-false, le-leb, not-true, not-false}
-use lib.Dec.{eqb, leb}
+use borrow.Author.Tests.{not-true, not-false}
+use lib.Dec.{eqb}
 use lib.ListN.{length, drop, drop-of-length-le}
 use Rattle.spec.specs.declared.Found.{Found}
 use Rattle.spec.specs.declared.Found.the-variants.{At, Nothing}
 use Rattle.spec.specs.declared.Refusal.{Refusal}
-use Rattle.spec.specs.Base.{if_then_else_, within, every}
+use Rattle.spec.specs.Base.{if_then_else_, every}
 use Rattle.spec.specs.Kinds.{isResult, mayBeOperand, mayEmbed}
 use Rattle.spec.specs.Records.{Operand, narrow}
 use Rattle.spec.specs.Reader.{Reader, Read, got, refused, after, give, refusal, readerAt}
@@ -27,9 +27,8 @@ use Rattle.grammar.specs.declared.find.SlotAt.the-variants.{Slot as ASlot, End 
 use Rattle.grammar.specs.Find.{rowFound, slotsThen, slotBytes}
 use Rattle.parser.specs.declared.used.Used.{Used}
 use Rattle.parser.specs.declared.used.Parsed.{Parsed}
-use Rattle.parser.specs.declared.used.Parsed.the-variants.{Good, Bad}
-use Rattle.parser.specs.Parse.{Parses, prefix, isPlain, isOperand, isInner, onceAlone, slotsAt}
-use Rattle.parser.proofs.One.{both, not-kind}
+use Rattle.parser.specs.declared.used.Parsed.the-variants.{Got, Refused}
+use Rattle.parser.specs.Parse.{Parses, prefix, isOperand, isInner, onceAlone, slotsAt}
 use Rattle.parser.proofs.Walk.{prefix-nil, cons-prefix, went-less}
 use Rattle.parser.proofs.TypeLaws.{in-three}
 
@@ -77,10 +76,10 @@ module _ (all : Bool) (ss rest : List Slot) (k q : ℕ) (h : all ≡ every embed
 module _ (ss rest : List Slot) (k q : ℕ) (e : ss ≡ slot k q ∷ rest) where
   operand-first : every isOperand ss ≡ true → (mayBeOperand k ≡ true) × (every isOperand rest ≡ true)
   unfolding isOperand
-  operand-first h = both (mayBeOperand k) (every isOperand rest) (sym (ap (every isOperand) e) ∙ h)
+  operand-first h = and-eq-true-iff (mayBeOperand k) (every isOperand rest) .0 (sym (ap (every isOperand) e) ∙ h)
 
   embed-first : every embeds ss ≡ true → (mayEmbed k ≡ true) × (every embeds rest ≡ true)
-  embed-first h = both (mayEmbed k) (every embeds rest) (sym (ap (every embeds) e) ∙ h)
+  embed-first h = and-eq-true-iff (mayEmbed k) (every embeds rest) .0 (sym (ap (every embeds) e) ∙ h)
 
   -- the first of an embedded row's operands
   pub inner-first : every isOperand ss ≡ true → every embeds ss ≡ true → isInner k ≡ true
@@ -135,14 +134,14 @@ module _ (s : List ℕ) (g : Grammar) (k : ℕ) (d : Decoder) (t : Bool) (p : t 
 pub less-read : (s : List ℕ) (d : Decoder) (m : ℕ) (x z : Read (List Operand)) (l₀ t₀ l t : List ℕ) (c : Used) (v : Parsed)
     → x ≡ z → Parses s d m z l₀ t₀ l t c v → Parses s d 0 x l₀ t₀ l t c v
 unfolding Parses
-less-read s d m x z l₀ t₀ l t c (Good e n) q h = record {
+less-read s d m x z l₀ t₀ l t c (Got e n) q h = record {
   operands = h .operands;
   read = q ∙ h .read;
   held = h .held;
   few = h .few;
   went = went-less (h .went);
 }
-less-read s d m x z l₀ t₀ l t c (Bad y e) q h = q ∙ h
+less-read s d m x z l₀ t₀ l t c (Refused y e) q h = q ∙ h
 
 -- THE OPERATION
 
@@ -194,31 +193,3 @@ module _ (s g : List ℕ) (d : Decoder) (w : ℕ) (e : Decoder) (h : Word w e �
     embedded-row j =
         let z : every embeds (slotsAt g p) ≡ true = sym i ∙ not-false t j in
         embedded-by s (grammarOf g) d w e h _ (row-told g f p _ l q) ∙ simp z (cons-prefix (narrow 39 (w % 65536)) (readOnce (grammarOf g) (slotsAt g p) (readerOf s e)))
-
--- KINDS
-
-past : (a k b : ℕ) → within a k b ≡ false → a ≤ k → b < k
-past a k b e h = leb-false k b (simp (le-leb a k h) at e)
-
-plain-by : (k : ℕ) (a b : Bool) → leb k 35 ≡ a → leb k 45 ≡ b → 1 ≤ k → k ≤ 51 → within 36 k 38 ≡ false → mayEmbed k ≡ true → isResult k ≡ false
-    → isPlain k ≡ true
-unfolding isPlain
-plain-by k true b ea eb h i j m n = simp (le-leb 1 k h, ea)
-plain-by k false true ea eb h i j m n =
-    let x = past 36 k 38 j (omega (arith, leb-false k 35 ea)) in
-    let y : 40 ≤ k = omega (arith, x, not-kind mayEmbed k 39 m refl) in
-    simp (le-leb 1 k h, ea, le-leb 40 k y, eb)
-plain-by k false false ea eb h i j m n =
-    let x = past 46 k 47 n (omega (arith, leb-false k 45 eb)) in
-    let y : 50 ≤ k = omega (arith, x, not-kind mayEmbed k 48 m refl, not-kind mayEmbed k 49 m refl) in
-    let z : 40 ≤ k = omega (arith, y) in
-    simp (le-leb 1 k h, ea, le-leb 40 k z, eb, le-leb 50 k y, le-leb k 51 i)
-
--- an operand of an embedded row that is no result is one that `parse_operand` reads
-pub inner-plain : (k : ℕ) (t : Bool) → t ≡ isResult k → t ≡ false → isInner k ≡ true → isPlain k ≡ true
-unfolding isInner
-inner-plain k t p q h =
-    let x = both (mayBeOperand k) (mayEmbed k) h in
-    let y = both (within 1 k 51) (not (within 36 k 38)) (x .0) in
-    let z = both (leb 1 k) (leb k 51) (y .0) in
-    plain-by k (leb k 35) (leb k 45) refl refl (leb-true 1 k (z .0)) (leb-true k 51 (z .1)) (not-true (within 36 k 38) (y .1)) (x .1) (sym p ∙ q)

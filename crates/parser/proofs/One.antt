@@ -1,18 +1,18 @@
 -- Laws of one record: what a kind's read comes to, for each answer of the calls, and what is held then.
 use Prim.Native.Nat.{ℕ, _+_, _*_, _-_, _/_, _%_, _<_, _≤_}
 use mathlib.Core.Path.{_≡_, refl, ap, sym, _∙_}
-use mathlib.Core.Bool.{Bool, true, false, _&&_, _||_}
+use mathlib.Core.Bool.{Bool, true, false, not}
 use mathlib.Core.List.{List, [], _∷_, _++_, append-nil}
 use mathlib.Core.Option.{Option, none, some}
 use native.Mathlib.Omega.{arith}
 use native.Mathlib.Nat.{add-zero}
-use borrow.Author.Tests.{eq-eqb, ne-eqb, leb-true, le-leb, ltb-false, eqb-true}
-use lib.Dec.{eqb, leb}
+use borrow.Author.Tests.{ne-eqb, ltb-false, not-true}
+use lib.Dec.{eqb}
 use lib.ListN.{length, drop, length-drop}
 use lib.Seq.{slice, length-slice}
 use Rattle.spec.specs.declared.Limit.the-variants.{Words}
 use Rattle.spec.specs.declared.Refusal.{Refusal}
-use Rattle.spec.specs.Base.{if_then_else_, within}
+use Rattle.spec.specs.Base.{if_then_else_}
 use Rattle.spec.specs.Words.{bytesOf}
 use Rattle.spec.specs.Text.{textWords}
 use Rattle.spec.specs.declared.Found.{Found}
@@ -22,6 +22,7 @@ use Rattle.spec.specs.Records.{narrow, wide, text, operandLog, operandsLog, ope
 use Rattle.spec.specs.Reader.{Reader, Read, got, refused, after, give, refusal, reached, readWord, readText, limitPast, readerAt}
 use Rattle.spec.specs.Grammar.{Grammar, grammarOf, listed, parametersFor}
 use Rattle.spec.specs.Match.{Known, known, knownOr, valueOf, readEnumerant, readOne, readEach}
+use Rattle.spec.proofs.Choice.{right}
 use Rattle.operand.specs.Parts.{parts, isTwo, Fits}
 use Rattle.operand.specs.Log.{recordBy, recordOf, lengthBy, recordLength, Laid}
 use Rattle.operand.proofs.LogLaws.{length-range, laid-nil}
@@ -36,9 +37,11 @@ use Rattle.grammar.specs.Find.{placeFound, parametersFound, isListed}
 use Rattle.tracker.specs.Track.{literalOf}
 use Rattle.parser.specs.declared.used.Used.{Used}
 use Rattle.parser.specs.declared.operands.EnumRead.{EnumRead}
-use Rattle.parser.specs.declared.operands.EnumRead.the-variants.{Known as KnownAt, Unread}
-use Rattle.parser.specs.Parse.{idRefOf, notesOf, noteAs, note, notes, Pushed, Copied, Step, Went, Few, Held, isSingle, orNone, parametersAt, KnownAs, EnumIs}
-use Rattle.parser.proofs.Walk.{step-few, step-went, laid-as}
+use Rattle.parser.specs.declared.operands.EnumRead.the-variants.{Got as Value, Refused as NoValue}
+use Rattle.parser.specs.declared.used.Parsed.the-variants.{Got}
+use Rattle.parser.specs.Parse.{idRefOf, notesOf, noteAs, note, notes, Pushed, Copied, Step, Went, Few, Held, Parses, isWord, orNone, parametersAt, KnownAs, EnumIs}
+use Rattle.parser.proofs.KindLaws.{isNarrow, not-kind, word-no-enum, word-no-text, word-narrow, enum-narrow}
+use Rattle.parser.proofs.Walk.{accept, step-few, step-went, laid-as}
 
 -- HOW FAR
 
@@ -56,7 +59,7 @@ module _ (s g : List ℕ) (k : ℕ) (d : Decoder) (b : Bool) (p : b ≡ limitRea
   told t q = sym p ∙ q
 
   -- on a spent limit the number is 9
-  pub enum-spent : (v : EnumRead) → b ≡ true → v ≡ Unread (refusal 9 (d .offset) 0) d → EnumIs s g k d v
+  pub enum-spent : (v : EnumRead) → b ≡ true → v ≡ NoValue (refusal 9 (d .offset) 0) d → EnumIs s g k d v
   unfolding EnumIs readEnumerant readerOf readerAt
   enum-spent v q e = rw e (simp (told true q))
 
@@ -66,7 +69,7 @@ module _ (s g : List ℕ) (k : ℕ) (d : Decoder) (b : Bool) (p : b ≡ limitRea
 
   module _ (q : b ≡ false) where
     -- no word
-    pub enum-unread : (x : Refusal) (e : Decoder) → NoWord x e ≡ wordFrom s d → EnumIs s g k d (Unread x e)
+    pub enum-unread : (x : Refusal) (e : Decoder) → NoWord x e ≡ wordFrom s d → EnumIs s g k d (NoValue x e)
     unfolding EnumIs
     enum-unread x e h = enum-on q ∙ ap (λ (y : Read ℕ). after y (λ v. knownOr (d .offset) v (parametersFor k v (grammarOf g)))) (word-refused s d e x h)
 
@@ -78,7 +81,7 @@ module _ (s g : List ℕ) (k : ℕ) (d : Decoder) (b : Bool) (p : b ≡ limitRea
 
       -- the value is known, and its parameters start at a place unless it is a mask
       enum-known : (o : Option (List ℕ)) → parametersFor k w (grammarOf g) ≡ o → isListed o ≡ true → (n : ℕ) → n ≤ length g
-          → (isMask k ≡ false → parametersFound g (At n) ≡ o) → EnumIs s g k d (KnownAt w n e)
+          → (isMask k ≡ false → parametersFound g (At n) ≡ o) → EnumIs s g k d (Value w n e)
       unfolding EnumIs isListed parametersFound parametersAt orNone
       enum-known none l t n i f = let z : _≡_ {A = ℕ} 0 1 = cc in absurd (omega arith)
       enum-known (some ps) l t n i f = record {
@@ -92,14 +95,14 @@ module _ (s g : List ℕ) (k : ℕ) (d : Decoder) (b : Bool) (p : b ≡ limitRea
 
       -- it is not
       pub enum-unknown : (o : Option (List ℕ)) → parametersFor k w (grammarOf g) ≡ o → isListed o ≡ false → (v : EnumRead)
-          → v ≡ Unread (refusal 10 (d .offset) w) e → EnumIs s g k d v
+          → v ≡ NoValue (refusal 10 (d .offset) w) e → EnumIs s g k d v
       unfolding EnumIs isListed
       enum-unknown none l t v r = rw r (looked none l)
       enum-unknown (some ps) l t v r = let z : _≡_ {A = ℕ} 0 1 = cc in absurd (omega arith)
 
       -- a mask that is known
       pub mask-known : (m t : Bool) → m ≡ isMask k → m ≡ true → t ≡ isListed (parametersFor k w (grammarOf g)) → t ≡ true
-          → EnumIs s g k d (KnownAt w (length g) e)
+          → EnumIs s g k d (Value w (length g) e)
       mask-known m t a c f i =
           enum-known (parametersFor k w (grammarOf g)) refl (sym f ∙ i) (length g) (omega arith) (λ n.
           let y : true ≡ false = sym c ∙ a ∙ n in
@@ -108,86 +111,42 @@ module _ (s g : List ℕ) (k : ℕ) (d : Decoder) (b : Bool) (p : b ≡ limitRea
 
       -- another value, as it was looked up
       module _ (m : Bool) (a : m ≡ isMask k) (c : m ≡ false) (f : Found) (i : parametersFound g f ≡ listed k w (grammarOf g .enumerants)) where
-        plain-found : (x : Found) → f ≡ x → parametersFor k w (grammarOf g) ≡ parametersFound g x
+        listed-found : (x : Found) → f ≡ x → parametersFor k w (grammarOf g) ≡ parametersFound g x
         unfolding parametersFor
-        plain-found x r = simp (sym a ∙ c) (sym i ∙ ap (parametersFound g) r)
+        listed-found x r = simp (sym a ∙ c) (sym i ∙ ap (parametersFound g) r)
 
         -- it is known
-        pub value-known : (n : ℕ) → f ≡ At n → placeFound f ≤ length g → EnumIs s g k d (KnownAt w n e)
+        pub value-known : (n : ℕ) → f ≡ At n → placeFound f ≤ length g → EnumIs s g k d (Value w n e)
         unfolding parametersFound placeFound isListed
-        value-known n r l = enum-known (parametersFound g (At n)) (plain-found (At n) r) refl n (rw r at l) (λ x. refl)
+        value-known n r l = enum-known (parametersFound g (At n)) (listed-found (At n) r) refl n (rw r at l) (λ x. refl)
 
         -- it is not
-        pub value-unknown : f ≡ Nothing → (v : EnumRead) → v ≡ Unread (refusal 10 (d .offset) w) e → EnumIs s g k d v
+        pub value-unknown : f ≡ Nothing → (v : EnumRead) → v ≡ NoValue (refusal 10 (d .offset) w) e → EnumIs s g k d v
         unfolding parametersFound isListed
-        value-unknown r = enum-unknown (parametersFound g Nothing) (plain-found Nothing r) refl
+        value-unknown r = enum-unknown (parametersFound g Nothing) (listed-found Nothing r) refl
 
 -- an enumerant's answer, taken apart
-pub known-told : (s g : List ℕ) (k : ℕ) (d : Decoder) (v : EnumRead) (w p : ℕ) (e : Decoder) → EnumIs s g k d v → v ≡ KnownAt w p e → KnownAs s g k d w p e
+pub known-told : (s g : List ℕ) (k : ℕ) (d : Decoder) (v : EnumRead) (w p : ℕ) (e : Decoder) → EnumIs s g k d v → v ≡ Value w p e → KnownAs s g k d w p e
 unfolding EnumIs
 known-told s g k d v w p e h q = rw q at h
 
-pub unread-told : (s g : List ℕ) (k : ℕ) (d : Decoder) (v : EnumRead) (x : Refusal) (e : Decoder) → EnumIs s g k d v → v ≡ Unread x e
+pub unread-told : (s g : List ℕ) (k : ℕ) (d : Decoder) (v : EnumRead) (x : Refusal) (e : Decoder) → EnumIs s g k d v → v ≡ NoValue x e
     → readEnumerant (grammarOf g) k (readerOf s d) ≡ refused x (readerOf s e)
 unfolding EnumIs
 unread-told s g k d v x e h q = rw q at h
 
--- KINDS
-
-pub both : (a b : Bool) → (a && b) ≡ true → (a ≡ true) × (b ≡ true)
-both true true e = (refl, refl)
-both true false e = (refl, e)
-both false b e = let z : _≡_ {A = ℕ} 0 1 = cc in absurd (omega arith)
-
-in-both : (a k b : ℕ) → a ≤ k → k ≤ b → within a k b ≡ true
-in-both a k b h i = simp (le-leb a k h, le-leb k b i)
-
-logged-by : (k : ℕ) (a b c : Bool) → within 1 k 35 ≡ a → within 40 k 45 ≡ b → eqb k 37 ≡ c → (a || b || c) ≡ true → isLogged k ≡ true
-logged-by k true b c e f g h = let x = both (leb 1 k) (leb k 35) e in in-both 1 k 45 (leb-true 1 k (x .0)) (omega (arith, leb-true k 35 (x .1)))
-logged-by k false true c e f g h = let x = both (leb 40 k) (leb k 45) f in in-both 1 k 45 (omega (arith, leb-true 40 k (x .0))) (leb-true k 45 (x .1))
-logged-by k false false true e f g h = let x = eqb-true k 37 g in in-both 1 k 45 (omega arith) (omega arith)
-logged-by k false false false e f g h = let z : _≡_ {A = ℕ} 0 1 = cc in absurd (omega arith)
-
--- a kind of one record is a kind of the log
-pub single-logged : (k : ℕ) → isSingle k ≡ true → isLogged k ≡ true
-unfolding isSingle
-single-logged k h = logged-by k (within 1 k 35) (within 40 k 45) (eqb k 37) refl refl refl h
-
-pub not-kind : (P : ℕ → Bool) (k j : ℕ) → P k ≡ true → P j ≡ false → k ≡ j → ⊥
-not-kind P k j h f e =
-    let y : P k ≡ false = ap P e ∙ f in
-    let z : _≡_ {A = ℕ} 0 1 = cc in
-    omega arith
-
--- and has one word, but for strings
-pub single-one : (k : ℕ) → isSingle k ≡ true → (k ≡ 40 → ⊥) → isTwo k ≡ false
-unfolding isSingle
-single-one k h z =
-    simp (ne-eqb k 36 (not-kind isSingle k 36 h refl), ne-eqb k 38 (not-kind isSingle k 38 h refl), ne-eqb k 40 z)
-
--- no enumerant is a string
-pub enum-text : (k : ℕ) (t : Bool) → t ≡ isEnum k → t ≡ true → k ≡ 40 → ⊥
-enum-text k t p q = not-kind isEnum k 40 (sym p ∙ q) refl
-
--- the value of one word fits
-pub single-fits : (k w : ℕ) → isSingle k ≡ true → w < 4294967296 → Fits k w
-single-fits k w h l = record { known = single-logged k h; small = λ e. l }
-
 -- READS
 
-module _ (s : List ℕ) (g : Grammar) (k : ℕ) (d : Decoder) (t : Bool) (p : t ≡ isEnum k) (q : t ≡ false) where
-  plain-kind : isEnum k ≡ false
-  plain-kind = sym p ∙ q
-
-  module _ (z : k ≡ 40 → ⊥) where
+module _ (s : List ℕ) (g : Grammar) (k : ℕ) (d : Decoder) where
+  module _ (z : isWord k ≡ true) where
     each-word : (y : Read ℕ) → readWord (readerOf s d) ≡ y
         → readEach g (k ∷ []) (readerOf s d) ≡ after (after y (λ a. give (narrow k a))) (λ o. give (o ∷ []))
     unfolding readEach readOne
     each-word y h =
-        simp (plain-kind, ne-eqb k 40 z) (ap (λ (m : Read ℕ). after (after m (λ a. give (narrow k a))) (λ o. give (o ∷ []))) h)
+        simp (word-no-enum k z, word-no-text k z) (ap (λ (m : Read ℕ). after (after m (λ a. give (narrow k a))) (λ o. give (o ∷ []))) h)
 
     -- a word
-    pub word-good : (w : ℕ) (e : Decoder) → Word w e ≡ wordFrom s d → readEach g (k ∷ []) (readerOf s d) ≡ got (narrow k w ∷ []) (readerOf s e)
+    word-good : (w : ℕ) (e : Decoder) → Word w e ≡ wordFrom s d → readEach g (k ∷ []) (readerOf s d) ≡ got (narrow k w ∷ []) (readerOf s e)
     word-good w e h = each-word (got w (readerOf s e)) (word-got s d e w h .reads)
 
     -- no word
@@ -198,11 +157,10 @@ module _ (s : List ℕ) (g : Grammar) (k : ℕ) (d : Decoder) (t : Bool) (p : t 
     each-text : (y : Read (List ℕ)) → readText (readerOf s d) ≡ y
         → readEach g (k ∷ []) (readerOf s d) ≡ after (after y (λ a. give (text a))) (λ o. give (o ∷ []))
     unfolding readEach readOne
-    each-text y h =
-        simp (plain-kind, eq-eqb k 40 z) (ap (λ (m : Read (List ℕ)). after (after m (λ a. give (text a))) (λ o. give (o ∷ []))) h)
+    each-text y h = rw z (ap (λ (m : Read (List ℕ)). after (after m (λ a. give (text a))) (λ o. give (o ∷ []))) h)
 
     -- a string
-    pub text-good : (x : Text) → GotText x ≡ textFrom s d
+    text-good : (x : Text) → GotText x ≡ textFrom s d
         → readEach g (k ∷ []) (readerOf s d) ≡ got (text (slice (x .start) (x .start + x .length) s) ∷ []) (readerOf s (x .next))
     text-good x h = each-text _ (sym (text-within s d i) ∙ text-got s d x h .reads)
 
@@ -221,7 +179,7 @@ module _ (s g : List ℕ) (k : ℕ) (d : Decoder) (t : Bool) (b : t ≡ isEnum k
       simp enum-kind (ap (λ (m : Read Known). after (after m (λ a. give (narrow k (valueOf a)))) (λ o. give (o ∷ []))) h)
 
   -- an enumerant
-  pub enum-good : (w p : ℕ) (e : Decoder) → KnownAs s g k d w p e → readEach (grammarOf g) (k ∷ []) (readerOf s d) ≡ got (narrow k w ∷ []) (readerOf s e)
+  enum-good : (w p : ℕ) (e : Decoder) → KnownAs s g k d w p e → readEach (grammarOf g) (k ∷ []) (readerOf s d) ≡ got (narrow k w ∷ []) (readerOf s e)
   enum-good w p e h = each-enum _ (h .read)
 
   -- no enumerant
@@ -232,10 +190,11 @@ module _ (s g : List ℕ) (k : ℕ) (d : Decoder) (t : Bool) (b : t ≡ isEnum k
 -- WHAT IS HELD
 
 -- a record of one word
-pub held-narrow : (l t l₁ : List ℕ) (u n : Used) (j w : ℕ) → isTwo j ≡ false → Pushed j w u n
+pub held-narrow : (l t l₁ : List ℕ) (u n : Used) (j w : ℕ) → isNarrow j ≡ true → Pushed j w u n
     → Laid l (u .log) (recordOf (parts j w)) l₁ → Held l t l₁ t u n (narrow j w ∷ [])
-unfolding operandsLog operandLog operandsStrings operandString literalOf idRefOf notes note recordOf recordBy recordLength lengthBy bytesOf
-held-narrow l t l₁ u n j w z p h =
+unfolding operandsLog operandLog operandsStrings operandString literalOf idRefOf notes note recordOf recordBy recordLength lengthBy bytesOf isNarrow
+held-narrow l t l₁ u n j w i p h =
+    let z = not-true (isTwo j) (right (isLogged j) (not (isTwo j)) i) in
     let a : n .log ≡ u .log + 5 = simp z at (p .log) in
     let b : recordOf (parts j w) ≡ j ∷ bytesOf w = simp z in
     record {
@@ -259,13 +218,32 @@ pub few-pushed : (s : List ℕ) (d e : Decoder) (u r : Used) (n j w : ℕ) → F
 few-pushed s d e u r n j w f t h p =
     step-few s d e u r n f t h (one-more u r _ _ (p .noted)) (omega (arith, p .log, length-range (parts j w) .1)) (omega (arith, p .strings)) (p .base) (p .fits (f .fits))
 
--- the numbers are small
-pub few-small : (s : List ℕ) (d : Decoder) (u : Used) → Few s d u → (u .log ≤ 1000000000) × (u .operands ≤ 1000000000) × (u .base + u .strings ≤ 67108864)
-few-small s d u f = (
+-- what is in use before a record leaves room to count on
+pub few-small : {s : List ℕ} {d : Decoder} {u : Used} → Few s d u → (u .log ≤ 1000000000) × (u .operands ≤ 1000000000) × (u .base + u .strings ≤ 67108864)
+few-small f = (
   omega (arith, f .short, f .inside, f .log),
   omega (arith, f .short, f .inside, f .operands),
   omega (arith, f .short, f .inside, f .strings),
 )
+
+-- a record may be added
+pub may-push : {s : List ℕ} {d : Decoder} {u : Used} {k v : ℕ} → Few s d u → Fits k v → (u .log ≤ 1000000000) × (u .operands ≤ 1000000000) × Fits k v
+may-push f h = (few-small f .0, few-small f .1, h)
+
+-- a record of a word was read
+pub word-parsed : (s l t l₁ : List ℕ) (d e : Decoder) (u n : Used) (k w : ℕ) (g : Grammar) → Few s d u → isWord k ≡ true → Word w e ≡ wordFrom s d
+    → Pushed k w u n → Laid l (u .log) (recordOf (parts k w)) l₁ → Parses s d 4 (readEach g (k ∷ []) (readerOf s d)) l t l₁ t u (Got e n)
+word-parsed s l t l₁ d e u n k w g f i h p q =
+    let x = step-word s d e w h in
+    accept s d 4 _ l t l₁ t u n e _ (word-good s g k d i w e h) (held-narrow l t l₁ u n k w (word-narrow k i) p q)
+    (few-pushed s d e u n 1 k w f x (omega arith) p) (step-went s d e 1 x (f .left) (f .limited))
+
+-- a record of an enumerant was read
+pub enum-parsed : (s l t l₁ g : List ℕ) (d e : Decoder) (u n : Used) (k w p : ℕ) → Few s d u → isEnum k ≡ true → KnownAs s g k d w p e
+    → Pushed k w u n → Laid l (u .log) (recordOf (parts k w)) l₁ → Parses s d 4 (readEach (grammarOf g) (k ∷ []) (readerOf s d)) l t l₁ t u (Got e n)
+enum-parsed s l t l₁ g d e u n k w p f i h a q =
+    accept s d 4 _ l t l₁ t u n e _ (enum-good s g k d (isEnum k) refl i w p e h) (held-narrow l t l₁ u n k w (enum-narrow k i) a q)
+    (few-pushed s d e u n 1 k w f (h .step) (omega arith) a) (step-went s d e 1 (h .step) (f .left) (f .limited))
 
 -- STRINGS
 
@@ -281,7 +259,7 @@ text-limit s d m bs q e h =
     ltb-false (length (drop (d .offset) s)) (4 * m) (rw e at y)
 
 -- a string, within a limit
-pub step-text : (s : List ℕ) (d : Decoder) (u : Used) (x : Text) → GotText x ≡ textFrom s d → Few s d u → Step s d (x .next) (textWords (x .length))
+step-text : (s : List ℕ) (d : Decoder) (u : Used) (x : Text) → GotText x ≡ textFrom s d → Few s d u → Step s d (x .next) (textWords (x .length))
 step-text s d u x h f =
     let g = text-got s d x h in
     let b = text-limit s d (f .left) _ _ (f .limited) (sym (text-within s d (f .inside)) ∙ g .reads) in
@@ -293,7 +271,7 @@ step-text s d u x h f =
     }
 
 -- where it stands
-pub text-inside : (s : List ℕ) (d : Decoder) (x : Text) → GotText x ≡ textFrom s d → x .start + x .length < length s
+text-inside : (s : List ℕ) (d : Decoder) (x : Text) → GotText x ≡ textFrom s d → x .start + x .length < length s
 text-inside s d x h = text-got s d x h .inside
 
 -- its record: start, length
@@ -309,7 +287,7 @@ module _ (s : List ℕ) (from size : ℕ) (h : from + size < length s) where
   size-is = length-slice from (from + size) s (omega arith) ∙ omega arith
 
   -- a string's record and its bytes
-  pub held-text : (l t l₁ t₁ : List ℕ) (u n : Used) → u .base + u .strings < 4294967296 → Copied size u n
+  held-text : (l t l₁ t₁ : List ℕ) (u n : Used) → u .base + u .strings < 4294967296 → Copied size u n
       → Laid l (u .log) (recordOf (parts 40 (u .base + u .strings + 4294967296 * size))) l₁ → Laid t (u .strings) (slice from (from + size) s) t₁
       → Held l t l₁ t₁ u n (text (slice from (from + size) s) ∷ [])
   unfolding operandsLog operandLog operandsStrings operandString notes note bytesOf
@@ -328,15 +306,35 @@ module _ (s : List ℕ) (from size : ℕ) (h : from + size < length s) where
       }
 
 -- little is in use after a string
-pub few-copied : (s : List ℕ) (d e : Decoder) (u r : Used) (size : ℕ) → Few s d u → Step s d e (textWords size) → Copied size u r → Few s e r
+few-copied : (s : List ℕ) (d e : Decoder) (u r : Used) (size : ℕ) → Few s d u → Step s d e (textWords size) → Copied size u r → Few s e r
 few-copied s d e u r size f t p =
     step-few s d e u r (textWords size) f t (omega arith) (one-more u r _ _ (p .noted)) (omega (arith, p .log)) (omega (arith, p .strings)) (p .base) (p .fits (f .fits))
 
 -- a string takes a word or more
-pub text-went : (s : List ℕ) (d e : Decoder) (size m : ℕ) → Step s d e (textWords size) → d .limit ≡ Words m → Went d e 4
+text-went : (s : List ℕ) (d e : Decoder) (size m : ℕ) → Step s d e (textWords size) → d .limit ≡ Words m → Went d e 4
 text-went s d e size m t q =
     let w = step-went s d e (textWords size) t m q in
     record { pace = w .pace; forth = omega (arith, w .forth) }
+
+-- a string may be added
+pub may-copy : {s : List ℕ} {d : Decoder} {u : Used} {x : Text} → Few s d u → GotText x ≡ textFrom s d
+    → ((u .log ≤ 1000000000) × (u .operands ≤ 1000000000) × (u .strings ≤ 1000000000) × (x .length ≤ 1000000000) × (u .base ≤ 1000000000))
+    × (x .start + x .length ≤ length s)
+may-copy {s} {d} {u} {x} f h =
+    let b = few-small f in
+    let i = text-inside s d x h in
+    ((b .0, b .1, omega (arith, b .2), omega (arith, i, f .short), omega (arith, b .2)), omega (arith, i))
+
+-- a string was read
+pub text-parsed : (s l t l₁ t₁ : List ℕ) (d : Decoder) (u n : Used) (k : ℕ) (g : Grammar) (x : Text) → Few s d u → k ≡ 40 → GotText x ≡ textFrom s d
+    → Copied (x .length) u n → Laid l (u .log) (recordOf (parts 40 (u .base + u .strings + 4294967296 * x .length))) l₁
+    → Laid t (u .strings) (slice (x .start) (x .start + x .length) s) t₁
+    → Parses s d 4 (readEach g (k ∷ []) (readerOf s d)) l t l₁ t₁ u (Got (x .next) n)
+text-parsed s l t l₁ t₁ d u n k g x f z h p q r =
+    let y = step-text s d u x h f in
+    accept s d 4 _ l t l₁ t₁ u n (x .next) _ (text-good s g k d z (f .inside) x h)
+    (held-text s (x .start) (x .length) (text-inside s d x h) l t l₁ t₁ u n (omega (arith, few-small f .2)) p q r)
+    (few-copied s d (x .next) u n (x .length) f y p) (text-went s d (x .next) (x .length) (f .left) y (f .limited))
 
 -- LITERALS OF TWO WORDS
 
@@ -349,21 +347,6 @@ step-long s d e w h =
 -- two words are one or more
 pub long-went : (s : List ℕ) (d e : Decoder) (m : ℕ) → Step s d e 2 → d .limit ≡ Words m → Went d e 4
 long-went s d e m t q = let w = step-went s d e 2 t m q in record { pace = w .pace; forth = omega (arith, w .forth) }
-
-long-by : (k : ℕ) (a b : Bool) → eqb k 36 ≡ a → eqb k 38 ≡ b → (a || b) ≡ true → isLogged k ≡ true
-long-by k true b e f h = let x = eqb-true k 36 e in in-both 1 k 45 (omega arith) (omega arith)
-long-by k false true e f h = let x = eqb-true k 38 f in in-both 1 k 45 (omega arith) (omega arith)
-long-by k false false e f h = let z : _≡_ {A = ℕ} 0 1 = cc in absurd (omega arith)
-
-long-two : (k : ℕ) → isLong k ≡ true → isTwo k ≡ false → ⊥
-long-two k h e =
-    let y : true ≡ false = simp h at e in
-    let z : _≡_ {A = ℕ} 0 1 = cc in
-    omega arith
-
--- such a kind is a kind of the log
-pub long-fits : (k w : ℕ) → isLong k ≡ true → Fits k w
-long-fits k w h = record { known = long-by k (eqb k 36) (eqb k 38) refl refl h; small = λ e. absurd (long-two k h e) }
 
 -- a record of two words
 pub held-wide : (l t l₁ : List ℕ) (u n : Used) (j w : ℕ) → isLong j ≡ true → Pushed j w u n

@@ -1,7 +1,7 @@
 -- Laws of the walk over a row's operands.
 use Prim.Native.Nat.{ℕ, zero, suc, _+_, _*_, _-_, _<_, _≤_}
-use mathlib.Core.Path.{_≡_, refl, ap, sym, _∙_}
-use mathlib.Core.Bool.{Bool, true, false}
+use mathlib.Core.Path.{_≡_, refl, ap, sym, subst, _∙_}
+use mathlib.Core.Bool.{Bool, true, false, and-eq-true-iff}
 use mathlib.Core.List.{List, [], _∷_}
 use native.Mathlib.Omega.{arith}
 use borrow.Author.Tests.{eq-eqb, ne-eqb, eqb-false}
@@ -14,7 +14,7 @@ use Rattle.spec.specs.Base.{if_then_else_, every}
 use Rattle.spec.specs.Kinds.{mayBeOperand}
 use Rattle.spec.specs.Records.{operandsLog, operandsStrings, Entry}
 use Rattle.spec.specs.Reader.{Read, got, refused, after, refusal, reached, readerAt}
-use Rattle.spec.specs.Grammar.{Grammar, Slot, slot}
+use Rattle.spec.specs.Grammar.{Grammar, Slot, slot, grammarOf}
 use Rattle.spec.specs.Match.{Seen, nothingSeen, noneLeft, slotsAfter, readSlot, readRow}
 use Rattle.operand.proofs.LogLaws.{laid-nil}
 use Rattle.decoder.specs.declared.Decoder.{Decoder}
@@ -22,10 +22,11 @@ use Rattle.decoder.specs.Answer.{readerOf, limitReached}
 use Rattle.tracker.specs.Track.{literalOf}
 use Rattle.parser.specs.declared.used.Used.{Used}
 use Rattle.parser.specs.declared.used.Parsed.{Parsed}
-use Rattle.parser.specs.declared.used.Parsed.the-variants.{Good, Bad}
-use Rattle.parser.specs.Parse.{selectorOf, notesOf, notes, noNotes, wordIs, leftOf, Went, Few, isOperand, slotsAt, Walked, Walks}
-use Rattle.parser.specs.Slots.{unused, SlotRead, SlotIs, SlotWalks}
-use Rattle.parser.proofs.One.{both}
+use Rattle.parser.specs.declared.used.Parsed.the-variants.{Got, Refused}
+use Rattle.parser.specs.declared.used.Frame.{Frame}
+use Rattle.parser.specs.Parse.{selectorOf, notesOf, notes, noNotes, wordIs, leftOf, Went, Few, isOperand, slotsAt, Walked, RowRead, Walks, SlotWalks}
+use Rattle.parser.specs.Slots.{unused, Fresh}
+use Rattle.parser.specs.Body.{Framed, startOf, rowRead}
 use Rattle.parser.proofs.Walk.{went-nowhere, went-then}
 
 -- THE NEXT OPERAND
@@ -63,18 +64,18 @@ left-some l n e h =
 -- THE WALK
 
 -- what the walk of a row has done: what was seen is stored, and the operands that are left are read from here
-pub record Rowing (s : List ℕ) (g : Grammar) (types : List Entry) (x : Read Seen) (log₀ strs₀ log strs : List ℕ) (a b c : ℕ) (d₀ d : Decoder) (u : Used) (ss : List Slot) : Type 0 where
+pub record Rowing (s : List ℕ) (g : Grammar) (types : List Entry) (x : Read Seen) (log₀ strs₀ log strs : List ℕ) (u₀ : Used) (d₀ d : Decoder) (u : Used) (ss : List Slot) : Type 0 where
   pub seen : Seen
   pub fuel : ℕ
   pub whole : x ≡ readRow g types fuel ss seen (readerOf s d)
   pub enough : leftOf (d .limit) ≤ fuel
-  pub walked : Walked log₀ strs₀ log strs a b c u seen
+  pub walked : Walked log₀ strs₀ log strs u₀ u seen
   pub few : Few s d u
   pub went : Went d₀ d 0
   pub allowed : every isOperand ss ≡ true
 
 -- nothing is seen where nothing is in use
-walked-nothing : (log strs : List ℕ) (a b c : ℕ) → Walked log strs log strs a b c (unused a b c) nothingSeen
+walked-nothing : (log strs : List ℕ) (a b c : ℕ) → Walked log strs log strs (unused a b c) (unused a b c) nothingSeen
 unfolding unused literalOf selectorOf notesOf notes noNotes wordIs operandsLog operandsStrings
 walked-nothing log strs a b c = record {
   rtype = refl;
@@ -87,35 +88,38 @@ walked-nothing log strs a b c = record {
   strings-laid = laid-nil strs b;
 }
 
--- and little is in use
-few-nothing : (s : List ℕ) (d : Decoder) (a b c : ℕ) → length s ≤ 67108864 → d .offset ≤ length s → d .limit ≡ Words (leftOf (d .limit))
-    → 4 * a ≤ 9 * d .offset → c + b ≤ d .offset → Few s d (unused a b c)
+-- no operand is in use where an instruction begins
+none-used : (u : Used) → u ≡ unused (u .log) (u .strings) (u .base) → u .operands ≡ 0
 unfolding unused
-few-nothing s d a b c h i l p q = record {
-  short = h;
-  inside = i;
-  left = leftOf (d .limit);
-  limited = l;
-  operands = omega arith;
-  strings = q;
-  log = p;
-  fits = record { first = λ k. absurd (omega arith); second = λ k. absurd (omega arith) };
+none-used u e = ap (λ (v : Used). v .operands) e
+
+-- little is in use where an instruction begins
+few-nothing : (s g : List ℕ) (f : Frame) (u : Used) → Framed s g f → Fresh (f .at) u → Few s (startOf f) u
+few-nothing s g f u h q = record {
+  short = h .short;
+  inside = h .inside;
+  left = f .words - 1;
+  limited = refl;
+  operands = omega (arith, none-used u (q .nothing));
+  strings = omega (arith, q .few-strings);
+  log = omega (arith, q .few-log);
+  fits = record { first = λ k. absurd (omega (arith, none-used u (q .nothing))); second = λ k. absurd (omega (arith, none-used u (q .nothing))) };
 }
 
 -- nothing yet
-pub row-starts : (s : List ℕ) (g : Grammar) (types : List Entry) (log strs : List ℕ) (a b c : ℕ) (d : Decoder) (u : Used) (ss : List Slot) → u ≡ unused a b c
-    → length s ≤ 67108864 → d .offset ≤ length s → d .limit ≡ Words (leftOf (d .limit)) → 4 * a ≤ 9 * d .offset → c + b ≤ d .offset → every isOperand ss ≡ true
-    → Rowing s g types (readRow g types (leftOf (d .limit)) ss nothingSeen (readerOf s d)) log strs log strs a b c d d u ss
-row-starts s g types log strs a b c d u ss e h i l p q o = rw e (record {
+pub row-starts : (s g : List ℕ) (types : List Entry) (log strs : List ℕ) (f : Frame) (u : Used) → Framed s g f → Fresh (f .at) u
+    → Rowing s (grammarOf g) types (rowRead g types s (startOf f) (f .place)) log strs log strs u (startOf f) (startOf f) u (slotsAt g (f .place))
+unfolding rowRead leftOf
+row-starts s g types log strs f u h q = record {
   seen = nothingSeen;
-  fuel = leftOf (d .limit);
+  fuel = f .words - 1;
   whole = refl;
   enough = omega arith;
-  walked = walked-nothing log strs a b c;
-  few = few-nothing s d a b c h i l p q;
-  went = went-nowhere d;
-  allowed = o;
-})
+  walked = subst (λ (v : Used). Walked log strs log strs v v nothingSeen) (sym (q .nothing)) (walked-nothing log strs (u .log) (u .strings) (u .base));
+  few = few-nothing s g f u h q;
+  went = went-nowhere (startOf f);
+  allowed = h .operands;
+}
 
 -- the operands that come next are of an operand's kind
 operands-after : (j q : ℕ) (more : List Slot) → every isOperand (slot j q ∷ more) ≡ true → every isOperand more ≡ true
@@ -124,19 +128,13 @@ operands-after j q more h i true = h
 operands-after j q more h i false = i
 
 -- an answer of an operand, taken apart
-slot-good : (s : List ℕ) (d : Decoder) (f : Seen → Read Seen) (log₀ strs₀ log strs log₁ strs₁ : List ℕ) (a b c : ℕ) (u : Used) (x : Seen) (v : Parsed) (e : Decoder) (n : Used)
-    → Walked log₀ strs₀ log strs a b c u x → SlotWalks s d f log strs log₁ strs₁ u v → v ≡ Good e n → SlotRead s d (f x) log₀ strs₀ log₁ strs₁ a b c e n
-unfolding SlotWalks SlotIs
-slot-good s d f log₀ strs₀ log strs log₁ strs₁ a b c u x v e n w h q = rw q at (h log₀ strs₀ a b c x w)
+answer-told : (s : List ℕ) (d : Decoder) (f : Seen → Read Seen) (log₀ strs₀ log strs log₁ strs₁ : List ℕ) (u₀ u : Used) (x : Seen) (v z : Parsed)
+    → Walked log₀ strs₀ log strs u₀ u x → SlotWalks s d f log strs log₁ strs₁ u v → v ≡ z → Walks s d 4 (f x) log₀ strs₀ log₁ strs₁ u₀ z
+unfolding SlotWalks
+answer-told s d f log₀ strs₀ log strs log₁ strs₁ u₀ u x v z w h q = rw q at (h log₀ strs₀ u₀ x w)
 
--- a refusal of an operand, taken apart
-slot-bad : (s : List ℕ) (d : Decoder) (f : Seen → Read Seen) (log₀ strs₀ log strs log₁ strs₁ : List ℕ) (a b c : ℕ) (u : Used) (x : Seen) (v : Parsed) (y : Refusal) (e : Decoder)
-    → Walked log₀ strs₀ log strs a b c u x → SlotWalks s d f log strs log₁ strs₁ u v → v ≡ Bad y e → f x ≡ refused y (readerOf s e)
-unfolding SlotWalks SlotIs
-slot-bad s d f log₀ strs₀ log strs log₁ strs₁ a b c u x v y e w h q = rw q at (h log₀ strs₀ a b c x w)
-
-module _ {s : List ℕ} {g : Grammar} {types : List Entry} {x : Read Seen} {log₀ strs₀ log strs : List ℕ} {a b c : ℕ} {d₀ d : Decoder} {u : Used} {ss : List Slot}
-    (r : Rowing s g types x log₀ strs₀ log strs a b c d₀ d u ss) where
+module _ {s : List ℕ} {g : Grammar} {types : List Entry} {x : Read Seen} {log₀ strs₀ log strs : List ℕ} {u₀ : Used} {d₀ d : Decoder} {u : Used} {ss : List Slot}
+    (r : Rowing s g types x log₀ strs₀ log strs u₀ d₀ d u ss) where
   -- the log keeps its length
   pub row-log : length log ≡ length log₀
   row-log = r .walked .log-laid .same
@@ -146,12 +144,12 @@ module _ {s : List ℕ} {g : Grammar} {types : List Entry} {x : Read Seen} {log�
   row-strings = r .walked .strings-laid .same
 
   -- a walk that ends here
-  row-good : x ≡ got (r .seen) (readerOf s d) → Walks s d₀ x log₀ strs₀ log strs a b c (Good d u)
+  row-good : x ≡ got (r .seen) (readerOf s d) → Walks s d₀ 0 x log₀ strs₀ log strs u₀ (Got d u)
   unfolding Walks
   row-good e = record { seen = r .seen; read = e; walked = r .walked; few = r .few; went = r .went }
 
   -- no operand is left
-  pub row-ends : ss ≡ [] → Walks s d₀ x log₀ strs₀ log strs a b c (Good d u)
+  pub row-ends : ss ≡ [] → Walks s d₀ 0 x log₀ strs₀ log strs u₀ (Got d u)
   row-ends e = row-good (r .whole ∙ end-read s g types d (r .seen) (r .fuel) ss e)
 
   module _ (j q : ℕ) (more : List Slot) (e : ss ≡ slot j q ∷ more) where
@@ -161,7 +159,7 @@ module _ {s : List ℕ} {g : Grammar} {types : List Entry} {x : Read Seen} {log�
 
     -- the next operand and those after it are of an operand's kind
     operand-next : (isOperand (slot j q) ≡ true) × (every isOperand more ≡ true)
-    operand-next = let z : every isOperand (slot j q ∷ more) ≡ true = rw e at (r .allowed) in both (isOperand (slot j q)) (every isOperand more) z
+    operand-next = and-eq-true-iff (isOperand (slot j q)) (every isOperand more) .0 (rw e at (r .allowed))
 
     -- the next operand is of an operand's kind
     pub next-operand : mayBeOperand j ≡ true
@@ -175,14 +173,14 @@ module _ {s : List ℕ} {g : Grammar} {types : List Entry} {x : Read Seen} {log�
       limit-is z h = sym p ∙ h
 
       -- with no word left, One is 6
-      pub row-missing : t ≡ true → q ≡ 0 → (v : Parsed) → v ≡ Bad (refusal 6 (d .offset) 0) d
-          → Walks s d₀ x log₀ strs₀ log strs a b c v
+      pub row-missing : t ≡ true → q ≡ 0 → (v : Parsed) → v ≡ Refused (refusal 6 (d .offset) 0) d
+          → Walks s d₀ 0 x log₀ strs₀ log strs u₀ v
       unfolding Walks readerOf readerAt
       row-missing h z v w =
           rw w (row-is _ (spent-read s g types d (r .seen) j q more (r .fuel) (limit-is true h) ∙ simp (eq-eqb q 0 z)))
 
       -- and the others end the walk
-      pub row-spent : t ≡ true → (q ≡ 0 → ⊥) → Walks s d₀ x log₀ strs₀ log strs a b c (Good d u)
+      pub row-spent : t ≡ true → (q ≡ 0 → ⊥) → Walks s d₀ 0 x log₀ strs₀ log strs u₀ (Got d u)
       row-spent h z = row-good (row-is _ (spent-read s g types d (r .seen) j q more (r .fuel) (limit-is true h) ∙ simp (ne-eqb q 0 z)))
 
       module _ (h : t ≡ false) where
@@ -198,22 +196,23 @@ module _ {s : List ℕ} {g : Grammar} {types : List Entry} {x : Read Seen} {log�
 
         module _ (log₁ strs₁ : List ℕ) (v : Parsed) (i : SlotWalks s d (λ y. readSlot g types y j (readerOf s d)) log strs log₁ strs₁ u v) where
           -- it is refused
-          pub row-stops : (y : Refusal) (f : Decoder) → v ≡ Bad y f → Walks s d₀ x log₀ strs₀ log₁ strs₁ a b c v
+          pub row-stops : (y : Refusal) (f : Decoder) → v ≡ Refused y f → Walks s d₀ 0 x log₀ strs₀ log₁ strs₁ u₀ v
           unfolding Walks
           row-stops y f z =
-              rw z (then-is _ (slot-bad s d _ log₀ strs₀ log strs log₁ strs₁ a b c u (r .seen) v y f (r .walked) i z))
+              rw z (then-is _ (answer-told s d _ log₀ strs₀ log strs log₁ strs₁ u₀ u (r .seen) v (Refused y f) (r .walked) i z))
 
-          module _ (f : Decoder) (n : Used) (z : v ≡ Good f n) where
+          module _ (f : Decoder) (n : Used) (z : v ≡ Got f n) where
             -- the next operand's read
-            slot-is : SlotRead s d (readSlot g types (r .seen) j (readerOf s d)) log₀ strs₀ log₁ strs₁ a b c f n
-            slot-is = slot-good s d _ log₀ strs₀ log strs log₁ strs₁ a b c u (r .seen) v f n (r .walked) i z
+            slot-is : RowRead s d 4 (readSlot g types (r .seen) j (readerOf s d)) log₀ strs₀ log₁ strs₁ u₀ f n
+            unfolding Walks
+            slot-is = answer-told s d _ log₀ strs₀ log strs log₁ strs₁ u₀ u (r .seen) v (Got f n) (r .walked) i z
 
             -- it took a word or more
             pub row-less : leftOf (f .limit) < leftOf (d .limit)
             row-less = omega (arith, slot-is .went .pace, slot-is .went .forth)
 
             -- it is read
-            pub row-turn : (rest : List Slot) → slotsAfter j q more ≡ rest → Rowing s g types x log₀ strs₀ log₁ strs₁ a b c d₀ f n rest
+            pub row-turn : (rest : List Slot) → slotsAfter j q more ≡ rest → Rowing s g types x log₀ strs₀ log₁ strs₁ u₀ d₀ f n rest
             row-turn rest o = record {
               seen = slot-is .seen;
               fuel = r .fuel - 1;

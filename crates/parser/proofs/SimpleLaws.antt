@@ -1,19 +1,17 @@
 -- Laws of simple operands: what is taken and passed over, the next word of a limit, and one operand of each sort.
 use Prim.Native.Nat.{ℕ, zero, suc, _+_, _-_, _≤_}
-use mathlib.Core.Path.{_≡_, refl, ap, sym, _∙_}
-use mathlib.Core.Bool.{Bool, true, false, _||_}
+use mathlib.Core.Path.{_≡_, refl, ap, sym, subst, _∙_}
+use mathlib.Core.Bool.{Bool, true, false}
 use mathlib.Core.List.{List, [], _∷_}
-use mathlib.Core.Logic.{_⊎_, inl, inr}
 use mathlib.Core.Option.{some}
 use native.Mathlib.Omega.{arith}
-use borrow.Author.Tests.{le-leb, lt-leb, leb-true, eqb-true, ne-eqb}
-use lib.Dec.{leb, eqb}
+use borrow.Author.Tests.{ne-eqb}
 use lib.ListN.{length, drop}
 use Rattle.spec.specs.declared.Found.{Found}
 use Rattle.spec.specs.declared.Found.the-variants.{At}
 use Rattle.spec.specs.declared.Limit.{Limit}
 use Rattle.spec.specs.declared.Limit.the-variants.{Unlimited, Words}
-use Rattle.spec.specs.Base.{within, every}
+use Rattle.spec.specs.Base.{every}
 use Rattle.spec.specs.Words.{Front, fourAt, bitsFrom, bitsOf}
 use Rattle.spec.specs.Kinds.{isEnum, isMask}
 use Rattle.spec.specs.Records.{Operand}
@@ -30,13 +28,14 @@ use Rattle.grammar.specs.Find.{Sure, placeFound, parametersFound, isListed}
 use Rattle.grammar.specs.Index.{Indexed}
 use Rattle.parser.specs.declared.used.Used.{Used}
 use Rattle.parser.specs.declared.used.Parsed.{Parsed}
-use Rattle.parser.specs.declared.used.Parsed.the-variants.{Good}
+use Rattle.parser.specs.declared.used.Parsed.the-variants.{Got}
 use Rattle.parser.specs.declared.simple.Simple.{Simple}
-use Rattle.parser.specs.declared.simple.Simple.the-variants.{On, Pass}
+use Rattle.parser.specs.declared.simple.Simple.the-variants.{Got as Taken, Pass}
 use Rattle.parser.specs.Parse.{Pushed, Few, Parses, leftOf, isSingle, EnumIs, KnownAs, parametersAre, parametersAt}
-use Rattle.parser.specs.Simple.{There, Takes, Reads}
-use Rattle.parser.proofs.One.{both, enum-text, single-one, held-narrow, few-pushed, step-word, word-good, mask-known, value-known}
-use Rattle.parser.proofs.Walk.{accept, same-read, seq, step-went}
+use Rattle.parser.specs.Simple.{There, IfTaken}
+use Rattle.parser.proofs.KindLaws.{enum-narrow}
+use Rattle.parser.proofs.One.{held-narrow, few-pushed, mask-known, value-known}
+use Rattle.parser.proofs.Walk.{same-read, seq, step-went}
 use Rattle.parser.proofs.Carried.{listed-single}
 use Rattle.parser.proofs.Values.{nothing, same-each, same-single, are-known, place-listed, operand-known}
 
@@ -52,36 +51,38 @@ pub left-words : (l : Limit) (n : ℕ) → l ≡ Words n → n ≡ leftOf l
 unfolding leftOf
 left-words l n e = rw e refl
 
--- nothing is said of what is passed over
-pub take-pass : (v : Parsed) → Takes v Pass
-unfolding Takes
-take-pass v = tt
+module _ (P : Parsed → Type 0) where
+  -- nothing is said of what is passed over
+  pub pass : IfTaken P Pass
+  unfolding IfTaken
+  pass = tt
+
+  -- what is good is taken
+  pub take : (e : Decoder) (n : Used) → P (Got e n) → IfTaken P (Taken e n)
+  unfolding IfTaken
+  take e n h = h
+
+  -- what was taken is good
+  pub took : (v : Simple) (e : Decoder) (n : Used) → IfTaken P v → v ≡ Taken e n → P (Got e n)
+  unfolding IfTaken
+  took v e n h q = rw q at h
+
+  -- what is said of every answer is said of what was taken of one
+  pub take-of : (v : Parsed) (r : Simple) → IfTaken (λ p. v ≡ p) r → P v → IfTaken P r
+  unfolding IfTaken
+  take-of v (Taken e n) h p = subst P h p
+  take-of v Pass h p = tt
+
+  -- what follows from what is said of an answer
+  pub take-so : (Q : Parsed → Type 0) → ((p : Parsed) → Q p → P p) → (r : Simple) → IfTaken Q r → IfTaken P r
+  unfolding IfTaken
+  take-so Q f (Taken e n) h = f (Got e n) h
+  take-so Q f Pass h = tt
 
 -- what is good is taken, with its limit
-pub take-good : (v : Parsed) (e : Decoder) (n : Used) (m : ℕ) → v ≡ Good e n → e .limit ≡ Words m → Takes v (On (decoder (e .offset) (Words m)) n)
-unfolding Takes
-take-good v e n m p q = p ∙ ap (λ (l : Limit). Good (decoder (e .offset) l) n) q
-
-module _ (s : List ℕ) (d : Decoder) (x : Read (List Operand)) (l₀ t₀ l t : List ℕ) (u : Used) where
-  -- what was parsed, and is taken, is read
-  pub taken-read : (v : Parsed) (r : Simple) → Takes v r → Parses s d 4 x l₀ t₀ l t u v → Reads s d x l₀ t₀ l t u r
-  unfolding Takes Reads
-  taken-read v (On e n) h p = rw h at p
-  taken-read v Pass h p = tt
-
-  -- what is good is read
-  pub good-read : (e : Decoder) (n : Used) → Parses s d 4 x l₀ t₀ l t u (Good e n) → Reads s d x l₀ t₀ l t u (On e n)
-  unfolding Reads
-  good-read e n h = h
-
-  -- nothing is said of what is passed over
-  pub pass-read : Reads s d x l₀ t₀ l t u Pass
-  unfolding Reads
-  pass-read = tt
-
-  -- the read that is meant
-  pub same-simple : (z : Read (List Operand)) (r : Simple) → x ≡ z → Reads s d z l₀ t₀ l t u r → Reads s d x l₀ t₀ l t u r
-  same-simple z r e h = rw e h
+pub take-good : (v : Parsed) (e : Decoder) (n : Used) (m : ℕ) → v ≡ Got e n → e .limit ≡ Words m → IfTaken (λ p. v ≡ p) (Taken (decoder (e .offset) (Words m)) n)
+unfolding IfTaken
+take-good v e n m p q = p ∙ ap (λ (l : Limit). Got (decoder (e .offset) l) n) q
 
 -- THE NEXT WORD
 
@@ -116,52 +117,7 @@ module _ (s : List ℕ) (d : Decoder) (h : There s d) where
   unfolding limitReached
   there-left = left-by (d .limit) (h .left)
 
--- ONE RECORD
-
--- a record of a word
-pub word-read : (s l t l₁ : List ℕ) (d e : Decoder) (u n : Used) (k w : ℕ) (g : Grammar) → Few s d u → isSingle k ≡ true → isEnum k ≡ false → (k ≡ 40 → ⊥)
-    → Word w e ≡ wordFrom s d → Pushed k w u n → Laid l (u .log) (recordOf (parts k w)) l₁
-    → Reads s d (readEach g (k ∷ []) (readerOf s d)) l t l₁ t u (On e n)
-word-read s l t l₁ d e u n k w g f i j z h p q =
-    let x = step-word s d e w h in
-    good-read s d _ l t l₁ t u e n
-    (accept s d 4 _ l t l₁ t u n e _ (word-good s g k d (isEnum k) refl j z w e h) (held-narrow l t l₁ u n k w (single-one k i z) p q)
-    (few-pushed s d e u n 1 k w f x (omega arith) p) (step-went s d e 1 x (f .left) (f .limited)))
-
--- LITERALS OF ONE WORD
-
--- one of the two tests held
-literal-by : (k : ℕ) (a b : Bool) → eqb k 34 ≡ a → eqb k 37 ≡ b → (a || b) ≡ true → (k ≡ 34) ⊎ (k ≡ 37)
-literal-by k true b e f h = inl (eqb-true k 34 e)
-literal-by k false true e f h = inr (eqb-true k 37 f)
-literal-by k false false e f h = let z : _≡_ {A = ℕ} 0 1 = cc in absurd (omega arith)
-
--- an integer or a float
-pub literal-told : (k : ℕ) → (eqb k 34 || eqb k 37) ≡ true → (k ≡ 34) ⊎ (k ≡ 37)
-literal-told k h = literal-by k (eqb k 34) (eqb k 37) refl refl h
-
--- is no enumerant and no string, and it is there
-pub literal-plain : (k : ℕ) → (k ≡ 34) ⊎ (k ≡ 37) → (isEnum k ≡ false) × (k ≡ 40 → ⊥) × (k ≡ 0 → ⊥)
-literal-plain k (inl e) = (rw e refl, λ x. omega arith, λ x. omega arith)
-literal-plain k (inr e) = (rw e refl, λ x. omega arith, λ x. omega arith)
-
 -- VALUES
-
--- an enumerant of either range is one record
-enum-by : (k : ℕ) (a b : Bool) → within 1 k 30 ≡ a → within 41 k 45 ≡ b → (a || b) ≡ true → isSingle k ≡ true
-unfolding isSingle
-enum-by k true b e f h =
-    let x = both (leb 1 k) (leb k 30) e in
-    simp (x .0, le-leb k 35 (omega (arith, leb-true k 30 (x .1))))
-enum-by k false true e f h =
-    let x = both (leb 41 k) (leb k 45) f in
-    let y = leb-true 41 k (x .0) in
-    simp (lt-leb k 35 (omega arith), le-leb 1 k (omega arith), le-leb 40 k (omega arith), x .1)
-enum-by k false false e f h = let z : _≡_ {A = ℕ} 0 1 = cc in absurd (omega arith)
-
--- an enumerant is one record
-pub enum-single : (k : ℕ) → isEnum k ≡ true → isSingle k ≡ true
-enum-single k h = enum-by k (within 1 k 30) (within 41 k 45) refl refl h
 
 -- a mask of no bits is known, with no parameters
 mask-zero : (k : ℕ) (g : Grammar) → isMask k ≡ true → parametersFor k 0 g ≡ some []
@@ -207,12 +163,12 @@ module _ {s g : List ℕ} {d e : Decoder} {k w p : ℕ} (a : KnownAs s g k d w p
       value-then : (l₂ t₂ : List ℕ) (v : Parsed) → Parses s e 0 (readEach (grammarOf g) (parametersAre k w (grammarOf g)) (readerOf s e)) l₁ t l₂ t₂ n v
           → Parses s d 4 (readOperand (grammarOf g) k (readerOf s d)) l t l₂ t₂ u v
       value-then l₂ t₂ v r =
-          seq (held-narrow l t l₁ u n k w (single-one k (enum-single k i) (enum-text k (isEnum k) refl i)) q x) s 0 l₂ t₂ _ _
+          seq (held-narrow l t l₁ u n k w (enum-narrow k i) q x) s 0 l₂ t₂ _ _
           (step-went s d e 1 (a .step) (f .left) (f .limited)) (operand-known s g k d (isEnum k) refl i w p e a) v r
 
       -- it has none
-      pub value-alone : parametersAre k w (grammarOf g) ≡ [] → Reads s d (readOperand (grammarOf g) k (readerOf s d)) l t l₁ t u (On e n)
-      value-alone z = good-read s d _ l t l₁ t u e n (value-then l₁ t (Good e n) (nothing s (grammarOf g) l₁ t e n _ known-few z))
+      pub value-alone : parametersAre k w (grammarOf g) ≡ [] → IfTaken (Parses s d 4 (readOperand (grammarOf g) k (readerOf s d)) l t l₁ t u) (Taken e n)
+      value-alone z = take _ e n (value-then l₁ t (Got e n) (nothing s (grammarOf g) l₁ t e n _ known-few z))
 
       module _ (m : isMask k ≡ false) where
         -- its parameters are those at its place
@@ -220,13 +176,13 @@ module _ {s g : List ℕ} {d e : Decoder} {k w p : ℕ} (a : KnownAs s g k d w p
         are-at = sym (a .place m ∙ are-known k w (grammarOf g) (a .parameters) (a .listed))
 
         -- none start at its place
-        pub value-end : parametersAt g p ≡ [] → Reads s d (readOperand (grammarOf g) k (readerOf s d)) l t l₁ t u (On e n)
+        pub value-end : parametersAt g p ≡ [] → IfTaken (Parses s d 4 (readOperand (grammarOf g) k (readerOf s d)) l t l₁ t u) (Taken e n)
         value-end z = value-alone (are-at ∙ z)
 
         -- those that do were parsed
         pub value-parsed : (l₂ t₂ : List ℕ) (v : Parsed) (r : Simple)
-            → Parses s e 0 (readEach (grammarOf g) (parametersAt g p) (readerOf s e)) l₁ t l₂ t₂ n v → Takes v r
-            → Reads s d (readOperand (grammarOf g) k (readerOf s d)) l t l₂ t₂ u r
+            → Parses s e 0 (readEach (grammarOf g) (parametersAt g p) (readerOf s e)) l₁ t l₂ t₂ n v → IfTaken (λ p. v ≡ p) r
+            → IfTaken (Parses s d 4 (readOperand (grammarOf g) k (readerOf s d)) l t l₂ t₂ u) r
         value-parsed l₂ t₂ v r y z =
-            taken-read s d _ l t l₂ t₂ u v r z
+            take-of _ v r z
             (value-then l₂ t₂ v (same-read s e 0 _ _ l₁ t l₂ t₂ n v (same-each (grammarOf g) _ _ (readerOf s e) are-at) y))

@@ -1,20 +1,19 @@
 -- Laws of one operand of a row: which read it is by its kind, and what the walk has seen with it.
-use Prim.Native.Nat.{ℕ, _+_, _-_, _<_, _≤_}
+use Prim.Native.Nat.{ℕ, _+_, _-_, _≤_}
 use mathlib.Core.Path.{_≡_, refl, ap, sym, _∙_}
-use mathlib.Core.Bool.{Bool, true, false, not, _&&_, _||_}
+use mathlib.Core.Bool.{Bool, true, false, not}
 use mathlib.Core.List.{List, [], _∷_}
 use mathlib.Core.Option.{Option, some}
-use mathlib.Core.Logic.{_⊎_, inl, inr}
 use native.Mathlib.Omega.{arith}
-use borrow.Author.Tests.{eq-eqb, ne-eqb, le-leb, lt-leb, leb-true, leb-false, eqb-false}
-use lib.Dec.{eqb, leb}
+use borrow.Author.Tests.{eq-eqb, ne-eqb, eqb-true}
+use lib.Dec.{eqb}
 use Rattle.spec.specs.declared.Refusal.{Refusal}
 use Rattle.spec.specs.Base.{if_then_else_, within}
-use Rattle.spec.specs.Kinds.{isEnum, isResult, mayBeOperand}
+use Rattle.spec.specs.Kinds.{isResult}
 use Rattle.spec.specs.Records.{Operand, narrow, wide, text, Entry}
 use Rattle.spec.specs.Reader.{Reader, Read, refused, after, give, readWord}
 use Rattle.spec.specs.Grammar.{Grammar}
-use Rattle.spec.specs.Match.{Seen, selector, withType, withId, withOperands, readEach, readEmbedded, readOperand, readPair, readKind, readSlot}
+use Rattle.spec.specs.Match.{Seen, selector, withType, withId, withOperands, readEach, literalKindOf, typeOf, readLiteralAs, readLiteral, readEmbedded, readOperand, readPair, readKind, readSlot}
 use Rattle.decoder.specs.declared.Decoder.{Decoder}
 use Rattle.decoder.specs.declared.WordRead.the-variants.{Got as Word, Refused as NoWord}
 use Rattle.decoder.specs.Answer.{readerOf, wordFrom}
@@ -22,106 +21,49 @@ use Rattle.decoder.proofs.Laws.{word-got, word-refused}
 use Rattle.tracker.specs.Track.{literalOf}
 use Rattle.parser.specs.declared.used.Used.{Used}
 use Rattle.parser.specs.declared.used.Parsed.{Parsed}
-use Rattle.parser.specs.declared.used.Parsed.the-variants.{Good, Bad}
-use Rattle.parser.specs.Parse.{Notes, selectorOf, notesOf, noteAs, note, notes, noNotes, Step, Few, Held, Parses, wordIs, isSingle, isPlain, literalAlone, pairAlone, kindAlone, Walked}
-use Rattle.parser.specs.Slots.{unused, withResults, withResult, SlotRead, SlotIs, SlotWalks}
-use Rattle.parser.proofs.One.{both, step-word}
+use Rattle.parser.specs.declared.used.Parsed.the-variants.{Got, Refused}
+use Rattle.parser.specs.Parse.{Notes, selectorOf, notesOf, noteAs, note, notes, noNotes, Step, Few, Held, Parses, wordIs, isWord, isUntyped, kindIs, LiteralFor, literalAlone, pairAlone, kindAlone, Walked, RowRead, Walks, SlotWalks}
+use Rattle.parser.specs.Slots.{unused, withResults, withResult}
+use Rattle.parser.proofs.KindLaws.{not-kind, word-no-enum, number-word, number-untyped, result-else}
+use Rattle.parser.proofs.One.{step-word}
 use Rattle.parser.proofs.Walk.{held-then, step-went, same-read}
 
 -- KINDS
 
--- a test of two bounds that fails: one of the two does
-outside : (a k b : ℕ) (s t : Bool) → leb a k ≡ s → leb k b ≡ t → (s && t) ≡ false → (k < a) ⊎ (b < k)
-outside a k b true true e f h = let z : _≡_ {A = ℕ} 0 1 = cc in absurd (omega arith)
-outside a k b true false e f h = inr (omega (arith, leb-false k b f))
-outside a k b false t e f h = inl (omega (arith, leb-false a k e))
-
--- a number that is not within bounds lies on either side of them
-without : (a k b : ℕ) → within a k b ≡ false → (k < a) ⊎ (b < k)
-without a k b h = outside a k b (leb a k) (leb k b) refl refl h
-
--- what is not so is false
-not-false : (a : Bool) → not a ≡ true → a ≡ false
-not-false true h = sym h
-not-false false h = refl
-
--- no number lies outside all these bounds
-no-kind : (k : ℕ) → 1 ≤ k → k ≤ 51 → (k ≡ 48 → ⊥) → (k ≡ 49 → ⊥) → (k ≡ 39 → ⊥) → (k < 1) ⊎ (35 < k) → (k < 36) ⊎ (38 < k) → (k < 40) ⊎ (45 < k)
-    → (k < 46) ⊎ (47 < k) → (k < 50) ⊎ (51 < k) → ⊥
-no-kind k h i x y z (inl a) p q r s = omega arith
-no-kind k h i x y z (inr a) (inl b) q r s = omega arith
-no-kind k h i x y z (inr a) (inr b) (inl c) r s = omega (arith, z)
-no-kind k h i x y z (inr a) (inr b) (inr c) (inl d) s = omega arith
-no-kind k h i x y z (inr a) (inr b) (inr c) (inr d) (inl e) = omega (arith, x, y)
-no-kind k h i x y z (inr a) (inr b) (inr c) (inr d) (inr e) = omega arith
-
--- a number that does not lie outside all of three bounds lies within one
-one-of : (k : ℕ) (a b c : Bool) → within 1 k 35 ≡ a → within 40 k 45 ≡ b → within 50 k 51 ≡ c
-    → ((k < 1) ⊎ (35 < k) → (k < 40) ⊎ (45 < k) → (k < 50) ⊎ (51 < k) → ⊥) → ((a || b) || c) ≡ true
-one-of k true b c e f g h = refl
-one-of k false true c e f g h = refl
-one-of k false false true e f g h = refl
-one-of k false false false e f g h = absurd (h (without 1 k 35 e) (without 40 k 45 f) (without 50 k 51 g))
-
--- an operand's kind that is no result, no literal by type and no embedded operation is read by `parse_operand`
-pub kind-plain : (k : ℕ) → mayBeOperand k ≡ true → isResult k ≡ false → (k ≡ 48 → ⊥) → (k ≡ 49 → ⊥) → (k ≡ 39 → ⊥) → isPlain k ≡ true
-unfolding isPlain
-kind-plain k m r x y z =
-    let a = both (within 1 k 51) (not (within 36 k 38)) m in
-    let b = both (leb 1 k) (leb k 51) (a .0) in
-    one-of k (within 1 k 35) (within 40 k 45) (within 50 k 51) refl refl refl
-    (λ p q s. no-kind k (leb-true 1 k (b .0)) (leb-true k 51 (b .1)) x y z p (without 36 k 38 (not-false (within 36 k 38) (a .1))) q (without 46 k 47 r) s)
-
--- the bounds of the kinds that are a word
-in-word : (k : ℕ) → within 31 k 35 ≡ true → (31 ≤ k) × (k ≤ 35)
-in-word k h = let a = both (leb 31 k) (leb k 35) h in (leb-true 31 k (a .0), leb-true k 35 (a .1))
-
--- these kinds are of one record, no enumerants and no strings
-pub word-kind : (k : ℕ) → within 31 k 35 ≡ true → (isSingle k ≡ true) × (isEnum k ≡ false) × (k ≡ 40 → ⊥)
-unfolding isSingle
-word-kind k h =
-    let a = in-word k h in
-    (simp (le-leb 1 k (omega arith), le-leb k 35 (a .1)), simp (le-leb 1 k (omega arith), lt-leb k 30 (omega arith), lt-leb 41 k (omega arith)), λ e. omega arith)
-
-module _ (g : Grammar) (types : List Entry) (t i : Option ℕ) (k : ℕ) (r : Reader) where
+module _ (g : Grammar) (literal : Option ℕ) (k : ℕ) (r : Reader) where
   -- a literal by the result type
-  pub kind-literal : k ≡ 48 → (o : Option ℕ) → o ≡ t → kindAlone g types t i k r ≡ literalAlone types o r
+  pub kind-literal : k ≡ 48 → kindAlone g literal k r ≡ literalAlone literal r
   unfolding kindAlone
-  kind-literal e o h = simp (eq-eqb k 48 e) (ap (λ (y : Option ℕ). literalAlone types y r) (sym h))
+  kind-literal e = simp (eq-eqb k 48 e)
 
   -- a literal by the first operand, then an id
-  pub kind-pair : (k ≡ 48 → ⊥) → k ≡ 49 → (o : Option ℕ) → o ≡ i → kindAlone g types t i k r ≡ pairAlone types o r
+  pub kind-pair : k ≡ 49 → kindAlone g literal k r ≡ pairAlone literal r
   unfolding kindAlone
-  kind-pair x e o h = simp (ne-eqb k 48 x, eq-eqb k 49 e) (ap (λ (y : Option ℕ). pairAlone types y r) (sym h))
+  kind-pair e = rw e
 
   -- an embedded operation
-  pub kind-embedded : (k ≡ 48 → ⊥) → (k ≡ 49 → ⊥) → k ≡ 39 → kindAlone g types t i k r ≡ readEmbedded g r
+  pub kind-embedded : k ≡ 39 → kindAlone g literal k r ≡ readEmbedded g r
   unfolding kindAlone
-  kind-embedded x y e = simp (ne-eqb k 48 x, ne-eqb k 49 y, eq-eqb k 39 e)
+  kind-embedded e = rw e
 
-  -- any other operand
-  pub kind-other : (k ≡ 48 → ⊥) → (k ≡ 49 → ⊥) → (k ≡ 39 → ⊥) → kindAlone g types t i k r ≡ readOperand g k r
-  unfolding kindAlone
-  kind-other x y z = simp (ne-eqb k 48 x, ne-eqb k 49 y, ne-eqb k 39 z)
+  -- what is read without a type
+  pub kind-operand : isUntyped k ≡ true → kindAlone g literal k r ≡ readOperand g k r
+  unfolding kindAlone isUntyped
+  kind-operand h =
+      simp (ne-eqb k 48 (not-kind isUntyped k 48 h refl), ne-eqb k 49 (not-kind isUntyped k 49 h refl), ne-eqb k 39 (not-kind isUntyped k 39 h refl))
 
-  -- a word
-  pub kind-word : within 31 k 35 ≡ true → kindAlone g types t i k r ≡ readEach g (k ∷ []) r
-  unfolding readOperand
+  -- an id or a number
+  pub kind-word : within 31 k 35 ≡ true → kindAlone g literal k r ≡ readEach g (k ∷ []) r
+  unfolding readOperand isWord
   kind-word h =
-      let a = in-word k h in
-      kind-other (λ e. omega arith) (λ e. omega arith) (λ e. omega arith)
-      ∙ simp (word-kind k h .1, ne-eqb k 50 (λ e. omega arith), ne-eqb k 51 (λ e. omega arith))
+      let w = number-word k h in
+      kind-operand (number-untyped k h)
+      ∙ simp (word-no-enum k w, ne-eqb k 50 (not-kind isWord k 50 w refl), ne-eqb k 51 (not-kind isWord k 51 w refl))
 
--- a kind that is no result is not one of the two
-result-not : (k j : ℕ) → isResult k ≡ false → k ≡ j → isResult j ≡ true → ⊥
-result-not k j h e i =
-    let y : isResult k ≡ true = ap isResult e ∙ i in
-    let z : _≡_ {A = ℕ} 0 1 = cc in
-    omega arith
-
--- a result that is no result type is a result id
-result-else : (k : ℕ) → isResult k ≡ true → (k ≡ 46 → ⊥) → k ≡ 47
-result-else k h e = let a = both (leb 46 k) (leb k 47) h in omega (arith, leb-true 46 k (a .0), leb-true k 47 (a .1), e)
+  -- a string
+  pub kind-text : k ≡ 40 → kindAlone g literal k r ≡ readEach g (40 ∷ []) r
+  unfolding kindAlone readOperand
+  kind-text e = rw e
 
 -- little is in use after a result
 result-few : (s : List ℕ) (d e : Decoder) (u : Used) (t i : ℕ) → Few s d u → Step s d e 1 → Few s e (withResults t i u)
@@ -159,22 +101,28 @@ unfolding notes note noteAs noNotes
 noted-id [] = refl
 noted-id (o ∷ os) = id-stays os (note o noNotes) (omega arith) ∙ first-selects o os
 
-module _ {log₀ strs₀ log strs : List ℕ} {a b c : ℕ} {u : Used} {x : Seen} (w : Walked log₀ strs₀ log strs a b c u x) where
+module _ {log₀ strs₀ log strs : List ℕ} {u₀ u : Used} {x : Seen} (w : Walked log₀ strs₀ log strs u₀ u x) where
   -- the id in use is that of the first operand seen
   selector-is : selectorOf u ≡ selector (x .operands)
   unfolding notesOf
   selector-is = ap (λ n. n .id) (w .noted) ∙ noted-id (x .operands)
 
-  -- the read of an operand that is no result is by what is in use
-  kind-is : (g : Grammar) (types : List Entry) (j : ℕ) (r : Reader)
-      → readKind g types x j r ≡ kindAlone g types (wordIs (u .rtype)) (selectorOf u) j r
-  unfolding readKind kindAlone literalAlone pairAlone readPair
-  kind-is g types j r = rw (w .rtype, selector-is) refl
+  -- the read of an operand that is no result, by its kind and that of a literal
+  kind-by : (g : Grammar) (types : List Entry) (j l : ℕ) (r : Reader) → LiteralFor types u j l → (a b : Bool) → eqb j 48 ≡ a → eqb j 49 ≡ b
+      → readKind g types x j r ≡ kindAlone g (kindIs l) j r
+  unfolding readKind kindAlone literalAlone pairAlone readPair readLiteral
+  kind-by g types j l r f true b p q =
+      simp p (ap (λ (o : Option ℕ). after (readLiteralAs o r) (λ z. give (z ∷ [])))
+      (ap (λ (t : Option ℕ). literalKindOf (typeOf t types)) (sym (w .rtype)) ∙ sym (f .by-result (eqb-true j 48 p))))
+  kind-by g types j l r f false true p q =
+      simp (p, q) (ap (λ (o : Option ℕ). after (readLiteralAs o r) (λ z t. after (readWord t) (λ v. give (z ∷ narrow 33 v ∷ []))))
+      (ap (λ (t : Option ℕ). literalKindOf (typeOf t types)) (sym selector-is) ∙ sym (f .by-first (eqb-true j 49 q))))
+  kind-by g types j l r f false false p q = simp (p, q)
 
   -- WHAT IS SEEN
 
   -- what was seen is held, from the places where the row began
-  walked-held : Held log₀ strs₀ log strs (withResults (u .rtype) (u .rid) (unused a b c)) u (x .operands)
+  walked-held : Held log₀ strs₀ log strs (withResults (u .rtype) (u .rid) (unused (u₀ .log) (u₀ .strings) (u₀ .base))) u (x .operands)
   unfolding withResults unused literalOf selectorOf notesOf noNotes wordIs
   walked-held = record {
     rtype = refl;
@@ -189,7 +137,7 @@ module _ {log₀ strs₀ log strs : List ℕ} {a b c : ℕ} {u : Used} {x : Seen
 
   -- operands more
   walked-more : {log₁ strs₁ : List ℕ} {n : Used} {os : List Operand} → Held log strs log₁ strs₁ u n os
-      → Walked log₀ strs₀ log₁ strs₁ a b c n (withOperands x os)
+      → Walked log₀ strs₀ log₁ strs₁ u₀ n (withOperands x os)
   unfolding withResults unused literalOf selectorOf notesOf noNotes wordIs
   walked-more h =
       let m = held-then walked-held h in
@@ -205,7 +153,7 @@ module _ {log₀ strs₀ log strs : List ℕ} {a b c : ℕ} {u : Used} {x : Seen
       }
 
   -- a result type
-  walked-type : (v n : ℕ) → wordIs n ≡ some v → Walked log₀ strs₀ log strs a b c (withResults n (u .rid) u) (withType x v)
+  walked-type : (v n : ℕ) → wordIs n ≡ some v → Walked log₀ strs₀ log strs u₀ (withResults n (u .rid) u) (withType x v)
   unfolding withResults selectorOf notesOf
   walked-type v n h = record {
     rtype = h;
@@ -219,7 +167,7 @@ module _ {log₀ strs₀ log strs : List ℕ} {a b c : ℕ} {u : Used} {x : Seen
   }
 
   -- a result id
-  walked-id : (v n : ℕ) → wordIs n ≡ some v → Walked log₀ strs₀ log strs a b c (withResults (u .rtype) n u) (withId x v)
+  walked-id : (v n : ℕ) → wordIs n ≡ some v → Walked log₀ strs₀ log strs u₀ (withResults (u .rtype) n u) (withId x v)
   unfolding withResults selectorOf notesOf
   walked-id v n h = record {
     rtype = w .rtype;
@@ -235,27 +183,31 @@ module _ {log₀ strs₀ log strs : List ℕ} {a b c : ℕ} {u : Used} {x : Seen
   -- READS
 
   module _ (s : List ℕ) (g : Grammar) (types : List Entry) (j : ℕ) (d : Decoder) where
-    -- what is read is added to what was seen
-    more-by : isResult j ≡ false → (y : Read (List Operand)) → kindAlone g types (wordIs (u .rtype)) (selectorOf u) j (readerOf s d) ≡ y
-        → readSlot g types x j (readerOf s d) ≡ after y (λ os. give (withOperands x os))
-    unfolding readSlot
-    more-by h y e =
-        simp (ne-eqb j 46 (λ q. result-not j 46 h q refl), ne-eqb j 47 (λ q. result-not j 47 h q refl))
-        (ap (λ (m : Read (List Operand)). after m (λ os. give (withOperands x os))) (kind-is g types j (readerOf s d) ∙ e))
+    module _ (l : ℕ) (f : LiteralFor types u j l) (h : isResult j ≡ false) where
+      -- what is read is added to what was seen
+      more-by : (y : Read (List Operand)) → kindAlone g (kindIs l) j (readerOf s d) ≡ y
+          → readSlot g types x j (readerOf s d) ≡ after y (λ os. give (withOperands x os))
+      unfolding readSlot
+      more-by y e =
+          simp (
+            ne-eqb j 46 (not-kind (λ i. not (isResult i)) j 46 (ap not h) refl),
+            ne-eqb j 47 (not-kind (λ i. not (isResult i)) j 47 (ap not h) refl),
+          )
+          (ap (λ (m : Read (List Operand)). after m (λ os. give (withOperands x os)))
+          (kind-by g types j l (readerOf s d) f (eqb j 48) (eqb j 49) refl refl ∙ e))
 
-    -- an operand that is no result
-    slot-more : (log₁ strs₁ : List ℕ) → isResult j ≡ false → (v : Parsed)
-        → Parses s d 4 (kindAlone g types (wordIs (u .rtype)) (selectorOf u) j (readerOf s d)) log strs log₁ strs₁ u v
-        → SlotIs s d (readSlot g types x j (readerOf s d)) log₀ strs₀ log₁ strs₁ a b c v
-    unfolding Parses SlotIs
-    slot-more log₁ strs₁ h (Good e n) p = record {
-      seen = withOperands x (p .operands);
-      read = more-by h _ (p .read);
-      walked = walked-more (p .held);
-      few = p .few;
-      went = p .went;
-    }
-    slot-more log₁ strs₁ h (Bad y e) p = more-by h _ p
+      -- an operand that is no result
+      slot-more : (log₁ strs₁ : List ℕ) (v : Parsed) → Parses s d 4 (kindAlone g (kindIs l) j (readerOf s d)) log strs log₁ strs₁ u v
+          → Walks s d 4 (readSlot g types x j (readerOf s d)) log₀ strs₀ log₁ strs₁ u₀ v
+      unfolding Parses Walks
+      slot-more log₁ strs₁ (Got e n) p = record {
+        seen = withOperands x (p .operands);
+        read = more-by _ (p .read);
+        walked = walked-more (p .held);
+        few = p .few;
+        went = p .went;
+      }
+      slot-more log₁ strs₁ (Refused y e) p = more-by _ p
 
     module _ (h : isResult j ≡ true) where
       -- a result is a word
@@ -264,12 +216,12 @@ module _ {log₀ strs₀ log strs : List ℕ} {a b c : ℕ} {u : Used} {x : Seen
       unfolding readSlot
       result-by y e true q = simp q (ap (λ (m : Read ℕ). after m (λ v. give (withType x v))) e)
       result-by y e false q =
-          simp (q, eq-eqb j 47 (result-else j h (eqb-false j 46 q)))
+          simp (q, result-else j h q)
           (ap (λ (m : Read ℕ). after m (λ v. give (withId x v))) e)
 
       -- a result
       slot-result : (v n : ℕ) → wordIs n ≡ some v → (e : Decoder) → Word v e ≡ wordFrom s d → Few s d u → (t : Bool) → eqb j 46 ≡ t
-          → SlotRead s d (readSlot g types x j (readerOf s d)) log₀ strs₀ log strs a b c e (if t then withResults n (u .rid) u else withResults (u .rtype) n u)
+          → RowRead s d 4 (readSlot g types x j (readerOf s d)) log₀ strs₀ log strs u₀ e (if t then withResults n (u .rid) u else withResults (u .rtype) n u)
       slot-result v n i e p f true q = record {
         seen = withType x v;
         read = result-by _ (word-got s d e v p .reads) true q;
@@ -289,32 +241,31 @@ module _ {log₀ strs₀ log strs : List ℕ} {a b c : ℕ} {u : Used} {x : Seen
       slot-none : (y : Refusal) (e : Decoder) → NoWord y e ≡ wordFrom s d → readSlot g types x j (readerOf s d) ≡ refused y (readerOf s e)
       slot-none y e p = result-by _ (word-refused s d e y p) (eqb j 46) refl
 
-module _ (s : List ℕ) (g : Grammar) (types : List Entry) (j : ℕ) (d : Decoder) (log strs : List ℕ) (u : Used) (t : Bool) (p : t ≡ isResult j) where
+module _ (s : List ℕ) (g : Grammar) (j l : ℕ) (d : Decoder) (log strs : List ℕ) (u : Used) (t : Bool) (p : t ≡ isResult j) (types : List Entry)
+    (f : LiteralFor types u j l) where
   -- the walk goes on with a result
   pub walks-result : t ≡ true → Few s d u → (v : ℕ) (e : Decoder) → Word v e ≡ wordFrom s d → (i : ℕ) → wordIs i ≡ some v → (n : Used) → n ≡ withResult j i u
-      → SlotWalks s d (λ x. readSlot g types x j (readerOf s d)) log strs log strs u (Good e n)
-  unfolding SlotWalks SlotIs withResult
-  walks-result q f v e h i o n z log₀ strs₀ a b c x w = rw z (slot-result w s g types j d (sym p ∙ q) v i o e h f (eqb j 46) refl)
+      → SlotWalks s d (λ x. readSlot g types x j (readerOf s d)) log strs log strs u (Got e n)
+  unfolding SlotWalks Walks withResult
+  walks-result q m v e h i o n z log₀ strs₀ u₀ x w = rw z (slot-result w s g types j d (sym p ∙ q) v i o e h m (eqb j 46) refl)
 
   -- it ends without the word of a result
   pub walks-none : t ≡ true → (y : Refusal) (e : Decoder) → NoWord y e ≡ wordFrom s d
-      → SlotWalks s d (λ x. readSlot g types x j (readerOf s d)) log strs log strs u (Bad y e)
-  unfolding SlotWalks SlotIs
-  walks-none q y e h log₀ strs₀ a b c x w = slot-none w s g types j d (sym p ∙ q) y e h
+      → SlotWalks s d (λ x. readSlot g types x j (readerOf s d)) log strs log strs u (Refused y e)
+  unfolding SlotWalks Walks
+  walks-none q y e h log₀ strs₀ u₀ x w = slot-none w s g types j d (sym p ∙ q) y e h
 
-  -- it goes on with operands, or ends where they are refused
-  pub walks-more : t ≡ false → (log₁ strs₁ : List ℕ) (v : Parsed)
-      → Parses s d 4 (kindAlone g types (wordIs (u .rtype)) (selectorOf u) j (readerOf s d)) log strs log₁ strs₁ u v
-      → SlotWalks s d (λ x. readSlot g types x j (readerOf s d)) log strs log₁ strs₁ u v
-  unfolding SlotWalks
-  walks-more q log₁ strs₁ v h log₀ strs₀ a b c x w = slot-more w s g types j d log₁ strs₁ (sym p ∙ q) v h
+  module _ (q : t ≡ false) (log₁ strs₁ : List ℕ) (v : Parsed) where
+    -- it goes on with operands, or ends where they are refused
+    pub walks-more : Parses s d 4 (kindAlone g (kindIs l) j (readerOf s d)) log strs log₁ strs₁ u v
+        → SlotWalks s d (λ x. readSlot g types x j (readerOf s d)) log strs log₁ strs₁ u v
+    unfolding SlotWalks
+    walks-more h log₀ strs₀ u₀ x w = slot-more w s g types j d l f (sym p ∙ q) log₁ strs₁ v h
 
-  -- it goes on with a word, or ends where that is refused
-  pub walks-word : t ≡ false → within 31 j 35 ≡ true → (log₁ : List ℕ) (v : Parsed)
-      → ((h : Grammar) (strs₁ : List ℕ) → Parses s d 4 (readEach h (j ∷ []) (readerOf s d)) log strs₁ log₁ strs₁ u v)
-      → SlotWalks s d (λ x. readSlot g types x j (readerOf s d)) log strs log₁ strs u v
-  walks-word q i log₁ v h =
-      walks-more q log₁ strs v (same-read s d 4 _ _ log strs log₁ strs u v (kind-word g types _ _ j (readerOf s d) i) (h g strs))
+    -- so it does by the read that is meant
+    pub walks-as : (y : Read (List Operand)) → kindAlone g (kindIs l) j (readerOf s d) ≡ y → Parses s d 4 y log strs log₁ strs₁ u v
+        → SlotWalks s d (λ x. readSlot g types x j (readerOf s d)) log strs log₁ strs₁ u v
+    walks-as y e h = walks-more (same-read s d 4 _ y log strs log₁ strs₁ u v e h)
 
 -- PLACES AND RESULTS
 
@@ -325,12 +276,6 @@ stays p q e = simp (eq-eqb q 2 e)
 -- the others go on
 pub goes-on : (p q : ℕ) → (q ≡ 2 → ⊥) → p + 3 ≡ (if eqb q 2 then p else p + 3)
 goes-on p q e = simp (ne-eqb q 2 e)
-
--- nothing is in use
-pub no-use : (a b c : ℕ)
-    → record { rtype = 0; rid = 0; operands = 0; kind1 = 0; value1 = 0; kind2 = 0; value2 = 0; log = a; strings = b; base = c } ≡ unused a b c
-unfolding unused
-no-use a b c = refl
 
 module _ (u : Used) (k n : ℕ) where
   -- a result type

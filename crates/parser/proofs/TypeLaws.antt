@@ -5,8 +5,7 @@ use mathlib.Core.Bool.{Bool, true, false, _||_}
 use mathlib.Core.List.{List, [], _∷_}
 use mathlib.Core.Option.{Option, none, some}
 use native.Mathlib.Omega.{arith}
-use borrow.Author.Tests.{eq-eqb, ne-eqb, eqb-true}
-use mathlib.Core.Logic.{_⊎_, inl, inr}
+use borrow.Author.Tests.{eq-eqb, ne-eqb}
 use lib.Dec.{eqb}
 use Rattle.spec.specs.declared.Refusal.{Refusal}
 use Rattle.spec.specs.Base.{isIn}
@@ -15,7 +14,7 @@ use Rattle.spec.specs.Records.{Operand, narrow, wide, Entry}
 use Rattle.spec.specs.Types.{entryOf}
 use Rattle.spec.specs.Reader.{Reader, Read, got, refused, after, give, refusal, readWord, readLong, readerAt}
 use Rattle.spec.specs.Grammar.{Grammar}
-use Rattle.spec.specs.Match.{readOne, readEach, literalKind, literalKindOf, typeOf, readLiteralAs, readLiteral}
+use Rattle.spec.specs.Match.{readOne, readEach, literalKind, literalKindOf, typeOf, readLiteralAs}
 use Rattle.decoder.specs.declared.Decoder.{Decoder}
 use Rattle.decoder.specs.declared.LongRead.the-variants.{Got as Long, Refused as NoLong}
 use Rattle.decoder.specs.Answer.{readerOf, longFrom}
@@ -26,7 +25,9 @@ use Rattle.tracker.specs.declared.Resolved.{Resolved}
 use Rattle.tracker.specs.declared.Resolved.the-variants.{«Type», Unknown}
 use Rattle.tracker.specs.Entries.{resolvedIs}
 use Rattle.tracker.specs.Track.{idIs}
-use Rattle.parser.specs.Parse.{prefix, isSingle, kindIs, isLiteral, literalAlone, pairAlone}
+use Rattle.parser.specs.declared.used.Used.{Used}
+use Rattle.parser.specs.Parse.{wordIs, selectorOf, prefix, isWord, kindIs, isLiteral, LiteralFor, literalAlone, pairAlone}
+use Rattle.parser.proofs.KindLaws.{not-kind, word-short, word-no-enum, word-no-text}
 
 -- THE KIND
 
@@ -101,63 +102,51 @@ module _ (types : List Entry) (id : Id) (i : ℕ) (e : id ≡ Is i) (r : Resolve
       let same : literalKind w 1 ≡ literalKind w s = simp (ne-eqb s 3 z) in
       (p .0 ∙ same ∙ type-is w s q, p .1)
 
+-- THE KIND FOR AN OPERAND
+
+module _ (types : List Entry) (u : Used) (k literal : ℕ) where
+  -- by the result type
+  pub literal-result : k ≡ 48 → (o : Option ℕ) → o ≡ wordIs (u .rtype) → (kindIs literal ≡ literalKindOf (typeOf o types)) × (isLiteral literal ≡ true)
+      → LiteralFor types u k literal
+  literal-result e o q h = record { by-result = λ x. rw q at (h .0); by-first = λ x. absurd (omega arith); known = h .1 }
+
+  -- by the first operand
+  pub literal-first : k ≡ 49 → (o : Option ℕ) → o ≡ selectorOf u → (kindIs literal ≡ literalKindOf (typeOf o types)) × (isLiteral literal ≡ true)
+      → LiteralFor types u k literal
+  literal-first e o q h = record { by-result = λ x. absurd (omega arith); by-first = λ x. rw q at (h .0); known = h .1 }
+
+-- another operand is read as none
+pub literal-other : (types : List Entry) (u : Used) (k : ℕ) → (k ≡ 48 → ⊥) → (k ≡ 49 → ⊥) → LiteralFor types u k 0
+unfolding isLiteral
+literal-other types u k x y = record { by-result = λ e. absurd (x e); by-first = λ e. absurd (y e); known = refl }
+
 -- THE READ
 
-literal-cases : (k : ℕ) (a b c d e : Bool) → eqb k 0 ≡ a → eqb k 34 ≡ b → eqb k 36 ≡ c → eqb k 37 ≡ d → eqb k 38 ≡ e
-    → (a || (b || (c || (d || (e || false))))) ≡ true → a ≡ false → (c || e) ≡ false → (k ≡ 34) ⊎ (k ≡ 37)
-literal-cases k true b c d e ea eb ec ed ee h z l = let y : _≡_ {A = ℕ} 0 1 = cc in absurd (omega arith)
-literal-cases k false true c d e ea eb ec ed ee h z l = inl (eqb-true k 34 eb)
-literal-cases k false false true d e ea eb ec ed ee h z l = let y : _≡_ {A = ℕ} 0 1 = cc in absurd (omega arith)
-literal-cases k false false false true e ea eb ec ed ee h z l = inr (eqb-true k 37 ed)
-literal-cases k false false false false true ea eb ec ed ee h z l = let y : _≡_ {A = ℕ} 0 1 = cc in absurd (omega arith)
-literal-cases k false false false false false ea eb ec ed ee h z l = let y : _≡_ {A = ℕ} 0 1 = cc in absurd (omega arith)
-
--- a literal of one word is an integer or a float
-pub one-word : (k : ℕ) → isLiteral k ≡ true → (k ≡ 0 → ⊥) → (eqb k 36 || eqb k 38) ≡ false → (k ≡ 34) ⊎ (k ≡ 37)
-unfolding isLiteral
-one-word k h z l = literal-cases k (eqb k 0) (eqb k 34) (eqb k 36) (eqb k 37) (eqb k 38) refl refl refl refl refl h (ne-eqb k 0 z) l
-
--- which is one record
-pub literal-single : (k : ℕ) → (k ≡ 34) ⊎ (k ≡ 37) → isSingle k ≡ true
-unfolding isSingle
-literal-single k (inl e) = rw e
-literal-single k (inr e) = rw e
-
-module _ (s : List ℕ) (types : List Entry) (id : Option ℕ) (d : Decoder) (k : ℕ) (p : kindIs k ≡ literalKindOf (typeOf id types)) where
-  literal-by : (o : Option ℕ) → kindIs k ≡ o → literalAlone types id (readerOf s d) ≡ after (readLiteralAs o (readerOf s d)) (λ x. give (x ∷ []))
-  unfolding literalAlone readLiteral
-  literal-by o q = ap (λ (z : Option ℕ). after (readLiteralAs z (readerOf s d)) (λ x. give (x ∷ []))) (sym p ∙ q)
-
+module _ (s : List ℕ) (d : Decoder) (k : ℕ) where
   -- a width that is not supported
-  pub literal-none : k ≡ 0 → literalAlone types id (readerOf s d) ≡ refused (refusal 12 (d .offset) 0) (readerOf s d)
-  unfolding kindIs readLiteralAs readerOf readerAt
-  literal-none e = literal-by none (rw e)
+  pub literal-none : k ≡ 0 → literalAlone (kindIs k) (readerOf s d) ≡ refused (refusal 12 (d .offset) 0) (readerOf s d)
+  unfolding literalAlone kindIs readLiteralAs readerOf readerAt
+  literal-none e = rw e
 
-  module _ (z : k ≡ 0 → ⊥) where
-    kind-some : kindIs k ≡ some k
-    unfolding kindIs
-    kind-some = simp (ne-eqb k 0 z)
+  -- one word
+  pub literal-one : (g : Grammar) → isWord k ≡ true → literalAlone (kindIs k) (readerOf s d) ≡ readEach g (k ∷ []) (readerOf s d)
+  unfolding literalAlone kindIs readLiteralAs readEach readOne isWord
+  literal-one g h = simp (ne-eqb k 0 (not-kind isWord k 0 h refl), word-short k h, word-no-enum k h, word-no-text k h)
 
-    -- one word
-    pub literal-word : (g : Grammar) → (k ≡ 34) ⊎ (k ≡ 37) → literalAlone types id (readerOf s d) ≡ readEach g (k ∷ []) (readerOf s d)
-    unfolding readLiteralAs readEach readOne
-    literal-word g (inl e) = literal-by (some k) kind-some ∙ rw e refl
-    literal-word g (inr e) = literal-by (some k) kind-some ∙ rw e refl
+  module _ (l : isLong k ≡ true) where
+    literal-long : (y : Read ℕ) → readLong (readerOf s d) ≡ y
+        → literalAlone (kindIs k) (readerOf s d) ≡ after (after y (λ v. give (wide k v))) (λ x. give (x ∷ []))
+    unfolding literalAlone kindIs readLiteralAs
+    literal-long y h =
+        simp (ne-eqb k 0 (not-kind isLong k 0 l refl), l) (ap (λ (m : Read ℕ). after (after m (λ v. give (wide k v))) (λ x. give (x ∷ []))) h)
 
-    module _ (l : isLong k ≡ true) where
-      literal-long : (y : Read ℕ) → readLong (readerOf s d) ≡ y
-          → literalAlone types id (readerOf s d) ≡ after (after y (λ v. give (wide k v))) (λ x. give (x ∷ []))
-      unfolding readLiteralAs
-      literal-long y h =
-          literal-by (some k) kind-some ∙ simp l (ap (λ (m : Read ℕ). after (after m (λ v. give (wide k v))) (λ x. give (x ∷ []))) h)
+    -- two words
+    pub long-good : (w : ℕ) (e : Decoder) → Long w e ≡ longFrom s d → literalAlone (kindIs k) (readerOf s d) ≡ got (wide k w ∷ []) (readerOf s e)
+    long-good w e h = literal-long _ (long-got s d e w h .reads)
 
-      -- two words
-      pub long-good : (w : ℕ) (e : Decoder) → Long w e ≡ longFrom s d → literalAlone types id (readerOf s d) ≡ got (wide k w ∷ []) (readerOf s e)
-      long-good w e h = literal-long _ (long-got s d e w h .reads)
-
-      -- no two words
-      pub long-bad : (x : Refusal) (e : Decoder) → NoLong x e ≡ longFrom s d → literalAlone types id (readerOf s d) ≡ refused x (readerOf s e)
-      long-bad x e h = literal-long _ (long-refused s d e x h)
+    -- no two words
+    pub long-bad : (x : Refusal) (e : Decoder) → NoLong x e ≡ longFrom s d → literalAlone (kindIs k) (readerOf s d) ≡ refused x (readerOf s e)
+    long-bad x e h = literal-long _ (long-refused s d e x h)
 
 -- PAIRS
 
@@ -174,7 +163,6 @@ pair-by g (got o r) = pair-word o (readWord r)
 pair-by g (refused x r) = refl
 
 -- a literal, then an id
-pub pair-is : (g : Grammar) (types : List Entry) (id : Option ℕ) (r : Reader)
-    → pairAlone types id r ≡ after (literalAlone types id r) (λ os q. prefix os (readEach g (33 ∷ []) q))
+pub pair-is : (g : Grammar) (k : Option ℕ) (r : Reader) → pairAlone k r ≡ after (literalAlone k r) (λ os q. prefix os (readEach g (33 ∷ []) q))
 unfolding pairAlone literalAlone
-pair-is g types id r = pair-by g (readLiteral types id r)
+pair-is g k r = pair-by g (readLiteralAs k r)

@@ -55,7 +55,7 @@ module _ (u : Used) where
 module _ (u : Used) (k v log : ℕ) (f : Fits k v) (l : log ≡ u .log + recordLength (parts k v)) where
   -- the first operand
   pub note-first : u .operands ≡ 0
-      → Pushed k v u (record { rtype = u .rtype; rid = u .rid; operands = 1; kind1 = k; value1 = v; kind2 = u .kind2; value2 = u .value2; log = log; strings = u .strings; base = u .base })
+      → Pushed k v u (record { rtype = u .rtype; rid = u .rid; operands = u .operands + 1; kind1 = k; value1 = v; kind2 = u .kind2; value2 = u .value2; log = log; strings = u .strings; base = u .base })
   unfolding notesOf selectorOf noteAs
   note-first e =
       record {
@@ -70,7 +70,7 @@ module _ (u : Used) (k v log : ℕ) (f : Fits k v) (l : log ≡ u .log + recordL
 
   -- the second
   pub note-second : u .operands ≡ 1
-      → Pushed k v u (record { rtype = u .rtype; rid = u .rid; operands = 2; kind1 = u .kind1; value1 = u .value1; kind2 = k; value2 = v; log = log; strings = u .strings; base = u .base })
+      → Pushed k v u (record { rtype = u .rtype; rid = u .rid; operands = u .operands + 1; kind1 = u .kind1; value1 = u .value1; kind2 = k; value2 = v; log = log; strings = u .strings; base = u .base })
   unfolding notesOf selectorOf noteAs
   note-second e =
       record {

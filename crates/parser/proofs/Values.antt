@@ -1,19 +1,19 @@
 -- Laws of the walk over parameters, of the bits of a mask, and of operands with their parameters.
 use Prim.Native.Nat.{ℕ, zero, suc, _+_, _*_, _-_, _/_, _%_, _<_, _≤_}
 use mathlib.Core.Path.{_≡_, refl, ap, sym, _∙_}
-use mathlib.Core.Bool.{Bool, true, false, _||_}
+use mathlib.Core.Bool.{Bool, true, false, and-eq-true-iff}
 use mathlib.Core.List.{List, [], _∷_, _++_, append-nil}
 use mathlib.Core.Option.{Option, none, some}
 use native.Mathlib.Omega.{arith}
-use borrow.Author.Tests.{eq-eqb, ne-eqb, leb-true}
-use lib.Dec.{eqb, leb}
+use borrow.Author.Tests.{eq-eqb, ne-eqb}
+use lib.Dec.{eqb}
 use lib.ListN.{length, drop, drop-of-length-le}
 use Rattle.spec.specs.declared.Found.{Found}
 use Rattle.spec.specs.declared.Found.the-variants.{At, Nothing}
 use Rattle.spec.specs.declared.Refusal.{Refusal}
-use Rattle.spec.specs.Base.{if_then_else_, within, every}
+use Rattle.spec.specs.Base.{if_then_else_, every}
 use Rattle.spec.specs.Words.{bitsFrom, bitsOf}
-use Rattle.spec.specs.Kinds.{isMask, isEnum, mayBeParameter}
+use Rattle.spec.specs.Kinds.{isMask, isEnum}
 use Rattle.spec.specs.Records.{Operand, narrow}
 use Rattle.spec.specs.Reader.{Reader, Read, got, refused, Parse, after}
 use Rattle.spec.specs.Grammar.{Grammar, Enumerant, grammarOf, items, itemsFrom, parametersOf, listed, bothListed, bitsListed, parametersFor}
@@ -25,9 +25,8 @@ use Rattle.grammar.specs.declared.find.ParameterAt.the-variants.{Parameter as A
 use Rattle.grammar.specs.Find.{placeFound, parametersFound, parametersThen, parameterBytes}
 use Rattle.parser.specs.declared.used.Used.{Used}
 use Rattle.parser.specs.declared.used.Parsed.{Parsed}
-use Rattle.parser.specs.declared.used.Parsed.the-variants.{Good, Bad}
-use Rattle.parser.specs.Parse.{Went, Few, Held, Accepted, Parses, prefix, isSingle, isPlain, KnownAs, orNone, bitParameters, parametersAre, ifSet, parametersAt}
-use Rattle.parser.proofs.One.{both, not-kind}
+use Rattle.parser.specs.declared.used.Parsed.the-variants.{Got, Refused}
+use Rattle.parser.specs.Parse.{Went, Few, Held, Accepted, Parses, prefix, isSingle, KnownAs, orNone, bitParameters, parametersAre, ifSet, parametersAt}
 use Rattle.parser.proofs.Walk.{prefix-prefix, prefix-nil, cons-prefix, each-cons, went-nowhere, went-then, held-then, held-nothing, seq, first-done, first-bad}
 
 -- SOME KINDS, THEN OTHERS
@@ -85,7 +84,7 @@ begins s log strs d c rest f = record {
 module _ {s : List ℕ} {x : Read (List Operand)} {log₀ strs₀ log strs : List ℕ} {c₀ : Used} {d₀ d : Decoder} {c : Used} {rest : Parse (List Operand)}
     (r : Running s x log₀ strs₀ log strs c₀ d₀ d c rest) where
   -- nothing left
-  pub ends : rest (readerOf s d) ≡ got [] (readerOf s d) → Parses s d₀ 0 x log₀ strs₀ log strs c₀ (Good d c)
+  pub ends : rest (readerOf s d) ≡ got [] (readerOf s d) → Parses s d₀ 0 x log₀ strs₀ log strs c₀ (Got d c)
   unfolding Parses prefix
   ends e = record {
     operands = r .acc;
@@ -109,7 +108,7 @@ module _ {s : List ℕ} {x : Read (List Operand)} {log₀ strs₀ log strs : Lis
 
     -- they are refused
     pub stops : (log₁ strs₁ : List ℕ) (m : ℕ) (v : Parsed) (z : Refusal) (f : Decoder)
-        → Parses s d m y log strs log₁ strs₁ c v → v ≡ Bad z f → Parses s d₀ 0 x log₀ strs₀ log₁ strs₁ c₀ v
+        → Parses s d m y log strs log₁ strs₁ c v → v ≡ Refused z f → Parses s d₀ 0 x log₀ strs₀ log₁ strs₁ c₀ v
     stops log₁ strs₁ m v z f h q =
         seq (r .held) s m log₁ strs₁ x _ (r .went) (r .whole) v (first-bad _ y b e s d m log strs log₁ strs₁ c v z f h q)
 
@@ -124,7 +123,7 @@ each-next g ks a b r e = same-each g ks (a ++ b) r e ∙ each-append g a b r
 
 -- no kinds at all
 pub nothing : (s : List ℕ) (g : Grammar) (log strs : List ℕ) (d : Decoder) (c : Used) (rest : List ℕ) → Few s d c → rest ≡ []
-    → Parses s d 0 (readEach g rest (readerOf s d)) log strs log strs c (Good d c)
+    → Parses s d 0 (readEach g rest (readerOf s d)) log strs log strs c (Got d c)
 nothing s g log strs d c rest f e = ends (begins s log strs d c (readEach g rest) f) (each-none g rest (readerOf s d) e)
 
 -- PARAMETERS
@@ -153,7 +152,7 @@ none-past g p h = ap (λ (l : List ℕ). parametersOf (items l)) (drop-of-length
 
 -- the first of kinds that are each one record, and the rest
 pub single-first : (ks js : List ℕ) (j : ℕ) → every isSingle ks ≡ true → ks ≡ (j ∷ []) ++ js → (isSingle j ≡ true) × (every isSingle js ≡ true)
-single-first ks js j h e = both (isSingle j) (every isSingle js) (rw e at h)
+single-first ks js j h e = and-eq-true-iff (isSingle j) (every isSingle js) .0 (rw e at h)
 
 -- the parameters of an enumerant that was found
 pub found-at : (g : List ℕ) (f : Found) (p : ℕ) (o : Option (List ℕ)) → parametersFound g f ≡ o → f ≡ At p → orNone o ≡ parametersAt g p
@@ -282,7 +281,7 @@ module _ {s : List ℕ} {x : Read (List Operand)} {log₀ strs₀ log strs : Lis
 
   -- they are refused
   pub bit-stops : (log₁ strs₁ : List ℕ) (m : ℕ) (p : Parsed) (z : Refusal) (f : Decoder)
-      → Parses s d m (readEach g (ifSet k b v (g .enumerants)) (readerOf s d)) log strs log₁ strs₁ c p → p ≡ Bad z f
+      → Parses s d m (readEach g (ifSet k b v (g .enumerants)) (readerOf s d)) log strs log₁ strs₁ c p → p ≡ Refused z f
       → Parses s d₀ 0 x log₀ strs₀ log₁ strs₁ c₀ p
   bit-stops = stops (r .running) _ _ bit-first
 
@@ -371,28 +370,3 @@ pub operand-known : (s g : List ℕ) (k : ℕ) (d : Decoder) (t : Bool) → t �
 operand-known s g k d t b q w p e h =
     operand-by s (grammarOf g) k d t b q _ (h .read) ∙ cons-prefix (narrow k w) (readEach (grammarOf g) (h .parameters) (readerOf s e))
     ∙ ap (λ (ps : List ℕ). prefix (narrow k w ∷ []) (readEach (grammarOf g) ps (readerOf s e))) (are-known k w (grammarOf g) (h .parameters) (h .listed))
-
-plain-by : (k : ℕ) (a b : Bool) → within 50 k 51 ≡ b → (k ≡ 50 → ⊥) → (k ≡ 51 → ⊥) → (a || b) ≡ true → a ≡ true
-plain-by k true b e h i o = refl
-plain-by k false true e h i o =
-    let x = both (leb 50 k) (leb k 51) e in
-    absurd (omega (arith, leb-true 50 k (x .0), leb-true k 51 (x .1), h, i))
-plain-by k false false e h i o = o
-
--- what is no pair is one record
-pub plain-single : (k : ℕ) → isPlain k ≡ true → (k ≡ 50 → ⊥) → (k ≡ 51 → ⊥) → isSingle k ≡ true
-unfolding isPlain isSingle
-plain-single k h i j = let z = plain-by k (mayBeParameter k) (within 50 k 51) refl i j h in simp z
-
--- no enumerant is a pair
-pub enum-plain : (k : ℕ) (t : Bool) → t ≡ isEnum k → t ≡ true → isPlain k ≡ true → isSingle k ≡ true
-enum-plain k t p q h = plain-single k h (not-kind isEnum k 50 (sym p ∙ q) refl) (not-kind isEnum k 51 (sym p ∙ q) refl)
-
--- an id and a number are each one record
-pub id-single : isSingle 33 ≡ true
-unfolding isSingle
-id-single = refl
-
-pub number-single : isSingle 34 ≡ true
-unfolding isSingle
-number-single = refl

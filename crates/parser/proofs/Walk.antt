@@ -17,7 +17,7 @@ use Rattle.decoder.specs.declared.Decoder.{Decoder}
 use Rattle.decoder.specs.Answer.{readerOf}
 use Rattle.parser.specs.declared.used.Used.{Used}
 use Rattle.parser.specs.declared.used.Parsed.{Parsed}
-use Rattle.parser.specs.declared.used.Parsed.the-variants.{Good, Bad}
+use Rattle.parser.specs.declared.used.Parsed.the-variants.{Got, Refused}
 use Rattle.parser.specs.Parse.{Notes, notesOf, notes, note, FirstFits, Step, leftOf, Went, Few, Held, Accepted, Parses, prefix}
 
 -- RUNS OF OPERANDS
@@ -166,20 +166,20 @@ module _ {log₀ strs₀ log strs : List ℕ} {c n : Used} {a : List Operand} (h
   pub seq : (s : List ℕ) {d e₁ : Decoder} {i : ℕ} (j : ℕ) (log₁ strs₁ : List ℕ) (x z : Read (List Operand)) → Went d e₁ i → x ≡ prefix a z
       → (v : Parsed) → Parses s e₁ j z log strs log₁ strs₁ n v → Parses s d i x log₀ strs₀ log₁ strs₁ c v
   unfolding Parses prefix
-  seq s j log₁ strs₁ x z w e (Good d p) r = record {
+  seq s j log₁ strs₁ x z w e (Got d p) r = record {
     operands = a ++ r .operands;
     read = e ∙ ap (prefix a) (r .read);
     held = held-then h (r .held);
     few = r .few;
     went = went-then w (r .went);
   }
-  seq s j log₁ strs₁ x z w e (Bad y d) r = e ∙ ap (prefix a) r
+  seq s j log₁ strs₁ x z w e (Refused y d) r = e ∙ ap (prefix a) r
 
 -- ANSWERS
 
 -- an answer that is good
 pub good-told : {s : List ℕ} {d : Decoder} {m : ℕ} {x : Read (List Operand)} {l₀ t₀ l t : List ℕ} {c : Used} (v : Parsed) (e : Decoder) (n : Used)
-    → Parses s d m x l₀ t₀ l t c v → v ≡ Good e n → Accepted s d m x l₀ t₀ l t c e n
+    → Parses s d m x l₀ t₀ l t c v → v ≡ Got e n → Accepted s d m x l₀ t₀ l t c e n
 unfolding Parses
 good-told v e n h q = rw q at h
 
@@ -190,13 +190,13 @@ same-read s d m x z l₀ t₀ l t c v e h = rw e h
 
 -- a refusal
 pub deny : (s : List ℕ) (d : Decoder) (m : ℕ) (x : Read (List Operand)) (l₀ t₀ l t : List ℕ) (c : Used) (v : Parsed) (y : Refusal) (e : Decoder)
-    → v ≡ Bad y e → x ≡ refused y (readerOf s e) → Parses s d m x l₀ t₀ l t c v
+    → v ≡ Refused y e → x ≡ refused y (readerOf s e) → Parses s d m x l₀ t₀ l t c v
 unfolding Parses
 deny s d m x l₀ t₀ l t c v y e q h = rw q h
 
 -- operands
 pub accept : (s : List ℕ) (d : Decoder) (m : ℕ) (x : Read (List Operand)) (l t l₁ t₁ : List ℕ) (c n : Used) (e : Decoder) (os : List Operand)
-    → x ≡ got os (readerOf s e) → Held l t l₁ t₁ c n os → Few s e n → Went d e m → Parses s d m x l t l₁ t₁ c (Good e n)
+    → x ≡ got os (readerOf s e) → Held l t l₁ t₁ c n os → Few s e n → Went d e m → Parses s d m x l t l₁ t₁ c (Got e n)
 unfolding Parses
 accept s d m x l t l₁ t₁ c n e os q h f w = record { operands = os; read = q; held = h; few = f; went = w }
 
@@ -209,7 +209,7 @@ module _ (x y : Read (List Operand)) (f : Parse (List Operand)) (e : x ≡ after
 
   -- a refusal of the first is that of both
   pub first-bad : (s : List ℕ) (d : Decoder) (m : ℕ) (l₀ t₀ l t : List ℕ) (c : Used) (v : Parsed) (z : Refusal) (g : Decoder)
-      → Parses s d m y l₀ t₀ l t c v → v ≡ Bad z g → Parses s d m x l₀ t₀ l t c v
+      → Parses s d m y l₀ t₀ l t c v → v ≡ Refused z g → Parses s d m x l₀ t₀ l t c v
   unfolding Parses
   first-bad s d m l₀ t₀ l t c v z g h q =
       let b : y ≡ refused z (readerOf s g) = (rw q at h) in

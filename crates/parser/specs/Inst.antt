@@ -8,7 +8,6 @@ use Rattle.spec.specs.declared.Limit.the-variants.{Unlimited}
 use Rattle.spec.specs.declared.Refusal.{Refusal}
 use Rattle.spec.specs.Base.{every}
 use Rattle.spec.specs.Records.{Instr, Entry, operandsLog, operandsStrings}
-use Rattle.spec.specs.Grammar.{grammarOf}
 use Rattle.spec.specs.Reader.{Reader, Read, got, refused, refusal, readerAt}
 use Rattle.operand.specs.Log.{Laid}
 use Rattle.decoder.specs.declared.Decoder.{Decoder}
@@ -17,12 +16,14 @@ use Rattle.tracker.specs.Track.{idIs, FirstFit, literalOf, Literals}
 use Rattle.parser.specs.Parse.{wordIs, firstOf, secondOf, isOperand, slotsAt}
 use Rattle.parser.specs.Body.{bodyRead}
 use Rattle.parser.specs.declared.used.Used.{Used}
+use Rattle.parser.specs.declared.used.Frame.{Frame}
 use Rattle.parser.specs.declared.inst.Decoded.{Decoded}
 use Rattle.parser.specs.declared.inst.InstRead.{InstRead}
 use Rattle.parser.specs.declared.inst.InstRead.the-variants.{Got, Refused}
 
--- an instruction was read: what is handed on says it, and its operands' records are what was added to log and strings where they fit
-pub record Handed (s : List ℕ) (at : ℕ) (x : Read Instr) (log₀ strs₀ log strs : List ℕ) (a b c : ℕ) (r : Decoded) : Type 0 where
+-- an instruction was read: what is handed on says it, and its operands' records are what was added to what was in use and, where they fit,
+-- to log and strings
+pub record Handed (s : List ℕ) (at : ℕ) (x : Read Instr) (log₀ strs₀ log strs : List ℕ) (u : Used) (r : Decoded) : Type 0 where
   pub instr : Instr
   pub read : x ≡ got instr (readerAt s (at + 4 * r .words) Unlimited)
   pub inside : at + 4 * r .words ≤ length s
@@ -36,18 +37,18 @@ pub record Handed (s : List ℕ) (at : ℕ) (x : Read Instr) (log₀ strs₀ log
   pub few : 4 * r .operands ≤ at + 4 * r .words
   pub literals : Literals (instr .operands) (literalOf (r .first)) (literalOf (r .second))
   pub fits : FirstFit (r .operands) (r .first) (r .second)
-  pub nlog : r .log ≡ a + length (operandsLog (c + b) (instr .operands))
-  pub nstrings : r .strings ≡ b + length (operandsStrings (instr .operands))
+  pub nlog : r .log ≡ u .log + length (operandsLog (u .base + u .strings) (instr .operands))
+  pub nstrings : r .strings ≡ u .strings + length (operandsStrings (instr .operands))
   pub few-log : 4 * r .log ≤ 9 * (at + 4 * r .words)
-  pub few-strings : c + r .strings ≤ at + 4 * r .words
-  pub log-laid : Laid log₀ a (operandsLog (c + b) (instr .operands)) log
-  pub strings-laid : Laid strs₀ b (operandsStrings (instr .operands)) strs
+  pub few-strings : u .base + r .strings ≤ at + 4 * r .words
+  pub log-laid : Laid log₀ (u .log) (operandsLog (u .base + u .strings) (instr .operands)) log
+  pub strings-laid : Laid strs₀ (u .strings) (operandsStrings (instr .operands)) strs
 
 -- what is handed on of an instruction whose row was read
-pub record Ends (count op place : ℕ) (n : Used) (r : Decoded) : Type 0 where
-  pub words : r .words ≡ count
-  pub opcode : r .opcode ≡ op
-  pub place-is : r .place ≡ place
+pub record Ends (f : Frame) (n : Used) (r : Decoded) : Type 0 where
+  pub words : r .words ≡ f .words
+  pub opcode : r .opcode ≡ f .opcode
+  pub place-is : r .place ≡ f .place
   pub rtype : idIs (r .rtype) ≡ wordIs (n .rtype)
   pub rid : idIs (r .rid) ≡ wordIs (n .rid)
   pub operands : r .operands ≡ n .operands
@@ -57,9 +58,9 @@ pub record Ends (count op place : ℕ) (n : Used) (r : Decoded) : Type 0 where
   pub strings : r .strings ≡ n .strings
 
 -- its answer: 7 where words are left over
-unfoldable pub Ended : ℕ → ℕ → ℕ → Decoder → Used → InstRead → Type 0
-Ended count op place e n (Got r) = (limitReached e ≡ true) × Ends count op place n r
-Ended count op place e n (Refused y) = (limitReached e ≡ false) × (y ≡ refusal 7 (e .offset) 0)
+unfoldable pub Ended : Frame → Decoder → Used → InstRead → Type 0
+Ended f e n (Got r) = (limitReached e ≡ true) × Ends f n r
+Ended f e n (Refused y) = (limitReached e ≡ false) × (y ≡ refusal 7 (e .offset) 0)
 
 -- it was refused
 pub record Declined (x : Read Instr) (y : Refusal) : Type 0 where
@@ -67,26 +68,30 @@ pub record Declined (x : Read Instr) (y : Refusal) : Type 0 where
   pub read : x ≡ refused y rest
 
 -- the answer to the read x of the instruction at a place, and the stores after it where it is good
-unfoldable pub Decodes : List ℕ → ℕ → Read Instr → List ℕ → List ℕ → List ℕ → List ℕ → ℕ → ℕ → ℕ → InstRead → Type 0
-Decodes s at x log₀ strs₀ log strs a b c (Got r) = Handed s at x log₀ strs₀ log strs a b c r
-Decodes s at x log₀ strs₀ log strs a b c (Refused y) = Declined x y
+unfoldable pub Decodes : List ℕ → ℕ → Read Instr → List ℕ → List ℕ → List ℕ → List ℕ → Used → InstRead → Type 0
+Decodes s at x log₀ strs₀ log strs u (Got r) = Handed s at x log₀ strs₀ log strs u r
+Decodes s at x log₀ strs₀ log strs u (Refused y) = Declined x y
 
 -- the same, whatever the stores held before
-pub record DecodesOver (s : List ℕ) (at : ℕ) (x : Read Instr) (log strs : List ℕ) (a b c : ℕ) (r : InstRead) : Type 0 where
+pub record DecodesOver (s : List ℕ) (at : ℕ) (x : Read Instr) (log strs : List ℕ) (u : Used) (r : InstRead) : Type 0 where
   pub log₀ : List ℕ
   pub strs₀ : List ℕ
-  pub decodes : Decodes s at x log₀ strs₀ log strs a b c r
+  pub decodes : Decodes s at x log₀ strs₀ log strs u r
 
--- an instruction that was read has these words, this opcode, and its row's operands from this place of the grammar on
-unfoldable pub ShapeIs : ℕ → ℕ → ℕ → InstRead → Type 0
-ShapeIs words op place (Got r) = (r .words ≡ words) × (r .opcode ≡ op) × (r .place ≡ place)
-ShapeIs words op place (Refused y) = Unit
+-- the frame of an instruction at a place that was read
+abbrev pub frameOf : ℕ → Decoded → Frame
+frameOf at r = record { at = at; words = r .words; opcode = r .opcode; place = r .place }
+
+-- an instruction that was read has this frame
+unfoldable pub ShapeIs : Frame → InstRead → Type 0
+ShapeIs f (Got r) = frameOf (f .at) r ≡ f
+ShapeIs f (Refused y) = Unit
 
 -- an instruction was read, by a row whose operands start at a place of the grammar
 pub record ByRow (g : List ℕ) (types : List Entry) (s : List ℕ) (at : ℕ) (x : Read Instr) (r : Decoded) : Type 0 where
   pub inside : r .place ≤ length g
   pub operands : every isOperand (slotsAt g (r .place)) ≡ true
-  pub body : x ≡ bodyRead (grammarOf g) types at (r .words) (r .opcode) (slotsAt g (r .place)) (readerAt s (at + 4) Unlimited)
+  pub body : x ≡ bodyRead g types s (frameOf at r)
 
 -- the row of an instruction that was read
 unfoldable pub RowIs : List ℕ → List Entry → List ℕ → ℕ → Read Instr → InstRead → Type 0

@@ -1,14 +1,14 @@
 -- The parser's answers, and the stores after those that are good, as what the reader of `spec` comes to.
 use Prim.Native.Nat.{ℕ, _+_, _*_, _-_, _%_, _≤_}
 use mathlib.Core.Path.{_≡_}
-use mathlib.Core.Bool.{Bool, false, _&&_, _||_}
+use mathlib.Core.Bool.{Bool, true, false, _&&_, _||_}
 use mathlib.Core.List.{List, [], _∷_, _++_}
 use mathlib.Core.Option.{Option, none, some}
 use lib.Dec.{eqb, ltb}
 use lib.ListN.{length, drop}
 use Rattle.spec.specs.declared.Limit.{Limit}
 use Rattle.spec.specs.declared.Limit.the-variants.{Unlimited, Words}
-use Rattle.spec.specs.Base.{if_then_else_, within, isIn}
+use Rattle.spec.specs.Base.{if_then_else_, within}
 use Rattle.spec.specs.Words.{bitsOf}
 use Rattle.spec.specs.Kinds.{isMask, isResult, mayBeOperand, mayBeParameter, mayEmbed}
 use Rattle.spec.specs.Grammar.{Grammar, Enumerant, Slot, slot, grammarOf, listed, parametersFor, parametersOf, slotsOf, items}
@@ -16,7 +16,7 @@ use Rattle.spec.specs.Records.{narrow, operandsLog, operandsStrings, Entry}
 use Rattle.spec.specs.Records as records
 use Rattle.spec.specs.Reader.{Read, got, refused, Parse, _>>=_, _into_, give, readWord}
 use Rattle.spec.specs.Types.{literalInt}
-use Rattle.spec.specs.Match.{Seen, selector, known, readEnumerant, readLiteral, readOperand, readEmbedded}
+use Rattle.spec.specs.Match.{Seen, selector, known, readEnumerant, literalKindOf, typeOf, readLiteralAs, readOperand, readEmbedded}
 use Rattle.operand.specs.declared.Parts.{Parts}
 use Rattle.operand.specs.Parts.{parts}
 use Rattle.operand.specs.Log.{recordLength, Laid}
@@ -25,9 +25,9 @@ use Rattle.decoder.specs.Answer.{readerOf}
 use Rattle.tracker.specs.Track.{FirstFit, literalOf}
 use Rattle.parser.specs.declared.used.Used.{Used}
 use Rattle.parser.specs.declared.used.Parsed.{Parsed}
-use Rattle.parser.specs.declared.used.Parsed.the-variants.{Good, Bad}
+use Rattle.parser.specs.declared.used.Parsed.the-variants.{Got, Refused}
 use Rattle.parser.specs.declared.operands.EnumRead.{EnumRead}
-use Rattle.parser.specs.declared.operands.EnumRead.the-variants.{Known as KnownAt, Unread}
+use Rattle.parser.specs.declared.operands.EnumRead.the-variants.{Got as Value, Refused as NoValue}
 
 -- WHAT IS NOTED OF OPERANDS
 
@@ -158,8 +158,8 @@ pub record Accepted (s : List ℕ) (d : Decoder) (m : ℕ) (x : Read (List recor
 
 -- the answer to a read that comes to x, so many bytes on or more, and the stores after it where it is good
 unfoldable pub Parses : List ℕ → Decoder → ℕ → Read (List records.Operand) → List ℕ → List ℕ → List ℕ → List ℕ → Used → Parsed → Type 0
-Parses s d m x log₀ strs₀ log strs u (Good e n) = Accepted s d m x log₀ strs₀ log strs u e n
-Parses s d m x log₀ strs₀ log strs u (Bad y e) = x ≡ refused y (readerOf s e)
+Parses s d m x log₀ strs₀ log strs u (Got e n) = Accepted s d m x log₀ strs₀ log strs u e n
+Parses s d m x log₀ strs₀ log strs u (Refused y e) = x ≡ refused y (readerOf s e)
 
 -- operands before those of the rest
 unfoldable pub prefix : List records.Operand → Read (List records.Operand) → Read (List records.Operand)
@@ -172,9 +172,13 @@ prefix a (refused y r) = refused y r
 unfoldable pub isSingle : ℕ → Bool
 isSingle k = mayBeParameter k || eqb k 37
 
--- the kinds that `parse_operand` reads: one record and its parameters, or a pair
-unfoldable pub isPlain : ℕ → Bool
-isPlain k = mayBeParameter k || within 50 k 51
+-- those of one word as it stands: ids and numbers, or a float literal of one word
+unfoldable pub isWord : ℕ → Bool
+isWord k = within 31 k 35 || eqb k 37
+
+-- the kinds that `parse_operand` reads, with no type, embedded operation or result: one record and its parameters, or a pair
+unfoldable pub isUntyped : ℕ → Bool
+isUntyped k = mayBeParameter k || within 50 k 51
 
 -- what a row's operand may be
 unfoldable pub isOperand : Slot → Bool
@@ -197,8 +201,8 @@ pub record KnownAs (s g : List ℕ) (k : ℕ) (d : Decoder) (v p : ℕ) (e : Dec
 
 -- what the read of an enumerant answers
 unfoldable pub EnumIs : List ℕ → List ℕ → ℕ → Decoder → EnumRead → Type 0
-EnumIs s g k d (KnownAt v p e) = KnownAs s g k d v p e
-EnumIs s g k d (Unread y e) = readEnumerant (grammarOf g) k (readerOf s d) ≡ refused y (readerOf s e)
+EnumIs s g k d (Value v p e) = KnownAs s g k d v p e
+EnumIs s g k d (NoValue y e) = readEnumerant (grammarOf g) k (readerOf s d) ≡ refused y (readerOf s e)
 
 -- the parameters that are listed, or none
 unfoldable pub orNone : Option (List ℕ) → List ℕ
@@ -226,16 +230,22 @@ kindIs k = if eqb k 0 then none else some k
 
 -- none, or a kind of a literal by type
 unfoldable pub isLiteral : ℕ → Bool
-isLiteral k = isIn k (0 ∷ 34 ∷ 36 ∷ 37 ∷ 38 ∷ [])
+isLiteral k = eqb k 0 || eqb k 34 || within 36 k 38
 
--- a literal by the type of an id, as the one operand
-unfoldable pub literalAlone : List Entry → Option ℕ → Parse (List records.Operand)
-literalAlone types id = readLiteral types id into (λ o. o ∷ [])
+-- the kind of the literal that an operand is read as, by the types: that of the result type for 48, of the first operand for 49
+pub record LiteralFor (types : List Entry) (u : Used) (k literal : ℕ) : Type 0 where
+  pub by-result : k ≡ 48 → kindIs literal ≡ literalKindOf (typeOf (wordIs (u .rtype)) types)
+  pub by-first : k ≡ 49 → kindIs literal ≡ literalKindOf (typeOf (selectorOf u) types)
+  pub known : isLiteral literal ≡ true
 
--- a literal by the type of an id, then an id
-unfoldable pub pairAlone : List Entry → Option ℕ → Parse (List records.Operand)
-pairAlone types id = do
-  o ← readLiteral types id
+-- a literal of a kind, as the one operand
+unfoldable pub literalAlone : Option ℕ → Parse (List records.Operand)
+literalAlone k = readLiteralAs k into (λ o. o ∷ [])
+
+-- a literal of a kind, then an id
+unfoldable pub pairAlone : Option ℕ → Parse (List records.Operand)
+pairAlone k = do
+  o ← readLiteralAs k
   w ← readWord
   give (o ∷ narrow 33 w ∷ [])
 
@@ -255,11 +265,11 @@ onceAlone g k = if isResult k then give [] else readOperand g k
 
 -- ROWS
 
--- an operand that is no result, by the result type and the id that the first operand is
-unfoldable pub kindAlone : Grammar → List Entry → Option ℕ → Option ℕ → ℕ → Parse (List records.Operand)
-kindAlone g types t i k =
-    if eqb k 48 then literalAlone types t
-    else if eqb k 49 then pairAlone types i
+-- an operand that is no result, where a literal by type is of a kind
+unfoldable pub kindAlone : Grammar → Option ℕ → ℕ → Parse (List records.Operand)
+kindAlone g literal k =
+    if eqb k 48 then literalAlone literal
+    else if eqb k 49 then pairAlone literal
     else if eqb k 39 then readEmbedded g
     else readOperand g k
 
@@ -267,27 +277,31 @@ kindAlone g types t i k =
 unfoldable pub noNotes : Notes
 noNotes = record { count = 0; first = none; second = none; id = none }
 
--- what was seen of a row is what was added, from these places on, to what is in use and, where it fits, to the stores; so many string
--- bytes stand before those of the store
-pub record Walked (log₀ strs₀ log strs : List ℕ) (a b c : ℕ) (n : Used) (x : Seen) : Type 0 where
+-- what was seen of a row is what was added to what was in use before it and, where it fits, to the stores
+pub record Walked (log₀ strs₀ log strs : List ℕ) (u n : Used) (x : Seen) : Type 0 where
   pub rtype : wordIs (n .rtype) ≡ x .resultType
   pub rid : wordIs (n .rid) ≡ x .resultId
-  pub base : n .base ≡ c
-  pub nlog : n .log ≡ a + length (operandsLog (c + b) (x .operands))
-  pub nstrings : n .strings ≡ b + length (operandsStrings (x .operands))
+  pub base : n .base ≡ u .base
+  pub nlog : n .log ≡ u .log + length (operandsLog (u .base + u .strings) (x .operands))
+  pub nstrings : n .strings ≡ u .strings + length (operandsStrings (x .operands))
   pub noted : notesOf n ≡ notes (x .operands) noNotes
-  pub log-laid : Laid log₀ a (operandsLog (c + b) (x .operands)) log
-  pub strings-laid : Laid strs₀ b (operandsStrings (x .operands)) strs
+  pub log-laid : Laid log₀ (u .log) (operandsLog (u .base + u .strings) (x .operands)) log
+  pub strings-laid : Laid strs₀ (u .strings) (operandsStrings (x .operands)) strs
 
--- a row was read to its end
-pub record RowRead (s : List ℕ) (d : Decoder) (x : Read Seen) (log₀ strs₀ log strs : List ℕ) (a b c : ℕ) (e : Decoder) (n : Used) : Type 0 where
+-- operands of a row were read, so many bytes on or more
+pub record RowRead (s : List ℕ) (d : Decoder) (m : ℕ) (x : Read Seen) (log₀ strs₀ log strs : List ℕ) (u : Used) (e : Decoder) (n : Used) : Type 0 where
   pub seen : Seen
   pub read : x ≡ got seen (readerOf s e)
-  pub walked : Walked log₀ strs₀ log strs a b c n seen
+  pub walked : Walked log₀ strs₀ log strs u n seen
   pub few : Few s e n
-  pub went : Went d e 0
+  pub went : Went d e m
 
--- the answer to the walk of a row that comes to x, and the stores after it where it is good
-unfoldable pub Walks : List ℕ → Decoder → Read Seen → List ℕ → List ℕ → List ℕ → List ℕ → ℕ → ℕ → ℕ → Parsed → Type 0
-Walks s d x log₀ strs₀ log strs a b c (Good e n) = RowRead s d x log₀ strs₀ log strs a b c e n
-Walks s d x log₀ strs₀ log strs a b c (Bad y e) = x ≡ refused y (readerOf s e)
+-- the answer to a walk over a row that comes to x, and the stores after it where it is good
+unfoldable pub Walks : List ℕ → Decoder → ℕ → Read Seen → List ℕ → List ℕ → List ℕ → List ℕ → Used → Parsed → Type 0
+Walks s d m x log₀ strs₀ log strs u (Got e n) = RowRead s d m x log₀ strs₀ log strs u e n
+Walks s d m x log₀ strs₀ log strs u (Refused y e) = x ≡ refused y (readerOf s e)
+
+-- the answer to the read of one operand of a row, a word or more, whatever the walk has seen so far
+unfoldable pub SlotWalks : List ℕ → Decoder → (Seen → Read Seen) → List ℕ → List ℕ → List ℕ → List ℕ → Used → Parsed → Type 0
+SlotWalks s d f log strs log₁ strs₁ u v =
+    (log₀ strs₀ : List ℕ) (u₀ : Used) (x : Seen) → Walked log₀ strs₀ log strs u₀ u x → Walks s d 4 (f x) log₀ strs₀ log₁ strs₁ u₀ v

@@ -12,12 +12,14 @@ ghost use Rattle.parser.specs.Parse.{Few, Parses, isOperand, isInner, on
 use crate::operands::parse_operand;
 use crate::used::Parsed;
 use crate::used::Used;
-use crate::used::bad;
 use crate::used::push;
+use crate::used::refused;
 use decoder::Decoder;
 use decoder::WordRead;
 use grammar::SlotAt;
 use spec::Found;
+use spec::kinds;
+use spec::refusals;
 
 // Whether each operand of the row that starts at a place may stand in an embedded row.
 fn may_embed(g: &[u8], place: usize) -> bool
@@ -30,7 +32,7 @@ fn may_embed(g: &[u8], place: usize) -> bool
         let SlotAt::Slot(k, _) = x else {
             return true;
         };
-        if (k == 39) | (k == 48) | (k == 49) {
+        if (k == kinds::EMBEDDED) | (k == kinds::TYPED_LITERAL) | (k == kinds::LITERAL_AND_ID) {
             return false;
         }
         p += 3;
@@ -54,7 +56,7 @@ fn parse_inner(
     ensures { λ r. ⌜ Parses (now (s .entry)) d 0 (onceAlone (grammarOf (now (g .entry))) kind (readerOf (now (s .entry)) d)) (now (log .entry)) (now (strings .entry)) (now (log .exit)) (now (strings .exit)) u r ⌝ }
 {
     if grammar::is_result(kind) {
-        return Parsed::Good(d, u);
+        return Parsed::Got(d, u);
     }
     parse_operand(d, s, g, index, kind, log, strings, u)
 }
@@ -80,17 +82,17 @@ fn parse_once(
     while p < g.len() {
         let x = grammar::slot_at(g, p);
         let SlotAt::Slot(kind, _) = x else {
-            return Parsed::Good(d, u);
+            return Parsed::Got(d, u);
         };
         let r = parse_inner(d, s, g, index, kind, log, strings, u);
-        let Parsed::Good(e, n) = r else {
+        let Parsed::Got(e, n) = r else {
             return r;
         };
         d = e;
         u = n;
         p += 3;
     }
-    Parsed::Good(d, u)
+    Parsed::Got(d, u)
 }
 
 // An operation inside OpSpecConstantOp: 13 where it has no row, 14 where its row may not be embedded.
@@ -109,17 +111,17 @@ pub fn parse_spec_constant_op(
 {
     let w = d.word(s);
     match w {
-        WordRead::Refused(x, e) => Parsed::Bad(x, e),
+        WordRead::Refused(x, e) => Parsed::Refused(x, e),
         WordRead::Got(v, e) => {
             let opcode = (v % 65536) as u16;
             let found = grammar::find_row(g, index, opcode);
             let Found::At(p) = found else {
-                return bad(13, e.offset, e);
+                return refused(refusals::EMBEDDED_OPCODE, e.offset, e);
             };
             if !may_embed(g, p) {
-                return bad(14, e.offset, e);
+                return refused(refusals::EMBEDDED_ROW, e.offset, e);
             }
-            let n = push(log, 39, opcode as u64, u);
+            let n = push(log, kinds::EMBEDDED, opcode as u64, u);
             parse_once(e, s, g, index, p, log, strings, n)
         }
     }

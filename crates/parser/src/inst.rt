@@ -1,10 +1,8 @@
 // One instruction.
 ghost use mathlib.Core.Path.{_≡_};
-ghost use mathlib.Core.Bool.{true};
-ghost use Prim.Native.Nat.{_+_, _*_, _≤_};
+ghost use Prim.Native.Nat.{_*_, _≤_};
 ghost use lib.ListN.{length};
 ghost use Rattle.spec.specs.declared.Limit.the-variants.{Unlimited};
-ghost use Rattle.spec.specs.Base.{every};
 ghost use Rattle.spec.specs.Reader.{refusal, readerAt};
 ghost use Rattle.spec.specs.Grammar.{grammarOf, rowOf};
 ghost use Rattle.spec.specs.Match.{readInstr};
@@ -12,12 +10,13 @@ ghost use Rattle.grammar.specs.Index.{Indexed};
 ghost use Rattle.grammar.specs.Find.{placeFound, rowFound};
 ghost use Rattle.tracker.specs.Entries.{entriesOf};
 ghost use Rattle.tracker.specs.Hints.{Hinted};
-ghost use Rattle.parser.specs.Parse.{isOperand, slotsAt};
+ghost use Rattle.parser.specs.Slots.{Fresh};
 ghost use Rattle.parser.specs.Inst.{Ended, Decodes, DecodesOver, ShapeIs, RowIs};
-ghost use Rattle.parser.specs.Body.{bodyRead};
+ghost use Rattle.parser.specs.Body.{Framed, bodyRead};
 use crate::rows::parse_operands;
 use crate::simple::Simple;
 use crate::simple::simple_operands;
+use crate::used::Frame;
 use crate::used::Parsed;
 use crate::used::Used;
 use crate::used::id_of;
@@ -27,6 +26,7 @@ use operand::Parts;
 use spec::Found;
 use spec::Limit;
 use spec::Refusal;
+use spec::refusals;
 use tracker::Id;
 use tracker::TypeTracker;
 
@@ -64,9 +64,12 @@ fn no_inst(number: u32, place: usize, value: u32) -> InstRead
 }
 
 // An instruction whose row was read: 7 where words are left over.
-fn finished(words: u16, opcode: u16, place: usize, e: Decoder, u: Used) -> InstRead
-    ensures { λ r. ⌜ Ended words opcode place e u r ⌝ }
+fn finished(frame: Frame, e: Decoder, u: Used) -> InstRead
+    ensures { λ r. ⌜ Ended frame e u r ⌝ }
 {
+    let opcode = frame.opcode;
+    let words = frame.words;
+    let place = frame.place;
     let rtype = id_of(u.rtype);
     let rid = id_of(u.rid);
     let operands = u.operands;
@@ -94,58 +97,44 @@ fn finished(words: u16, opcode: u16, place: usize, e: Decoder, u: Used) -> InstR
             strings,
         });
     }
-    no_inst(7, e.offset, 0)
+    no_inst(refusals::OPERAND_EXCEEDED, e.offset, 0)
 }
 
-// The instruction at a place after its first word: the operands of the row that starts at a place of the grammar, then 7 where words
-// are left over.
+// An instruction after its first word: the operands of its row, then 7 where words are left over.
 pub fn parse_body(
     s: &[u8],
-    at: usize,
     g: &[u8],
     index: &[u16],
     types: &[u32],
     hints: &[u16],
     tracker: TypeTracker,
-    words: u16,
-    opcode: u16,
-    place: usize,
+    frame: Frame,
     log: &mut [u8],
-    log_at: usize,
     strings: &mut [u8],
-    strings_at: usize,
-    base: usize,
+    used: Used,
 ) -> InstRead
     requires { ⌜ Indexed (now g) (now index) ⌝ }
-    requires { ⌜ (length (now s) ≤ 67108864) × (at + 4 ≤ length (now s)) × (1 ≤ words) × (3 * tracker .count ≤ length (now types)) ⌝ }
-    requires { ⌜ (4 * «log_at» ≤ 9 * at) × (base + «strings_at» ≤ at) ⌝ }
-    requires { ⌜ (place ≤ length (now g)) × (every isOperand (slotsAt (now g) place) ≡ true) ⌝ }
+    requires { ⌜ Framed (now s) (now g) frame × Fresh (frame .at) used ⌝ }
+    requires { ⌜ 3 * tracker .count ≤ length (now types) ⌝ }
     requires { ⌜ Hinted (tracker .count) (now types) (now hints) (tracker .greatest) ⌝ }
-    ensures { λ r. ⌜ Decodes (now (s .entry)) at (bodyRead (grammarOf (now (g .entry))) (entriesOf (tracker .count) (now (types .entry))) at words opcode (slotsAt (now (g .entry)) place) (readerAt (now (s .entry)) (at + 4) Unlimited)) (now (log .entry)) (now (strings .entry)) (now (log .exit)) (now (strings .exit)) «log_at» «strings_at» base r ⌝ }
-    ensures { λ r. ⌜ ShapeIs words opcode place r ⌝ }
+    ensures { λ r. ⌜ Decodes (now (s .entry)) (frame .at) (bodyRead (now (g .entry)) (entriesOf (tracker .count) (now (types .entry))) (now (s .entry)) frame) (now (log .entry)) (now (strings .entry)) (now (log .exit)) (now (strings .exit)) used r ⌝ }
+    ensures { λ r. ⌜ ShapeIs frame r ⌝ }
 {
-    let start = Decoder {
-        offset: at + 4,
-        limit: Limit::Words((words as usize) - 1),
-    };
     let parsed = parse_operands(
-        start,
         s,
         g,
         index,
         types,
         hints,
         tracker,
-        place,
+        frame,
         log,
-        log_at,
         strings,
-        strings_at,
-        base,
+        used,
     );
     match parsed {
-        Parsed::Bad(x, _) => InstRead::Refused(x),
-        Parsed::Good(e, u) => finished(words, opcode, place, e, u),
+        Parsed::Refused(x, _) => InstRead::Refused(x),
+        Parsed::Got(e, u) => finished(frame, e, u),
     }
 }
 
@@ -162,8 +151,8 @@ fn row_of(g: &[u8], index: &[u16], opcode: u16) -> Found
     }
 }
 
-// The instruction at a place, by the types known so far. Its operands' records go to the stores from the places given on, each where
-// it fits, and what else stands there may be written over; so many string bytes as the base says stand before those of the store.
+// The instruction at a place, by the types known so far. Its operands' records go to the stores from where the others are in use on, each
+// where it fits, and what else stands there may be written over.
 pub fn parse_inst(
     s: &[u8],
     at: usize,
@@ -173,16 +162,14 @@ pub fn parse_inst(
     hints: &[u16],
     tracker: TypeTracker,
     log: &mut [u8],
-    log_at: usize,
     strings: &mut [u8],
-    strings_at: usize,
-    base: usize,
+    used: Used,
 ) -> InstRead
     requires { ⌜ Indexed (now g) (now index) ⌝ }
-    requires { ⌜ (length (now s) ≤ 67108864) × (at ≤ length (now s)) × (3 * tracker .count ≤ length (now types)) ⌝ }
-    requires { ⌜ (4 * «log_at» ≤ 9 * at) × (base + «strings_at» ≤ at) ⌝ }
+    requires { ⌜ (length (now s) ≤ 67108864) × (at ≤ length (now s)) × Fresh at used ⌝ }
+    requires { ⌜ 3 * tracker .count ≤ length (now types) ⌝ }
     requires { ⌜ Hinted (tracker .count) (now types) (now hints) (tracker .greatest) ⌝ }
-    ensures { λ r. ⌜ DecodesOver (now (s .entry)) at (readInstr (grammarOf (now (g .entry))) (entriesOf (tracker .count) (now (types .entry))) (readerAt (now (s .entry)) at Unlimited)) (now (log .exit)) (now (strings .exit)) «log_at» «strings_at» base r ⌝ }
+    ensures { λ r. ⌜ DecodesOver (now (s .entry)) at (readInstr (grammarOf (now (g .entry))) (entriesOf (tracker .count) (now (types .entry))) (readerAt (now (s .entry)) at Unlimited)) (now (log .exit)) (now (strings .exit)) used r ⌝ }
     ensures { λ r. ⌜ RowIs (now (g .entry)) (entriesOf (tracker .count) (now (types .entry))) (now (s .entry)) at (readInstr (grammarOf (now (g .entry))) (entriesOf (tracker .count) (now (types .entry))) (readerAt (now (s .entry)) at Unlimited)) r ⌝ }
 {
     let start = Decoder {
@@ -196,50 +183,44 @@ pub fn parse_inst(
             let words = (w / 65536) as u16;
             let opcode = (w % 65536) as u16;
             if words == 0 {
-                return no_inst(4, at, 0);
+                return no_inst(refusals::NO_WORDS, at, 0);
             }
             let row = row_of(g, index, opcode);
             let Found::At(place) = row else {
-                return no_inst(5, at, opcode as u32);
+                return no_inst(refusals::OPCODE_UNKNOWN, at, opcode as u32);
             };
-            let body = Decoder {
-                offset: at + 4,
-                limit: Limit::Words((words as usize) - 1),
-            };
-            let simple = simple_operands(
-                body,
-                s,
-                g,
-                index,
-                types,
-                hints,
-                tracker,
-                place,
-                log,
-                log_at,
-                strings,
-                strings_at,
-                base,
-            );
-            if let Simple::On(e, u) = simple {
-                return finished(words, opcode, place, e, u);
-            }
-            parse_body(
-                s,
+            let frame = Frame {
                 at,
-                g,
-                index,
-                types,
-                hints,
-                tracker,
                 words,
                 opcode,
                 place,
+            };
+            let simple = simple_operands(
+                s,
+                g,
+                index,
+                types,
+                hints,
+                tracker,
+                frame,
                 log,
-                log_at,
                 strings,
-                strings_at,
-                base,
+                used,
+            );
+            if let Simple::Got(e, u) = simple {
+                return finished(frame, e, u);
+            }
+            parse_body(
+                s,
+                g,
+                index,
+                types,
+                hints,
+                tracker,
+                frame,
+                log,
+                strings,
+                used,
             )
         }
     }

@@ -11,3 +11,6 @@ pub use inst::Decoded;
 pub use inst::InstRead;
 pub use inst::parse_body;
 pub use inst::parse_inst;
+pub use used::Frame;
+pub use used::Used;
+pub use used::unused;

@@ -1,4 +1,4 @@
-// Literals by the type of an id.
+// Literals by the type of an id: of which kind, then read.
 ghost use mathlib.Core.Path.{_≡_};
 ghost use mathlib.Core.Bool.{true};
 ghost use Prim.Native.Nat.{_*_, _≤_};
@@ -9,14 +9,18 @@ ghost use Rattle.grammar.specs.Index.{Indexed};
 ghost use Rattle.tracker.specs.Entries.{entriesOf};
 ghost use Rattle.tracker.specs.Hints.{Hinted};
 ghost use Rattle.tracker.specs.Track.{idIs};
-ghost use Rattle.parser.specs.Parse.{Few, Parses, kindIs, isLiteral, literalAlone, pairAlone};
+ghost use Rattle.parser.specs.Parse.{FirstFits, Few, Parses, kindIs, isLiteral, LiteralFor, literalAlone, pairAlone};
 use crate::operands::read_one;
 use crate::used::Parsed;
 use crate::used::Used;
-use crate::used::bad;
+use crate::used::id_of;
 use crate::used::push;
+use crate::used::refused;
+use crate::used::selector_of;
 use decoder::Decoder;
 use decoder::LongRead;
+use spec::kinds;
+use spec::refusals;
 use tracker::Id;
 use tracker::Resolved;
 use tracker::TypeTracker;
@@ -26,10 +30,10 @@ fn float_kind(width: u32) -> u8
     ensures { λ r. ⌜ (kindIs r ≡ literalKind width 3) × (isLiteral r ≡ true) ⌝ }
 {
     if (width == 16) | (width == 32) {
-        return 37;
+        return kinds::FLOAT32;
     }
     if width == 64 {
-        return 38;
+        return kinds::FLOAT64;
     }
     0
 }
@@ -39,26 +43,26 @@ fn integer_kind(width: u32) -> u8
     ensures { λ r. ⌜ (kindIs r ≡ literalKind width 1) × (isLiteral r ≡ true) ⌝ }
 {
     if (width == 8) | (width == 16) | (width == 32) {
-        return 34;
+        return kinds::INT32;
     }
     if width == 64 {
-        return 36;
+        return kinds::INT64;
     }
     0
 }
 
 // The kind of a literal by the type of an id: one word where it is not known.
-pub fn literal_kind(types: &[u32], hints: &[u16], tracker: TypeTracker, id: Id) -> u8
+fn literal_kind(types: &[u32], hints: &[u16], tracker: TypeTracker, id: Id) -> u8
     requires { ⌜ 3 * tracker .count ≤ length (now types) ⌝ }
     requires { ⌜ Hinted (tracker .count) (now types) (now hints) (tracker .greatest) ⌝ }
     ensures { λ r. ⌜ (kindIs r ≡ literalKindOf (typeOf (idIs id) (entriesOf (tracker .count) (now (types .entry))))) × (isLiteral r ≡ true) ⌝ }
 {
     let Id::Is(i) = id else {
-        return 34;
+        return kinds::INT32;
     };
     let resolved = tracker.resolve(types, hints, i);
     match resolved {
-        Resolved::Unknown => 34,
+        Resolved::Unknown => kinds::INT32,
         Resolved::Type { width, sort } => {
             if sort == 3 {
                 return float_kind(width);
@@ -68,62 +72,71 @@ pub fn literal_kind(types: &[u32], hints: &[u16], tracker: TypeTracker, id: Id) 
     }
 }
 
-// A literal by the type of an id: 12 where its width is not supported, before a word is read.
+// The kind of the literal that an operand of a row is read as: by the result type, by the first operand; for any other operand nothing.
+pub fn literal_for(types: &[u32], hints: &[u16], tracker: TypeTracker, kind: u8, u: Used) -> u8
+    requires { ⌜ 3 * tracker .count ≤ length (now types) ⌝ }
+    requires { ⌜ Hinted (tracker .count) (now types) (now hints) (tracker .greatest) ⌝ }
+    requires { ⌜ FirstFits u ⌝ }
+    ensures { λ r. ⌜ LiteralFor (entriesOf (tracker .count) (now (types .entry))) u kind r ⌝ }
+{
+    if kind == kinds::TYPED_LITERAL {
+        let id = id_of(u.rtype);
+        return literal_kind(types, hints, tracker, id);
+    }
+    if kind == kinds::LITERAL_AND_ID {
+        let id = selector_of(u);
+        return literal_kind(types, hints, tracker, id);
+    }
+    0
+}
+
+// A literal of a kind: 12 where there is none, before a word is read.
 pub fn parse_literal(
     d: Decoder,
     s: &[u8],
     g: &[u8],
     index: &[u16],
-    types: &[u32],
-    hints: &[u16],
-    tracker: TypeTracker,
-    id: Id,
+    literal: u8,
     log: &mut [u8],
     strings: &mut [u8],
     u: Used,
 ) -> Parsed
     requires { ⌜ Indexed (now g) (now index) ⌝ }
-    requires { ⌜ Few (now s) d u × (3 * tracker .count ≤ length (now types)) ⌝ }
-    requires { ⌜ Hinted (tracker .count) (now types) (now hints) (tracker .greatest) ⌝ }
-    ensures { λ r. ⌜ Parses (now (s .entry)) d 4 (literalAlone (entriesOf (tracker .count) (now (types .entry))) (idIs id) (readerOf (now (s .entry)) d)) (now (log .entry)) (now (strings .entry)) (now (log .exit)) (now (strings .exit)) u r ⌝ }
+    requires { ⌜ Few (now s) d u × (isLiteral literal ≡ true) ⌝ }
+    ensures { λ r. ⌜ Parses (now (s .entry)) d 4 (literalAlone (kindIs literal) (readerOf (now (s .entry)) d)) (now (log .entry)) (now (strings .entry)) (now (log .exit)) (now (strings .exit)) u r ⌝ }
 {
-    let kind = literal_kind(types, hints, tracker, id);
-    if kind == 0 {
-        return bad(12, d.offset, d);
+    if literal == 0 {
+        return refused(refusals::WIDTH_UNSUPPORTED, d.offset, d);
     }
-    if (kind == 36) | (kind == 38) {
+    if (literal == kinds::INT64) | (literal == kinds::FLOAT64) {
         let long = d.int64(s);
         match long {
-            LongRead::Refused(x, e) => Parsed::Bad(x, e),
-            LongRead::Got(v, e) => Parsed::Good(e, push(log, kind, v, u)),
+            LongRead::Refused(x, e) => Parsed::Refused(x, e),
+            LongRead::Got(v, e) => Parsed::Got(e, push(log, literal, v, u)),
         }
     } else {
-        read_one(d, s, g, index, kind, log, strings, u)
+        read_one(d, s, g, index, literal, log, strings, u)
     }
 }
 
-// A literal by the type of an id, then an id.
+// A literal of a kind, then an id.
 pub fn parse_literal_pair(
     d: Decoder,
     s: &[u8],
     g: &[u8],
     index: &[u16],
-    types: &[u32],
-    hints: &[u16],
-    tracker: TypeTracker,
-    id: Id,
+    literal: u8,
     log: &mut [u8],
     strings: &mut [u8],
     u: Used,
 ) -> Parsed
     requires { ⌜ Indexed (now g) (now index) ⌝ }
-    requires { ⌜ Few (now s) d u × (3 * tracker .count ≤ length (now types)) ⌝ }
-    requires { ⌜ Hinted (tracker .count) (now types) (now hints) (tracker .greatest) ⌝ }
-    ensures { λ r. ⌜ Parses (now (s .entry)) d 4 (pairAlone (entriesOf (tracker .count) (now (types .entry))) (idIs id) (readerOf (now (s .entry)) d)) (now (log .entry)) (now (strings .entry)) (now (log .exit)) (now (strings .exit)) u r ⌝ }
+    requires { ⌜ Few (now s) d u × (isLiteral literal ≡ true) ⌝ }
+    ensures { λ r. ⌜ Parses (now (s .entry)) d 4 (pairAlone (kindIs literal) (readerOf (now (s .entry)) d)) (now (log .entry)) (now (strings .entry)) (now (log .exit)) (now (strings .exit)) u r ⌝ }
 {
-    let r = parse_literal(d, s, g, index, types, hints, tracker, id, log, strings, u);
-    let Parsed::Good(e, n) = r else {
+    let r = parse_literal(d, s, g, index, literal, log, strings, u);
+    let Parsed::Got(e, n) = r else {
         return r;
     };
-    read_one(e, s, g, index, 33, log, strings, n)
+    read_one(e, s, g, index, kinds::ID_REF, log, strings, n)
 }

@@ -5,14 +5,14 @@ ghost use mathlib.Core.List.{List, _∷_, []};
 ghost use Prim.Native.Nat.{ℕ, _≤_};
 ghost use lib.ListN.{length};
 ghost use Rattle.spec.specs.Base.{every};
-ghost use Rattle.spec.specs.Kinds.{isEnum, isMask};
+ghost use Rattle.spec.specs.Kinds.{isMask};
 ghost use Rattle.spec.specs.Reader.{refusal};
 ghost use Rattle.spec.specs.Words.{bitsOf};
 ghost use Rattle.spec.specs.Grammar.{Grammar, grammarOf, listed};
 ghost use Rattle.spec.specs.Match.{readEach, readOperand};
 ghost use Rattle.decoder.specs.Answer.{readerOf};
 ghost use Rattle.grammar.specs.Index.{Indexed};
-ghost use Rattle.parser.specs.Parse.{EnumIs, Few, Parses, isSingle, isPlain, orNone, ifSet, bitParameters, parametersAre, parametersAt};
+ghost use Rattle.parser.specs.Parse.{EnumIs, Few, Parses, isSingle, isWord, isUntyped, orNone, ifSet, bitParameters, parametersAre, parametersAt};
 use crate::used::Parsed;
 use crate::used::Used;
 use crate::used::push;
@@ -23,23 +23,25 @@ use decoder::WordRead;
 use grammar::ParameterAt;
 use spec::Found;
 use spec::Refusal;
+use spec::kinds;
+use spec::refusals;
 
 // A value that is known, and where its parameters start unless it is a mask, or a refusal; each with the decoder after it.
 pub enum EnumRead {
-    Known(u32, usize, Decoder),
-    Unread(Refusal, Decoder),
+    Got(u32, usize, Decoder),
+    Refused(Refusal, Decoder),
 }
 
 // A refusal with a value.
-fn unread(number: u32, place: usize, value: u32, d: Decoder) -> EnumRead
-    ensures { λ r. ⌜ r ≡ EnumRead.Unread (refusal number place value) d ⌝ }
+fn no_enumerant(number: u32, place: usize, value: u32, d: Decoder) -> EnumRead
+    ensures { λ r. ⌜ r ≡ EnumRead.Refused (refusal number place value) d ⌝ }
 {
     let refusal = Refusal {
         number,
         place,
         value,
     };
-    EnumRead::Unread(refusal, d)
+    EnumRead::Refused(refusal, d)
 }
 
 // An enumerant's word: 9 on a spent limit, 10 where the value is not known.
@@ -49,36 +51,36 @@ fn read_enumerant(d: Decoder, s: &[u8], g: &[u8], index: &[u16], kind: u8) -> En
 {
     let at = d.offset;
     if d.limit_reached() {
-        return unread(9, at, 0, d);
+        return no_enumerant(refusals::STREAM_ENDED, at, 0, d);
     }
     let w = d.word(s);
     match w {
-        WordRead::Refused(x, e) => EnumRead::Unread(x, e),
+        WordRead::Refused(x, e) => EnumRead::Refused(x, e),
         WordRead::Got(v, e) => {
             if grammar::is_mask(kind) {
                 if grammar::is_known(g, index, kind, v) {
-                    return EnumRead::Known(v, g.len(), e);
+                    return EnumRead::Got(v, g.len(), e);
                 }
-                return unread(10, at, v, e);
+                return no_enumerant(refusals::ENUMERANT_UNKNOWN, at, v, e);
             }
             let found = grammar::find_enumerant(g, index, kind, v);
             let Found::At(place) = found else {
-                return unread(10, at, v, e);
+                return no_enumerant(refusals::ENUMERANT_UNKNOWN, at, v, e);
             };
-            EnumRead::Known(v, place, e)
+            EnumRead::Got(v, place, e)
         }
     }
 }
 
 // One record of a word.
 pub fn read_word(d: Decoder, s: &[u8], kind: u8, log: &mut [u8], u: Used) -> Parsed
-    requires { ⌜ Few (now s) d u × (isSingle kind ≡ true) × (isEnum kind ≡ false) × (kind ≡ 40 → ⊥) ⌝ }
+    requires { ⌜ Few (now s) d u × (isWord kind ≡ true) ⌝ }
     ensures { λ r. ⌜ ((g : Grammar) (t : List ℕ) → Parses (now (s .entry)) d 4 (readEach g (kind ∷ []) (readerOf (now (s .entry)) d)) (now (log .entry)) t (now (log .exit)) t u r) ⌝ }
 {
     let w = d.word(s);
     match w {
-        WordRead::Refused(x, e) => Parsed::Bad(x, e),
-        WordRead::Got(v, e) => Parsed::Good(e, push(log, kind, v as u64, u)),
+        WordRead::Refused(x, e) => Parsed::Refused(x, e),
+        WordRead::Got(v, e) => Parsed::Got(e, push(log, kind, v as u64, u)),
     }
 }
 
@@ -100,18 +102,18 @@ pub fn read_one(
     if grammar::is_enum(kind) {
         let r = read_enumerant(d, s, g, index, kind);
         match r {
-            EnumRead::Unread(x, e) => Parsed::Bad(x, e),
-            EnumRead::Known(v, _, e) => Parsed::Good(e, push(log, kind, v as u64, u)),
+            EnumRead::Refused(x, e) => Parsed::Refused(x, e),
+            EnumRead::Got(v, _, e) => Parsed::Got(e, push(log, kind, v as u64, u)),
         }
     } else {
-        if kind == 40 {
+        if kind == kinds::STRING {
             let t = d.string(s);
             match t {
-                TextRead::Refused(x, e) => Parsed::Bad(x, e),
+                TextRead::Refused(x, e) => Parsed::Refused(x, e),
                 TextRead::Got(x) => {
                     let e = x.next;
                     let n = push_text(log, strings, s, x.start, x.length, u);
-                    Parsed::Good(e, n)
+                    Parsed::Got(e, n)
                 }
             }
         } else {
@@ -141,17 +143,17 @@ pub fn parse_parameters(
     while p < g.len() {
         let x = grammar::parameter_at(g, p);
         let ParameterAt::Parameter(k) = x else {
-            return Parsed::Good(d, u);
+            return Parsed::Got(d, u);
         };
         let r = read_one(d, s, g, index, k, log, strings, u);
-        let Parsed::Good(e, n) = r else {
+        let Parsed::Got(e, n) = r else {
             return r;
         };
         d = e;
         u = n;
         p += 2;
     }
-    Parsed::Good(d, u)
+    Parsed::Got(d, u)
 }
 
 // The parameters of the enumerant of a kind and a value: none where it is not listed.
@@ -172,7 +174,7 @@ fn parse_listed(
 {
     let found = grammar::find_enumerant(g, index, kind, value);
     let Found::At(p) = found else {
-        return Parsed::Good(d, u);
+        return Parsed::Got(d, u);
     };
     parse_parameters(d, s, g, index, p, log, strings, u)
 }
@@ -195,7 +197,7 @@ fn parse_bit(
     ensures { λ r. ⌜ Parses (now (s .entry)) d 0 (readEach (grammarOf (now (g .entry))) (ifSet kind bit rest (grammarOf (now (g .entry)) .enumerants)) (readerOf (now (s .entry)) d)) (now (log .entry)) (now (strings .entry)) (now (log .exit)) (now (strings .exit)) u r ⌝ }
 {
     if rest % 2 != 1 {
-        return Parsed::Good(d, u);
+        return Parsed::Got(d, u);
     }
     parse_listed(d, s, g, index, kind, bit, log, strings, u)
 }
@@ -222,7 +224,7 @@ fn parse_bits(
     let mut bit: u64 = 1;
     while rest != 0 {
         let r = parse_bit(d, s, g, index, kind, bit as u32, rest, log, strings, u);
-        let Parsed::Good(e, n) = r else {
+        let Parsed::Got(e, n) = r else {
             return r;
         };
         d = e;
@@ -230,7 +232,7 @@ fn parse_bits(
         rest = rest / 2;
         bit = 2 * bit;
     }
-    Parsed::Good(d, u)
+    Parsed::Got(d, u)
 }
 
 // The parameters of a value, which start at a place unless it is a mask.
@@ -272,8 +274,8 @@ fn parse_pair(
     requires { ⌜ Few (now s) d u × (isSingle second ≡ true) ⌝ }
     ensures { λ r. ⌜ Parses (now (s .entry)) d 4 (readEach (grammarOf (now (g .entry))) (33 ∷ second ∷ []) (readerOf (now (s .entry)) d)) (now (log .entry)) (now (strings .entry)) (now (log .exit)) (now (strings .exit)) u r ⌝ }
 {
-    let r = read_one(d, s, g, index, 33, log, strings, u);
-    let Parsed::Good(e, n) = r else {
+    let r = read_one(d, s, g, index, kinds::ID_REF, log, strings, u);
+    let Parsed::Got(e, n) = r else {
         return r;
     };
     read_one(e, s, g, index, second, log, strings, n)
@@ -291,24 +293,24 @@ pub fn parse_operand(
     u: Used,
 ) -> Parsed
     requires { ⌜ Indexed (now g) (now index) ⌝ }
-    requires { ⌜ Few (now s) d u × (isPlain kind ≡ true) ⌝ }
+    requires { ⌜ Few (now s) d u × (isUntyped kind ≡ true) ⌝ }
     ensures { λ r. ⌜ Parses (now (s .entry)) d 4 (readOperand (grammarOf (now (g .entry))) kind (readerOf (now (s .entry)) d)) (now (log .entry)) (now (strings .entry)) (now (log .exit)) (now (strings .exit)) u r ⌝ }
 {
     if grammar::is_enum(kind) {
         let r = read_enumerant(d, s, g, index, kind);
         match r {
-            EnumRead::Unread(x, e) => Parsed::Bad(x, e),
-            EnumRead::Known(v, place, e) => {
+            EnumRead::Refused(x, e) => Parsed::Refused(x, e),
+            EnumRead::Got(v, place, e) => {
                 let n = push(log, kind, v as u64, u);
                 parse_values(e, s, g, index, kind, v, place, log, strings, n)
             }
         }
     } else {
-        if kind == 50 {
-            return parse_pair(d, s, g, index, 34, log, strings, u);
+        if kind == kinds::ID_AND_LITERAL {
+            return parse_pair(d, s, g, index, kinds::INT32, log, strings, u);
         }
-        if kind == 51 {
-            return parse_pair(d, s, g, index, 33, log, strings, u);
+        if kind == kinds::ID_AND_ID {
+            return parse_pair(d, s, g, index, kinds::ID_REF, log, strings, u);
         }
         read_one(d, s, g, index, kind, log, strings, u)
     }

@@ -1,31 +1,30 @@
 // Rows of simple operands, which most instructions have: results, ids and numbers, values with their parameters, strings, and literals of
 // one word. They are read in one short loop; an instruction with any other operand, or with a fault, is passed over.
 ghost use mathlib.Core.Path.{_≡_};
-ghost use mathlib.Core.Bool.{true, false};
+ghost use mathlib.Core.Bool.{true};
 ghost use mathlib.Core.List.{List, _∷_, []};
-ghost use Prim.Native.Nat.{ℕ, _+_, _*_, _≤_};
+ghost use Prim.Native.Nat.{ℕ, _*_, _≤_};
 ghost use lib.ListN.{length};
-ghost use Rattle.spec.specs.declared.Limit.the-variants.{Words};
-ghost use Rattle.spec.specs.Base.{every};
 ghost use Rattle.spec.specs.Kinds.{isEnum};
+ghost use Rattle.spec.specs.Records.{Entry};
 ghost use Rattle.spec.specs.Grammar.{Grammar, grammarOf};
-ghost use Rattle.spec.specs.Match.{nothingSeen, readEach, readOperand, readRow, readSlot};
+ghost use Rattle.spec.specs.Match.{readEach, readOperand, readSlot};
 ghost use Rattle.decoder.specs.declared.WordRead.the-variants.{Got};
 ghost use Rattle.decoder.specs.Answer.{readerOf, wordFrom};
 ghost use Rattle.grammar.specs.Index.{Indexed};
 ghost use Rattle.tracker.specs.Entries.{entriesOf};
 ghost use Rattle.tracker.specs.Hints.{Hinted};
-ghost use Rattle.tracker.specs.Track.{idIs};
-ghost use Rattle.parser.specs.Parse.{Few, isSingle, isOperand, slotsAt, leftOf, literalAlone};
-ghost use Rattle.parser.specs.Simple.{There, Takes, Reads, SlotReads, RowReads};
-use crate::literals::literal_kind;
+ghost use Rattle.parser.specs.Parse.{Few, Parses, Walks, SlotWalks, leftOf, isWord, kindIs, LiteralFor, literalAlone};
+ghost use Rattle.parser.specs.Slots.{Fresh};
+ghost use Rattle.parser.specs.Body.{Framed, startOf, rowRead};
+ghost use Rattle.parser.specs.Simple.{There, IfTaken};
+use crate::literals::literal_for;
 use crate::operands::parse_parameters;
 use crate::rows::next_place;
-use crate::rows::nothing_used;
 use crate::rows::with_result;
+use crate::used::Frame;
 use crate::used::Parsed;
 use crate::used::Used;
-use crate::used::id_of;
 use crate::used::push;
 use crate::used::push_text;
 use crate::used::there;
@@ -35,12 +34,12 @@ use grammar::ParameterAt;
 use grammar::SlotAt;
 use spec::Found;
 use spec::Limit;
-use tracker::Id;
+use spec::kinds;
 use tracker::TypeTracker;
 
 // Operands that were read, with the decoder after them; or passed over.
 pub enum Simple {
-    On(Decoder, Used),
+    Got(Decoder, Used),
     Pass,
 }
 
@@ -78,9 +77,9 @@ fn next_word(d: Decoder, s: &[u8]) -> Next
 
 // What was parsed, taken where it is good.
 fn taken(r: Parsed) -> Simple
-    ensures { λ x. ⌜ Takes r x ⌝ }
+    ensures { λ x. ⌜ IfTaken (λ v. r ≡ v) x ⌝ }
 {
-    let Parsed::Good(e, n) = r else {
+    let Parsed::Got(e, n) = r else {
         return Simple::Pass;
     };
     let limit = e.limit;
@@ -91,25 +90,25 @@ fn taken(r: Parsed) -> Simple
         offset: e.offset,
         limit: Limit::Words(left),
     };
-    Simple::On(after, n)
+    Simple::Got(after, n)
 }
 
 // One record of a word.
 fn simple_word(d: Decoder, s: &[u8], kind: u8, log: &mut [u8], u: Used) -> Simple
-    requires { ⌜ Few (now s) d u × (isSingle kind ≡ true) × (isEnum kind ≡ false) × (kind ≡ 40 → ⊥) ⌝ }
+    requires { ⌜ Few (now s) d u × (isWord kind ≡ true) ⌝ }
     requires { ⌜ There (now s) d ⌝ }
-    ensures { λ r. ⌜ ((g : Grammar) (t : List ℕ) → Reads (now (s .entry)) d (readEach g (kind ∷ []) (readerOf (now (s .entry)) d)) (now (log .entry)) t (now (log .exit)) t u r) ⌝ }
+    ensures { λ r. ⌜ ((g : Grammar) (t : List ℕ) → IfTaken (Parses (now (s .entry)) d 4 (readEach g (kind ∷ []) (readerOf (now (s .entry)) d)) (now (log .entry)) t (now (log .exit)) t u) r) ⌝ }
 {
     let x = next_word(d, s);
     let e = x.after;
     let n = push(log, kind, x.word as u64, u);
-    Simple::On(e, n)
+    Simple::Got(e, n)
 }
 
 // A string.
 fn simple_text(d: Decoder, s: &[u8], log: &mut [u8], strings: &mut [u8], u: Used) -> Simple
     requires { ⌜ Few (now s) d u ⌝ }
-    ensures { λ r. ⌜ ((g : Grammar) → Reads (now (s .entry)) d (readEach g (40 ∷ []) (readerOf (now (s .entry)) d)) (now (log .entry)) (now (strings .entry)) (now (log .exit)) (now (strings .exit)) u r) ⌝ }
+    ensures { λ r. ⌜ ((g : Grammar) → IfTaken (Parses (now (s .entry)) d 4 (readEach g (40 ∷ []) (readerOf (now (s .entry)) d)) (now (log .entry)) (now (strings .entry)) (now (log .exit)) (now (strings .exit)) u) r) ⌝ }
 {
     let t = d.string(s);
     let TextRead::Got(x) = t else {
@@ -117,28 +116,17 @@ fn simple_text(d: Decoder, s: &[u8], log: &mut [u8], strings: &mut [u8], u: Used
     };
     let e = x.next;
     let n = push_text(log, strings, s, x.start, x.length, u);
-    taken(Parsed::Good(e, n))
+    taken(Parsed::Got(e, n))
 }
 
-// A literal of one word, by the type of an id.
-fn simple_literal(
-    d: Decoder,
-    s: &[u8],
-    types: &[u32],
-    hints: &[u16],
-    tracker: TypeTracker,
-    id: Id,
-    log: &mut [u8],
-    u: Used,
-) -> Simple
-    requires { ⌜ Few (now s) d u × (3 * tracker .count ≤ length (now types)) ⌝ }
+// A literal of a kind, where that is one word.
+fn simple_literal(d: Decoder, s: &[u8], literal: u8, log: &mut [u8], u: Used) -> Simple
+    requires { ⌜ Few (now s) d u ⌝ }
     requires { ⌜ There (now s) d ⌝ }
-    requires { ⌜ Hinted (tracker .count) (now types) (now hints) (tracker .greatest) ⌝ }
-    ensures { λ r. ⌜ ((t : List ℕ) → Reads (now (s .entry)) d (literalAlone (entriesOf (tracker .count) (now (types .entry))) (idIs id) (readerOf (now (s .entry)) d)) (now (log .entry)) t (now (log .exit)) t u r) ⌝ }
+    ensures { λ r. ⌜ ((t : List ℕ) → IfTaken (Parses (now (s .entry)) d 4 (literalAlone (kindIs literal) (readerOf (now (s .entry)) d)) (now (log .entry)) t (now (log .exit)) t u) r) ⌝ }
 {
-    let kind = literal_kind(types, hints, tracker, id);
-    if (kind == 34) | (kind == 37) {
-        return simple_word(d, s, kind, log, u);
+    if (literal == kinds::INT32) | (literal == kinds::FLOAT32) {
+        return simple_word(d, s, literal, log, u);
     }
     Simple::Pass
 }
@@ -157,7 +145,7 @@ fn simple_value(
     requires { ⌜ Indexed (now g) (now index) ⌝ }
     requires { ⌜ Few (now s) d u × (isEnum kind ≡ true) ⌝ }
     requires { ⌜ There (now s) d ⌝ }
-    ensures { λ r. ⌜ Reads (now (s .entry)) d (readOperand (grammarOf (now (g .entry))) kind (readerOf (now (s .entry)) d)) (now (log .entry)) (now (strings .entry)) (now (log .exit)) (now (strings .exit)) u r ⌝ }
+    ensures { λ r. ⌜ IfTaken (Parses (now (s .entry)) d 4 (readOperand (grammarOf (now (g .entry))) kind (readerOf (now (s .entry)) d)) (now (log .entry)) (now (strings .entry)) (now (log .exit)) (now (strings .exit)) u) r ⌝ }
 {
     let w = next_word(d, s);
     let value = w.word;
@@ -166,7 +154,7 @@ fn simple_value(
         if value != 0 {
             return Simple::Pass;
         }
-        return Simple::On(e, push(log, kind, 0, u));
+        return Simple::Got(e, push(log, kind, 0, u));
     }
     let found = grammar::guess_enumerant(g, index, kind, value);
     let Found::At(place) = found else {
@@ -175,35 +163,32 @@ fn simple_value(
     let n = push(log, kind, value as u64, u);
     let x = grammar::parameter_at(g, place);
     let ParameterAt::Parameter(_) = x else {
-        return Simple::On(e, n);
+        return Simple::Got(e, n);
     };
     taken(parse_parameters(e, s, g, index, place, log, strings, n))
 }
 
-// An operand of a row.
+// An operand of a row, where a literal by type is of a kind.
 fn simple_slot(
     d: Decoder,
     s: &[u8],
     g: &[u8],
     index: &[u16],
-    types: &[u32],
-    hints: &[u16],
-    tracker: TypeTracker,
     kind: u8,
+    literal: u8,
     log: &mut [u8],
     strings: &mut [u8],
     u: Used,
 ) -> Simple
     requires { ⌜ Indexed (now g) (now index) ⌝ }
-    requires { ⌜ Few (now s) d u × (3 * tracker .count ≤ length (now types)) ⌝ }
+    requires { ⌜ Few (now s) d u ⌝ }
     requires { ⌜ There (now s) d ⌝ }
-    requires { ⌜ Hinted (tracker .count) (now types) (now hints) (tracker .greatest) ⌝ }
-    ensures { λ r. ⌜ SlotReads (now (s .entry)) d (λ x. readSlot (grammarOf (now (g .entry))) (entriesOf (tracker .count) (now (types .entry))) x kind (readerOf (now (s .entry)) d)) (now (log .entry)) (now (strings .entry)) (now (log .exit)) (now (strings .exit)) u r ⌝ }
+    ensures { λ r. ⌜ ((types : List Entry) → LiteralFor types u kind literal → IfTaken (SlotWalks (now (s .entry)) d (λ x. readSlot (grammarOf (now (g .entry))) types x kind (readerOf (now (s .entry)) d)) (now (log .entry)) (now (strings .entry)) (now (log .exit)) (now (strings .exit)) u) r) ⌝ }
 {
     if grammar::is_result(kind) {
         let x = next_word(d, s);
         let e = x.after;
-        return Simple::On(e, with_result(u, kind, there(x.word)));
+        return Simple::Got(e, with_result(u, kind, there(x.word)));
     }
     if (31 <= kind) & (kind <= 35) {
         return simple_word(d, s, kind, log, u);
@@ -211,65 +196,62 @@ fn simple_slot(
     if grammar::is_enum(kind) {
         return simple_value(d, s, g, index, kind, log, strings, u);
     }
-    if kind == 40 {
+    if kind == kinds::STRING {
         return simple_text(d, s, log, strings, u);
     }
-    if kind == 48 {
-        let id = id_of(u.rtype);
-        return simple_literal(d, s, types, hints, tracker, id, log, u);
+    if kind == kinds::TYPED_LITERAL {
+        return simple_literal(d, s, literal, log, u);
     }
     Simple::Pass
 }
 
-// The operands of the row that starts at a place of the grammar, up to the limit, where all are simple.
+// The operands of an instruction by its row, up to its end, where all are simple.
 pub fn simple_operands(
-    start: Decoder,
     s: &[u8],
     g: &[u8],
     index: &[u16],
     types: &[u32],
     hints: &[u16],
     tracker: TypeTracker,
-    place: usize,
+    frame: Frame,
     log: &mut [u8],
-    log_at: usize,
     strings: &mut [u8],
-    strings_at: usize,
-    base: usize,
+    used: Used,
 ) -> Simple
     requires { ⌜ Indexed (now g) (now index) ⌝ }
-    requires { ⌜ (length (now s) ≤ 67108864) × (start .offset ≤ length (now s)) × (start .limit ≡ Words (leftOf (start .limit))) × (3 * tracker .count ≤ length (now types)) ⌝ }
-    requires { ⌜ (4 * «log_at» ≤ 9 * start .offset) × (base + «strings_at» ≤ start .offset) ⌝ }
-    requires { ⌜ (place ≤ length (now g)) × (every isOperand (slotsAt (now g) place) ≡ true) ⌝ }
+    requires { ⌜ Framed (now s) (now g) frame × Fresh (frame .at) used ⌝ }
+    requires { ⌜ 3 * tracker .count ≤ length (now types) ⌝ }
     requires { ⌜ Hinted (tracker .count) (now types) (now hints) (tracker .greatest) ⌝ }
-    requires { ⌜ leftOf (start .limit) ≤ 65535 ⌝ }
-    ensures { λ r. ⌜ RowReads (now (s .entry)) start (readRow (grammarOf (now (g .entry))) (entriesOf (tracker .count) (now (types .entry))) (leftOf (start .limit)) (slotsAt (now (g .entry)) place) nothingSeen (readerOf (now (s .entry)) start)) (now (log .entry)) (now (strings .entry)) (now (log .exit)) (now (strings .exit)) «log_at» «strings_at» base r ⌝ }
+    ensures { λ r. ⌜ IfTaken (Walks (now (s .entry)) (startOf frame) 0 (rowRead (now (g .entry)) (entriesOf (tracker .count) (now (types .entry))) (now (s .entry)) (startOf frame) (frame .place)) (now (log .entry)) (now (strings .entry)) (now (log .exit)) (now (strings .exit)) used) r ⌝ }
 {
-    let limit = start.limit;
-    if s.len() - start.offset < 4 * words_left(limit) {
+    let mut d = Decoder {
+        offset: frame.at + 4,
+        limit: Limit::Words((frame.words as usize) - 1),
+    };
+    if s.len() - d.offset < 4 * ((frame.words as usize) - 1) {
         return Simple::Pass;
     }
-    let mut d = start;
-    let mut u = nothing_used(log_at, strings_at, base);
-    let mut p = place;
+    let mut u = used;
+    let mut p = frame.place;
     while p < g.len() {
         let x = grammar::slot_at(g, p);
         let SlotAt::Slot(k, q) = x else {
-            return Simple::On(d, u);
+            return Simple::Got(d, u);
         };
         if d.limit_reached() {
             if q == 0 {
                 return Simple::Pass;
             }
-            return Simple::On(d, u);
+            return Simple::Got(d, u);
         }
-        let r = simple_slot(d, s, g, index, types, hints, tracker, k, log, strings, u);
-        let Simple::On(e, n) = r else {
+        let literal = literal_for(types, hints, tracker, k, u);
+        let r = simple_slot(d, s, g, index, k, literal, log, strings, u);
+        let Simple::Got(e, n) = r else {
             return Simple::Pass;
         };
         d = e;
         u = n;
         p = next_place(p, q);
     }
-    Simple::On(d, u)
+    Simple::Got(d, u)
 }

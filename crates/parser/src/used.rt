@@ -1,4 +1,4 @@
-// What an instruction has come to so far, and one record more.
+// The frame of an instruction, what it has come to so far, and one record more.
 ghost use mathlib.Core.Path.{_≡_};
 ghost use mathlib.Core.Option.{some};
 ghost use Prim.Native.Nat.{_+_, _*_, _≤_};
@@ -8,11 +8,21 @@ ghost use Rattle.spec.specs.Reader.{refusal};
 ghost use Rattle.operand.specs.Parts.{parts, Fits};
 ghost use Rattle.operand.specs.Log.{recordOf, recordLength, Laid};
 ghost use Rattle.tracker.specs.Track.{idIs};
-ghost use Rattle.parser.specs.Parse.{wordIs, Pushed, Copied};
+ghost use Rattle.parser.specs.Parse.{wordIs, FirstFits, selectorOf, Pushed, Copied};
+ghost use Rattle.parser.specs.Slots.{unused};
 use decoder::Decoder;
 use operand::Parts;
 use spec::Refusal;
+use spec::kinds;
 use tracker::Id;
+
+// An instruction: where it begins, its words, its opcode, and where its row's operands start in the grammar.
+pub struct Frame {
+    pub at: usize,
+    pub words: u16,
+    pub opcode: u16,
+    pub place: usize,
+}
 
 // The results and the operands of an instruction so far: how many operands, kind and value of the first and of the second, how much of
 // the operand log and of the string bytes is in use, and how many string bytes there are before those of the store. A result that may be
@@ -32,20 +42,38 @@ pub struct Used {
 
 // Operands that were read, or a refusal; each with the decoder after it.
 pub enum Parsed {
-    Good(Decoder, Used),
-    Bad(Refusal, Decoder),
+    Got(Decoder, Used),
+    Refused(Refusal, Decoder),
+}
+
+// What is in use where an instruction begins, from these places of log and strings on, with so many string bytes before those of the store.
+pub fn unused(log: usize, strings: usize, base: usize) -> Used
+    ensures { λ r. ⌜ r ≡ unused «log» «strings» base ⌝ }
+{
+    Used {
+        rtype: 0,
+        rid: 0,
+        operands: 0,
+        kind1: 0,
+        value1: 0,
+        kind2: 0,
+        value2: 0,
+        log,
+        strings,
+        base,
+    }
 }
 
 // A refusal without a value.
-pub fn bad(number: u32, place: usize, d: Decoder) -> Parsed
-    ensures { λ r. ⌜ r ≡ Parsed.Bad (refusal number place 0) d ⌝ }
+pub fn refused(number: u32, place: usize, d: Decoder) -> Parsed
+    ensures { λ r. ⌜ r ≡ Parsed.Refused (refusal number place 0) d ⌝ }
 {
     let refusal = Refusal {
         number,
         place,
         value: 0,
     };
-    Parsed::Bad(refusal, d)
+    Parsed::Refused(refusal, d)
 }
 
 // A word that is there.
@@ -65,60 +93,39 @@ pub fn id_of(x: u64) -> Id
     Id::Is((x % 4294967296) as u32)
 }
 
+// The id that the first operand is, where it is one.
+pub fn selector_of(u: Used) -> Id
+    requires { ⌜ FirstFits u ⌝ }
+    ensures { λ r. ⌜ idIs r ≡ selectorOf u ⌝ }
+{
+    if u.operands == 0 {
+        return Id::Absent;
+    }
+    if u.kind1 == kinds::ID_REF {
+        return Id::Is(u.value1 as u32);
+    }
+    Id::Absent
+}
+
 // One operand more, whose record ends there in the log.
 fn noted(u: Used, kind: u8, value: u64, log: usize) -> Used
     requires { ⌜ (u .operands ≤ 1000000000) × Fits kind value × (log ≡ u .log + recordLength (parts kind value)) ⌝ }
     ensures { λ r. ⌜ Pushed kind value u r ⌝ }
 {
-    let rtype = u.rtype;
-    let rid = u.rid;
-    let operands = u.operands;
-    let kind1 = u.kind1;
-    let value1 = u.value1;
-    let kind2 = u.kind2;
-    let value2 = u.value2;
-    let strings = u.strings;
-    let base = u.base;
-    if operands == 0 {
-        return Used {
-            rtype,
-            rid,
-            operands: 1,
-            kind1: kind,
-            value1: value,
-            kind2,
-            value2,
-            log,
-            strings,
-            base,
-        };
+    let mut n = u;
+    n.operands = u.operands + 1;
+    n.log = log;
+    if u.operands == 0 {
+        n.kind1 = kind;
+        n.value1 = value;
+        return n;
     }
-    if operands == 1 {
-        return Used {
-            rtype,
-            rid,
-            operands: 2,
-            kind1,
-            value1,
-            kind2: kind,
-            value2: value,
-            log,
-            strings,
-            base,
-        };
+    if u.operands == 1 {
+        n.kind2 = kind;
+        n.value2 = value;
+        return n;
     }
-    Used {
-        rtype,
-        rid,
-        operands: operands + 1,
-        kind1,
-        value1,
-        kind2,
-        value2,
-        log,
-        strings,
-        base,
-    }
+    n
 }
 
 // A record of a kind and a value, kept where it fits.
@@ -150,7 +157,7 @@ pub fn push_text(
     let start = u.strings;
     let to = from + size;
     let at = (u.base + start) as u64;
-    let mut n = push(log, 40, at + 4294967296 * (size as u64), u);
+    let mut n = push(log, kinds::STRING, at + 4294967296 * (size as u64), u);
     operand::keep_bytes(strings, start, &s[from..to]);
     n.strings = start + size;
     n

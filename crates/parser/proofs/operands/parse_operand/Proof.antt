@@ -1,21 +1,19 @@
 -- `parser::operands::parse_operand` meets its contract. Assumes nothing.
 use native.Mathlib.Omega.{arith}
-use mathlib.Core.Path.{refl}
-use Rattle.parser.proofs.One.{known-told, unread-told, single-one, enum-text, single-fits, held-narrow, few-pushed, few-small}
+use mathlib.Core.Path.{refl, sym, _∙_}
+use Rattle.parser.proofs.One.{may-push, known-told, unread-told, held-narrow, few-pushed}
 use Rattle.parser.proofs.Walk.{same-read, seq, deny, step-went}
-use Rattle.parser.proofs.Values.{enum-plain, plain-single, place-listed, operand-known, operand-bad, pair-number, pair-ids, single, id-single, number-single}
+use Rattle.parser.proofs.KindLaws.{enum-narrow, narrow-fits, untyped-single, id-single, number-single}
+use Rattle.parser.proofs.Values.{place-listed, operand-known, operand-bad, pair-number, pair-ids, single}
 use borrow.Author.Needs.{needs}
 use Rattle.parser.proofs.operands.parse_operand.Statement.{statement}
 use Rattle.parser.proofs.operands.parse_operand.Tie as tie
-
-push-requires : tie.Need-push-requires
-push-requires c κs = let s = few-small _ _ _ (c .before .before .before .before .before .before .before .before .before .before .before .before .pre .1 .0) in (s .0, s .1, single-fits _ _ (enum-plain _ _ (c .before .before .before .before .before .before .is-enum .ensures) (c .before .before .before .before .before .if1 .taken) (c .before .before .before .before .before .before .before .before .before .before .before .before .pre .1 .1)) (omega arith))
 
 parse-values-requires : tie.Need-parse-values-requires
 parse-values-requires c κs = let k = known-told _ _ _ _ _ _ _ _ (c .before .before .before .before .before .before .before .before .before .read-enumerant .ensures) (c .before .before .before .before .before .before .before .r2 .given .1) in (c .before .before .before .before .before .before .before .before .before .before .before .before .before .before .before .before .before .pre .0, ((few-pushed _ _ _ _ _ _ _ _ (c .before .before .before .before .before .before .before .before .before .before .before .before .before .before .before .before .before .pre .1 .0) (k .step) (omega arith) (c .before .before .before .before .push .ensures .0), k .inside), place-listed _ _ _ _ _ _ _ k))
 
 returns-4 : tie.Need-returns-4
-returns-4 c = let k = known-told _ _ _ _ _ _ _ _ (c .before .before .before .before .before .before .before .before .before .before .before .before .before .before .read-enumerant .ensures) (c .before .before .before .before .before .before .before .before .before .before .before .before .r2 .given .1) in seq (held-narrow _ _ _ _ _ _ _ (single-one _ (enum-plain _ _ (c .before .before .before .before .before .before .before .before .before .before .before .before .before .before .before .before .is-enum .ensures) (c .before .before .before .before .before .before .before .before .before .before .before .before .before .before .before .if1 .taken) (c .before .before .before .before .before .before .before .before .before .before .before .before .before .before .before .before .before .before .before .before .before .before .pre .1 .1)) (enum-text _ _ (c .before .before .before .before .before .before .before .before .before .before .before .before .before .before .before .before .is-enum .ensures) (c .before .before .before .before .before .before .before .before .before .before .before .before .before .before .before .if1 .taken))) (c .before .before .before .before .before .before .before .before .before .push .ensures .0) (c .before .before .before .before .before .before .before .before .before .push .ensures .1)) _ _ _ _ _ _ (step-went _ _ _ _ (k .step) _ (c .before .before .before .before .before .before .before .before .before .before .before .before .before .before .before .before .before .before .before .before .before .before .pre .1 .0 .limited)) (operand-known _ _ _ _ _ (c .before .before .before .before .before .before .before .before .before .before .before .before .before .before .before .before .is-enum .ensures) (c .before .before .before .before .before .before .before .before .before .before .before .before .before .before .before .if1 .taken) _ _ _ k) _ (c .before .before .before .before .parse-values .ensures)
+returns-4 c = let k = known-told _ _ _ _ _ _ _ _ (c .before .before .before .before .before .before .before .before .before .before .before .before .before .before .read-enumerant .ensures) (c .before .before .before .before .before .before .before .before .before .before .before .before .r2 .given .1) in seq (held-narrow _ _ _ _ _ _ _ (enum-narrow _ (sym (c .before .before .before .before .before .before .before .before .before .before .before .before .before .before .before .before .is-enum .ensures) ∙ c .before .before .before .before .before .before .before .before .before .before .before .before .before .before .before .if1 .taken)) (c .before .before .before .before .before .before .before .before .before .push .ensures .0) (c .before .before .before .before .before .before .before .before .before .push .ensures .1)) _ _ _ _ _ _ (step-went _ _ _ _ (k .step) _ (c .before .before .before .before .before .before .before .before .before .before .before .before .before .before .before .before .before .before .before .before .before .before .pre .1 .0 .limited)) (operand-known _ _ _ _ _ (c .before .before .before .before .before .before .before .before .before .before .before .before .before .before .before .before .is-enum .ensures) (c .before .before .before .before .before .before .before .before .before .before .before .before .before .before .before .if1 .taken) _ _ _ k) _ (c .before .before .before .before .parse-values .ensures)
 
 pub parse-operand-spec : {M : Type 1} → statement M
 parse-operand-spec =
@@ -26,7 +24,7 @@ parse-operand-spec =
     (λ c. search needs)
     (λ c. search needs)
     (λ c. search needs)
-    push-requires
+    (λ c κs. may-push (c .before .before .before .before .before .before .before .before .before .before .before .before .pre .1 .0) (narrow-fits _ _ (enum-narrow _ (sym (c .before .before .before .before .before .before .is-enum .ensures) ∙ c .before .before .before .before .before .if1 .taken)) (omega arith)))
     parse-values-requires
     (λ c κs. (c .before .before .before .before .before .before .before .before .before .before .pre .0, (c .before .before .before .before .before .before .before .before .before .before .pre .1 .0, number-single)))
     (λ c. search needs)
@@ -36,7 +34,7 @@ parse-operand-spec =
     (λ c. search needs)
     (λ c. search needs)
     (λ c. same-read _ _ _ _ _ _ _ _ _ _ _ (pair-ids _ _ _ _ _ (c .before .before .before .before .before .before .before .before .before .before .is-enum .ensures) (c .before .before .before .before .before .before .before .before .before .if1 .left) (c .before .before .before .before .before .before .before .if3 .taken)) (c .before .before .before .before .parse-pair2 .ensures))
-    (λ c κs. (c .before .before .before .before .before .before .before .before .before .before .before .pre .0, (c .before .before .before .before .before .before .before .before .before .before .before .pre .1 .0, plain-single _ (c .before .before .before .before .before .before .before .before .before .before .before .pre .1 .1) (c .before .before .before .if2 .left) (c .before .before .if3 .left))))
+    (λ c κs. (c .before .before .before .before .before .before .before .before .before .before .before .pre .0, (c .before .before .before .before .before .before .before .before .before .before .before .pre .1 .0, untyped-single _ (c .before .before .before .before .before .before .before .before .before .before .before .pre .1 .1) (c .before .before .before .if2 .left) (c .before .before .if3 .left))))
     (λ c. deny _ _ _ _ _ _ _ _ _ _ _ _ refl (operand-bad _ _ _ _ _ (c .before .before .before .before .before .is-enum .ensures) (c .before .before .before .before .if1 .taken) _ _ (unread-told _ _ _ _ _ _ _ (c .before .before .before .read-enumerant .ensures) (c .before .r .given .1))))
     (λ c. search needs)
     (λ c. search needs)

@@ -1,6 +1,7 @@
 -- `parser::operands::parse_pair` meets its contract. Assumes nothing.
 use Rattle.parser.proofs.Walk.{each-cons, first-bad, good-told, seq}
-use Rattle.parser.proofs.Values.{each-done, id-single}
+use Rattle.parser.proofs.KindLaws.{id-single}
+use Rattle.parser.proofs.Values.{each-done}
 use mathlib.Core.List.{_∷_, []}
 use borrow.Author.Needs.{needs}
 use Rattle.parser.proofs.operands.parse_pair.Statement.{statement}

@@ -1,24 +1,19 @@
 -- `parser::simple::simple_literal` meets its contract. Assumes nothing.
 use mathlib.Core.List.{[]}
 use Rattle.spec.specs.Grammar.{grammarOf}
-use Rattle.parser.proofs.TypeLaws.{literal-single, literal-word}
-use Rattle.parser.proofs.SimpleLaws.{same-simple, pass-read, literal-told, literal-plain}
+use Rattle.parser.proofs.KindLaws.{tested-word}
+use Rattle.parser.proofs.Walk.{same-read}
+use Rattle.parser.proofs.TypeLaws.{literal-one}
+use Rattle.parser.proofs.SimpleLaws.{pass, take-so}
 use borrow.Author.Needs.{needs}
 use Rattle.parser.proofs.simple.simple_literal.Statement.{statement}
 use Rattle.parser.proofs.simple.simple_literal.Tie as tie
-
-simple-word-requires : tie.Need-simple-word-requires
-simple-word-requires c κs = let o = literal-told _ (c .before .if1 .taken) in let p = literal-plain _ o in ((c .before .before .before .before .before .before .before .pre .0 .0, literal-single _ o, p .0, p .1), c .before .before .before .before .before .before .before .pre .1 .0)
-
-returns : tie.Need-returns
-returns c = λ t. let o = literal-told _ (c .before .before .before .before .if1 .taken) in same-simple _ _ _ _ _ _ _ _ _ _ (literal-word _ _ _ _ _ (c .before .before .before .before .before .literal-kind .ensures .0) (literal-plain _ o .2) (grammarOf []) o) (c .before .before .simple-word .ensures _ _)
 
 pub simple-literal-spec : {M : Type 1} → statement M
 simple-literal-spec =
     tie.close
     (tie.spec
-    (λ c κs. search needs)
-    simple-word-requires
+    (λ c κs. ((c .before .before .before .before .pre .0, tested-word _ (c .before .if1 .taken)), c .before .before .before .before .pre .1))
     (λ c. search needs)
-    returns
-    (λ c. λ t. pass-read _ _ _ _ _ _ _ _))
+    (λ c. λ t. take-so _ _ (λ v. same-read _ _ _ _ _ _ _ _ _ _ v (literal-one _ _ _ (grammarOf []) (tested-word _ (c .before .before .before .before .if1 .taken)))) _ (c .before .before .simple-word .ensures _ _))
+    (λ c. λ t. pass _))

@@ -1,21 +1,16 @@
 -- `parser::simple::simple_value` meets its contract. Assumes nothing.
 use native.Mathlib.Omega.{arith}
 use mathlib.Core.Path.{sym, _∙_}
-use Rattle.parser.proofs.One.{few-small, single-fits}
+use Rattle.parser.proofs.KindLaws.{enum-narrow, narrow-fits}
+use Rattle.parser.proofs.One.{may-push}
 use Rattle.parser.proofs.Values.{none-told}
-use Rattle.parser.proofs.SimpleLaws.{pass-read, enum-single, zero-none, known-zero, known-found, known-single, known-few, value-alone, value-end, value-parsed}
+use Rattle.parser.proofs.SimpleLaws.{pass, zero-none, known-zero, known-found, known-single, known-few, value-alone, value-end, value-parsed}
 use borrow.Author.Needs.{needs}
 use Rattle.parser.proofs.simple.simple_value.Statement.{statement}
 use Rattle.parser.proofs.simple.simple_value.Tie as tie
 
-push-requires : tie.Need-push-requires
-push-requires c κs = let s = few-small _ _ _ (c .before .before .before .before .before .before .before .before .before .before .before .pre .1 .0 .0) in (s .0, s .1, single-fits _ _ (enum-single _ (c .before .before .before .before .before .before .before .before .before .before .before .pre .1 .0 .1)) (omega arith))
-
 returns-2 : tie.Need-returns-2
 returns-2 c = let m = sym (c .before .before .before .before .before .before .is-mask .ensures) ∙ c .before .before .before .before .before .if1 .taken in value-alone (known-zero _ _ _ _ (c .before .before .before .before .before .before .before .before .before .before .before .before .before .before .pre .1 .1) _ _ (c .before .before .before .before .before .before .before .before .next-word .ensures) m (c .before .before .before .before .if2 .left)) (c .before .before .before .before .before .before .before .before .before .before .before .before .before .before .pre .1 .0 .0) (c .before .before .push .ensures .0) _ _ _ (c .before .before .before .before .before .before .before .before .before .before .before .before .before .before .pre .1 .0 .1) (c .before .before .push .ensures .1) (zero-none _ _ m)
-
-push-requires-2 : tie.Need-push-requires-2
-push-requires-2 c κs = let s = few-small _ _ _ (c .before .before .before .before .before .before .before .before .before .before .before .before .before .before .pre .1 .0 .0) in (s .0, s .1, single-fits _ _ (enum-single _ (c .before .before .before .before .before .before .before .before .before .before .before .before .before .before .pre .1 .0 .1)) (omega arith))
 
 returns-4 : tie.Need-returns-4
 returns-4 c = let m = sym (c .before .before .before .before .before .before .before .before .before .before .before .before .is-mask .ensures) ∙ c .before .before .before .before .before .before .before .before .before .before .before .if1 .left in value-end (known-found _ _ _ _ (c .before .before .before .before .before .before .before .before .before .before .before .before .before .before .before .before .before .before .before .before .pre .1 .1) _ _ (c .before .before .before .before .before .before .before .before .before .before .before .before .before .before .next-word .ensures) (sym (c .before .before .before .before .before .before .before .before .before .before .before .before .is-mask .ensures) ∙ c .before .before .before .before .before .before .before .before .before .before .before .if1 .left) _ _ (c .before .before .before .before .before .before .before .before .before .before .guess-enumerant .ensures .0) (c .before .before .before .before .before .before .before .before .before .before .guess-enumerant .ensures .1) (c .before .before .before .before .before .before .before .before .found .given .1)) (c .before .before .before .before .before .before .before .before .before .before .before .before .before .before .before .before .before .before .before .before .pre .1 .0 .0) (c .before .before .before .before .before .push2 .ensures .0) _ _ _ (c .before .before .before .before .before .before .before .before .before .before .before .before .before .before .before .before .before .before .before .before .pre .1 .0 .1) (c .before .before .before .before .before .push2 .ensures .1) m (none-told _ _ _ (c .before .before .parameter-at .ensures .0) (c .enum-told3 .given .1))
@@ -32,16 +27,16 @@ simple-value-spec =
     (tie.spec
     (λ c κs. search needs)
     (λ c κs. search needs)
-    (λ c. pass-read _ _ _ _ _ _ _ _)
-    push-requires
+    (λ c. pass _)
+    (λ c κs. may-push (c .before .before .before .before .before .before .before .before .before .before .before .pre .1 .0 .0) (narrow-fits _ _ (enum-narrow _ (c .before .before .before .before .before .before .before .before .before .before .before .pre .1 .0 .1)) (omega arith)))
     (λ c. search needs)
     returns-2
     (λ c κs. search needs)
     (λ c. search needs)
     (λ c. search needs)
-    (λ c. pass-read _ _ _ _ _ _ _ _)
+    (λ c. pass _)
     (λ c. search needs)
-    push-requires-2
+    (λ c κs. may-push (c .before .before .before .before .before .before .before .before .before .before .before .before .before .before .pre .1 .0 .0) (narrow-fits _ _ (enum-narrow _ (c .before .before .before .before .before .before .before .before .before .before .before .before .before .before .pre .1 .0 .1)) (omega arith)))
     (λ c κs. search needs)
     (λ c. search needs)
     (λ c. search needs)

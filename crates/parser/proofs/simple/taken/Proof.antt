@@ -1,5 +1,5 @@
 -- `parser::simple::taken` meets its contract. Assumes nothing.
-use Rattle.parser.proofs.SimpleLaws.{take-pass, take-good}
+use Rattle.parser.proofs.SimpleLaws.{pass, take-good}
 use borrow.Author.Needs.{needs}
 use Rattle.parser.proofs.simple.taken.Statement.{statement}
 use Rattle.parser.proofs.simple.taken.Tie as tie
@@ -10,8 +10,8 @@ taken-spec =
     (tie.spec
     (λ c. search needs)
     (λ c. search needs)
-    (λ c. take-pass _)
+    (λ c. pass _)
     (λ c. search needs)
     (λ c. search needs)
-    (λ c. take-pass _)
+    (λ c. pass _)
     (λ c. take-good _ _ _ _ (c .before .before .before .before .r .given .1) (c .before .limit .given .1)))

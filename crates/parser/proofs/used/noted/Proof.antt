@@ -8,7 +8,7 @@ pub noted-spec : {M : Type 1} → statement M
 noted-spec =
     tie.close
     (tie.spec
-    (λ c. note-first _ _ _ _ (c .before .pre .1) (c .before .pre .2) (c .if1 .taken))
-    (λ c. note-second _ _ _ _ (c .before .before .pre .1) (c .before .before .pre .2) (c .if2 .taken))
     (λ c. search needs)
-    (λ c. note-later _ _ _ _ (c .before .before .pre .1) (c .before .before .pre .2) (c .before .if1 .left) (c .if2 .left)))
+    (λ c. note-first _ _ _ _ (c .before .before .before .pre .1) (c .before .before .before .pre .2) (c .if1 .taken))
+    (λ c. note-second _ _ _ _ (c .before .before .before .before .before .pre .1) (c .before .before .before .before .before .pre .2) (c .if2 .taken))
+    (λ c. note-later _ _ _ _ (c .before .before .before .before .before .pre .1) (c .before .before .before .before .before .pre .2) (c .before .before .if1 .left) (c .if2 .left)))

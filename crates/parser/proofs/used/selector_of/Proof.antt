@@ -1,9 +1,9 @@
--- `parser::rows::selector_of` meets its contract.
+-- `parser::used::selector_of` meets its contract.
 use native.Mathlib.Omega.{arith}
 use Rattle.tracker.specs.Track.{idIs}
 use Rattle.parser.proofs.UsedLaws.{selector-none, selector-there, selector-absent, selector-small}
-use Rattle.parser.proofs.rows.selector_of.Statement.{statement}
-use Rattle.parser.proofs.rows.selector_of.Tie as tie
+use Rattle.parser.proofs.used.selector_of.Statement.{statement}
+use Rattle.parser.proofs.used.selector_of.Tie as tie
 
 returns : tie.Need-returns
 unfolding idIs

@@ -1,0 +1,15 @@
+-- `parser::used::unused` meets its contract. Assumes nothing.
+use Rattle.parser.specs.Slots as slots
+use borrow.Author.Needs.{needs}
+use Rattle.parser.proofs.used.unused.Statement.{statement}
+use Rattle.parser.proofs.used.unused.Tie as tie
+
+returns : tie.Need-returns
+unfolding slots.unused
+returns c = search needs
+
+pub unused-spec : {M : Type 1} → statement M
+unused-spec =
+    tie.close
+    (tie.spec
+    returns)
