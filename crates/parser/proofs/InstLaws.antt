@@ -1,5 +1,5 @@
 -- Laws of one instruction: its first word, its row, and its end.
-use Prim.Native.Nat.{ℕ, zero, suc, _+_, _*_, _-_, _/_, _%_, _≤_}
+use Prim.Native.Nat.{ℕ, zero, suc, _+_, _*_, _/_, _%_, _≤_}
 use mathlib.Core.Path.{_≡_, refl, ap, sym, _∙_, subst}
 use mathlib.Core.Bool.{Bool, true, false}
 use mathlib.Core.List.{List, [], _∷_}
@@ -14,10 +14,10 @@ use Rattle.spec.specs.declared.Limit.{Limit}
 use Rattle.spec.specs.declared.Limit.the-variants.{Unlimited, Words}
 use Rattle.spec.specs.declared.Refusal.{Refusal}
 use Rattle.spec.specs.Base.{if_then_else_, every}
-use Rattle.spec.specs.Grammar.{Grammar, Slot, rowOf, grammarOf}
+use Rattle.spec.specs.Grammar.{Slot, rowOf, grammarOf}
 use Rattle.spec.specs.Records.{Operand, Instr, Entry}
 use Rattle.spec.specs.Reader.{Reader, Read, got, refused, after, refuse, refusal, reached, readWord, readerAt}
-use Rattle.spec.specs.Match.{Seen, nothingSeen, readRow, instrOf, allRead, readBody, readInstr}
+use Rattle.spec.specs.Match.{Seen, instrOf, allRead, readBody, readInstr}
 use Rattle.decoder.specs.declared.Decoder.{Decoder}
 use Rattle.decoder.specs.declared.WordRead.the-variants.{Got as Word, Refused as NoWord}
 use Rattle.decoder.specs.Answer.{decoder, readerOf, limitReached, wordFrom}

@@ -135,7 +135,7 @@ untyped-single k e f g =
     (both e (both (ap not (ne-eqb k 50 f)) (ap not (ne-eqb k 51 g))))
 
 -- an operand of a row that is no result and may be embedded is read without a type
-pub may-untyped : (k : ℕ) → mayBeOperand k ≡ true → isResult k ≡ false → mayEmbed k ≡ true → isUntyped k ≡ true
+may-untyped : (k : ℕ) → mayBeOperand k ≡ true → isResult k ≡ false → mayEmbed k ≡ true → isUntyped k ≡ true
 unfolding isUntyped
 may-untyped k e f g =
     each (λ j. mayBeOperand j && (not (isResult j) && mayEmbed j)) isUntyped k refl (operand-small k e) (both e (both (ap not f) g))

@@ -1,5 +1,5 @@
 -- Laws of one record: what a kind's read comes to, for each answer of the calls, and what is held then.
-use Prim.Native.Nat.{ℕ, _+_, _*_, _-_, _/_, _%_, _<_, _≤_}
+use Prim.Native.Nat.{ℕ, _+_, _*_, _/_, _%_, _<_, _≤_}
 use mathlib.Core.Path.{_≡_, refl, ap, sym, _∙_}
 use mathlib.Core.Bool.{Bool, true, false, not}
 use mathlib.Core.List.{List, [], _∷_, _++_, append-nil}
@@ -21,7 +21,7 @@ use Rattle.spec.specs.Kinds.{isEnum, isMask, isLogged, isLong}
 use Rattle.spec.specs.Records.{narrow, wide, text, operandLog, operandsLog, operandString, operandsStrings, longBytes}
 use Rattle.spec.specs.Reader.{Reader, Read, got, refused, after, give, refusal, reached, readWord, readText, limitPast, readerAt}
 use Rattle.spec.specs.Grammar.{Grammar, grammarOf, listed, parametersFor}
-use Rattle.spec.specs.Match.{Known, known, knownOr, valueOf, readEnumerant, readOne, readEach}
+use Rattle.spec.specs.Match.{Known, knownOr, valueOf, readEnumerant, readOne, readEach}
 use Rattle.spec.proofs.Choice.{right}
 use Rattle.operand.specs.Parts.{parts, isTwo, Fits}
 use Rattle.operand.specs.Log.{recordBy, recordOf, lengthBy, recordLength, Laid}
@@ -219,7 +219,7 @@ few-pushed s d e u r n j w f t h p =
     step-few s d e u r n f t h (one-more u r _ _ (p .noted)) (omega (arith, p .log, length-range (parts j w) .1)) (omega (arith, p .strings)) (p .base) (p .fits (f .fits))
 
 -- what is in use before a record leaves room to count on
-pub few-small : {s : List ℕ} {d : Decoder} {u : Used} → Few s d u → (u .log ≤ 1000000000) × (u .operands ≤ 1000000000) × (u .base + u .strings ≤ 67108864)
+few-small : {s : List ℕ} {d : Decoder} {u : Used} → Few s d u → (u .log ≤ 1000000000) × (u .operands ≤ 1000000000) × (u .base + u .strings ≤ 67108864)
 few-small f = (
   omega (arith, f .short, f .inside, f .log),
   omega (arith, f .short, f .inside, f .operands),

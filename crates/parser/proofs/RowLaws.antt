@@ -1,5 +1,5 @@
 -- Laws of the walk over a row's operands.
-use Prim.Native.Nat.{ℕ, zero, suc, _+_, _*_, _-_, _<_, _≤_}
+use Prim.Native.Nat.{ℕ, zero, suc, _+_, _-_, _<_, _≤_}
 use mathlib.Core.Path.{_≡_, refl, ap, sym, subst, _∙_}
 use mathlib.Core.Bool.{Bool, true, false, and-eq-true-iff}
 use mathlib.Core.List.{List, [], _∷_}
@@ -13,7 +13,7 @@ use Rattle.spec.specs.declared.Refusal.{Refusal}
 use Rattle.spec.specs.Base.{if_then_else_, every}
 use Rattle.spec.specs.Kinds.{mayBeOperand}
 use Rattle.spec.specs.Records.{operandsLog, operandsStrings, Entry}
-use Rattle.spec.specs.Reader.{Read, got, refused, after, refusal, reached, readerAt}
+use Rattle.spec.specs.Reader.{Read, got, after, refusal, reached, readerAt}
 use Rattle.spec.specs.Grammar.{Grammar, Slot, slot, grammarOf}
 use Rattle.spec.specs.Match.{Seen, nothingSeen, noneLeft, slotsAfter, readSlot, readRow}
 use Rattle.operand.proofs.LogLaws.{laid-nil}

@@ -1,8 +1,8 @@
 -- Laws of simple operands: what is taken and passed over, the next word of a limit, and one operand of each sort.
 use Prim.Native.Nat.{ℕ, zero, suc, _+_, _-_, _≤_}
 use mathlib.Core.Path.{_≡_, refl, ap, sym, subst, _∙_}
-use mathlib.Core.Bool.{Bool, true, false}
-use mathlib.Core.List.{List, [], _∷_}
+use mathlib.Core.Bool.{true, false}
+use mathlib.Core.List.{List, []}
 use mathlib.Core.Option.{some}
 use native.Mathlib.Omega.{arith}
 use borrow.Author.Tests.{ne-eqb}
@@ -14,8 +14,7 @@ use Rattle.spec.specs.declared.Limit.the-variants.{Unlimited, Words}
 use Rattle.spec.specs.Base.{every}
 use Rattle.spec.specs.Words.{Front, fourAt, bitsFrom, bitsOf}
 use Rattle.spec.specs.Kinds.{isEnum, isMask}
-use Rattle.spec.specs.Records.{Operand}
-use Rattle.spec.specs.Reader.{Read, reached, streamWord, wordAt, readerAt}
+use Rattle.spec.specs.Reader.{reached, streamWord, wordAt, readerAt}
 use Rattle.spec.specs.Grammar.{Grammar, grammarOf, listed, bitsListed, parametersFor}
 use Rattle.spec.specs.Match.{readEach, readOperand}
 use Rattle.operand.specs.Parts.{parts}
