@@ -18,7 +18,7 @@ use Rattle.parser.specs.declared.used.Used.{Used}
 use Rattle.parser.specs.declared.used.Frame.{Frame}
 use Rattle.parser.specs.declared.simple.Simple.{Simple}
 use Rattle.parser.specs.declared.simple.Simple.the-variants.{Got as Taken}
-use Rattle.parser.specs.Parse.{wordIs, leftOf, Went, Few, Parses, kindIs, LiteralFor, kindAlone, SlotWalks}
+use Rattle.parser.specs.Parse.{wordIs, leftOf, Went, Few, Parses, kindIs, literalFor, kindAlone, SlotWalks}
 use Rattle.parser.specs.Slots.{withResult}
 use Rattle.parser.specs.Body.{Framed, startOf}
 use Rattle.parser.specs.Simple.{There, IfTaken}
@@ -29,7 +29,7 @@ use Rattle.parser.proofs.SimpleLaws.{take, take-so}
 -- OPERANDS
 
 module _ (s : List ℕ) (g : Grammar) (j l : ℕ) (d : Decoder) (log strs : List ℕ) (u : Used) (t : Bool) (p : t ≡ isResult j) (types : List Entry)
-    (f : LiteralFor types u j l) where
+    (f : kindIs l ≡ literalFor types u j) where
   -- a result
   pub reads-result : t ≡ true → Few s d u → (v : ℕ) (e : Decoder) → Word v e ≡ wordFrom s d → (i : ℕ) → wordIs i ≡ some v → (n : Used) → n ≡ withResult j i u
       → IfTaken (SlotWalks s d (λ x. readSlot g types x j (readerOf s d)) log strs log strs u) (Taken e n)

@@ -5,7 +5,7 @@ use mathlib.Core.Bool.{Bool, true, false, not}
 use mathlib.Core.List.{List, [], _∷_}
 use mathlib.Core.Option.{Option, some}
 use native.Mathlib.Omega.{arith}
-use borrow.Author.Tests.{eq-eqb, ne-eqb, eqb-true}
+use borrow.Author.Tests.{eq-eqb, ne-eqb}
 use lib.Dec.{eqb}
 use Rattle.spec.specs.declared.Refusal.{Refusal}
 use Rattle.spec.specs.Base.{if_then_else_, within}
@@ -22,7 +22,7 @@ use Rattle.tracker.specs.Track.{literalOf}
 use Rattle.parser.specs.declared.used.Used.{Used}
 use Rattle.parser.specs.declared.used.Parsed.{Parsed}
 use Rattle.parser.specs.declared.used.Parsed.the-variants.{Got, Refused}
-use Rattle.parser.specs.Parse.{Notes, selectorOf, notesOf, noteAs, note, notes, noNotes, Step, Few, Held, Parses, wordIs, isWord, isUntyped, kindIs, LiteralFor, literalAlone, pairAlone, kindAlone, Walked, RowRead, Walks, SlotWalks}
+use Rattle.parser.specs.Parse.{Notes, selectorOf, notesOf, noteAs, note, notes, noNotes, Step, Few, Held, Parses, wordIs, isWord, isUntyped, kindIs, literalFor, literalAlone, pairAlone, kindAlone, Walked, RowRead, Walks, SlotWalks}
 use Rattle.parser.specs.Slots.{unused, withResults, withResult}
 use Rattle.parser.proofs.KindLaws.{not-kind, word-no-enum, number-word, number-untyped, result-else}
 use Rattle.parser.proofs.One.{step-word}
@@ -108,15 +108,15 @@ module _ {log₀ strs₀ log strs : List ℕ} {u₀ u : Used} {x : Seen} (w : Wa
   selector-is = ap (λ n. n .id) (w .noted) ∙ noted-id (x .operands)
 
   -- the read of an operand that is no result, by its kind and that of a literal
-  kind-by : (g : Grammar) (types : List Entry) (j l : ℕ) (r : Reader) → LiteralFor types u j l → (a b : Bool) → eqb j 48 ≡ a → eqb j 49 ≡ b
+  kind-by : (g : Grammar) (types : List Entry) (j l : ℕ) (r : Reader) → kindIs l ≡ literalFor types u j → (a b : Bool) → eqb j 48 ≡ a → eqb j 49 ≡ b
       → readKind g types x j r ≡ kindAlone g (kindIs l) j r
-  unfolding readKind kindAlone literalAlone pairAlone readPair readLiteral
+  unfolding readKind kindAlone literalAlone pairAlone readPair readLiteral literalFor
   kind-by g types j l r f true b p q =
       simp p (ap (λ (o : Option ℕ). after (readLiteralAs o r) (λ z. give (z ∷ [])))
-      (ap (λ (t : Option ℕ). literalKindOf (typeOf t types)) (sym (w .rtype)) ∙ sym (f .by-result (eqb-true j 48 p))))
+      (ap (λ (t : Option ℕ). literalKindOf (typeOf t types)) (sym (w .rtype)) ∙ sym (simp p at f)))
   kind-by g types j l r f false true p q =
       simp (p, q) (ap (λ (o : Option ℕ). after (readLiteralAs o r) (λ z t. after (readWord t) (λ v. give (z ∷ narrow 33 v ∷ []))))
-      (ap (λ (t : Option ℕ). literalKindOf (typeOf t types)) (sym selector-is) ∙ sym (f .by-first (eqb-true j 49 q))))
+      (ap (λ (t : Option ℕ). literalKindOf (typeOf t types)) (sym selector-is) ∙ sym (simp (p, q) at f)))
   kind-by g types j l r f false false p q = simp (p, q)
 
   -- WHAT IS SEEN
@@ -183,7 +183,7 @@ module _ {log₀ strs₀ log strs : List ℕ} {u₀ u : Used} {x : Seen} (w : Wa
   -- READS
 
   module _ (s : List ℕ) (g : Grammar) (types : List Entry) (j : ℕ) (d : Decoder) where
-    module _ (l : ℕ) (f : LiteralFor types u j l) (h : isResult j ≡ false) where
+    module _ (l : ℕ) (f : kindIs l ≡ literalFor types u j) (h : isResult j ≡ false) where
       -- what is read is added to what was seen
       more-by : (y : Read (List Operand)) → kindAlone g (kindIs l) j (readerOf s d) ≡ y
           → readSlot g types x j (readerOf s d) ≡ after y (λ os. give (withOperands x os))
@@ -242,7 +242,7 @@ module _ {log₀ strs₀ log strs : List ℕ} {u₀ u : Used} {x : Seen} (w : Wa
       slot-none y e p = result-by _ (word-refused s d e y p) (eqb j 46) refl
 
 module _ (s : List ℕ) (g : Grammar) (j l : ℕ) (d : Decoder) (log strs : List ℕ) (u : Used) (t : Bool) (p : t ≡ isResult j) (types : List Entry)
-    (f : LiteralFor types u j l) where
+    (f : kindIs l ≡ literalFor types u j) where
   -- the walk goes on with a result
   pub walks-result : t ≡ true → Few s d u → (v : ℕ) (e : Decoder) → Word v e ≡ wordFrom s d → (i : ℕ) → wordIs i ≡ some v → (n : Used) → n ≡ withResult j i u
       → SlotWalks s d (λ x. readSlot g types x j (readerOf s d)) log strs log strs u (Got e n)

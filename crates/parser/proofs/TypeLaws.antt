@@ -26,7 +26,7 @@ use Rattle.tracker.specs.declared.Resolved.the-variants.{«Type», Unknown}
 use Rattle.tracker.specs.Entries.{resolvedIs}
 use Rattle.tracker.specs.Track.{idIs}
 use Rattle.parser.specs.declared.used.Used.{Used}
-use Rattle.parser.specs.Parse.{wordIs, selectorOf, prefix, isWord, kindIs, isLiteral, LiteralFor, literalAlone, pairAlone}
+use Rattle.parser.specs.Parse.{wordIs, selectorOf, prefix, isWord, kindIs, isLiteral, literalFor, literalAlone, pairAlone}
 use Rattle.parser.proofs.KindLaws.{not-kind, word-short, word-no-enum, word-no-text}
 
 -- THE KIND
@@ -107,18 +107,20 @@ module _ (types : List Entry) (id : Id) (i : ℕ) (e : id ≡ Is i) (r : Resolve
 module _ (types : List Entry) (u : Used) (k literal : ℕ) where
   -- by the result type
   pub literal-result : k ≡ 48 → (o : Option ℕ) → o ≡ wordIs (u .rtype) → (kindIs literal ≡ literalKindOf (typeOf o types)) × (isLiteral literal ≡ true)
-      → LiteralFor types u k literal
-  literal-result e o q h = record { by-result = λ x. rw q at (h .0); by-first = λ x. absurd (omega arith); known = h .1 }
+      → (kindIs literal ≡ literalFor types u k) × (isLiteral literal ≡ true)
+  unfolding literalFor
+  literal-result e o q h = (simp (eq-eqb k 48 e) (rw q at (h .0)), h .1)
 
   -- by the first operand
   pub literal-first : k ≡ 49 → (o : Option ℕ) → o ≡ selectorOf u → (kindIs literal ≡ literalKindOf (typeOf o types)) × (isLiteral literal ≡ true)
-      → LiteralFor types u k literal
-  literal-first e o q h = record { by-result = λ x. absurd (omega arith); by-first = λ x. rw q at (h .0); known = h .1 }
+      → (kindIs literal ≡ literalFor types u k) × (isLiteral literal ≡ true)
+  unfolding literalFor
+  literal-first e o q h = (rw e (rw q at (h .0)), h .1)
 
 -- another operand is read as none
-pub literal-other : (types : List Entry) (u : Used) (k : ℕ) → (k ≡ 48 → ⊥) → (k ≡ 49 → ⊥) → LiteralFor types u k 0
-unfolding isLiteral
-literal-other types u k x y = record { by-result = λ e. absurd (x e); by-first = λ e. absurd (y e); known = refl }
+pub literal-other : (types : List Entry) (u : Used) (k : ℕ) → (k ≡ 48 → ⊥) → (k ≡ 49 → ⊥) → (kindIs 0 ≡ literalFor types u k) × (isLiteral 0 ≡ true)
+unfolding literalFor kindIs isLiteral
+literal-other types u k x y = (simp (ne-eqb k 48 x, ne-eqb k 49 y), refl)
 
 -- THE READ
 

@@ -1,7 +1,7 @@
 -- The parser's answers, and the stores after those that are good, as what the reader of `spec` comes to.
 use Prim.Native.Nat.{ℕ, _+_, _*_, _-_, _%_, _≤_}
 use mathlib.Core.Path.{_≡_}
-use mathlib.Core.Bool.{Bool, true, false, _&&_, _||_}
+use mathlib.Core.Bool.{Bool, false, _&&_, _||_}
 use mathlib.Core.List.{List, [], _∷_, _++_}
 use mathlib.Core.Option.{Option, none, some}
 use lib.Dec.{eqb, ltb}
@@ -232,11 +232,12 @@ kindIs k = if eqb k 0 then none else some k
 unfoldable pub isLiteral : ℕ → Bool
 isLiteral k = eqb k 0 || eqb k 34 || within 36 k 38
 
--- the kind of the literal that an operand is read as, by the types: that of the result type for 48, of the first operand for 49
-pub record LiteralFor (types : List Entry) (u : Used) (k literal : ℕ) : Type 0 where
-  pub by-result : k ≡ 48 → kindIs literal ≡ literalKindOf (typeOf (wordIs (u .rtype)) types)
-  pub by-first : k ≡ 49 → kindIs literal ≡ literalKindOf (typeOf (selectorOf u) types)
-  pub known : isLiteral literal ≡ true
+-- the kind of the literal that an operand is read as: by the type of the result type for 48, of the first operand for 49, none for others
+unfoldable pub literalFor : List Entry → Used → ℕ → Option ℕ
+literalFor types u k =
+    if eqb k 48 then literalKindOf (typeOf (wordIs (u .rtype)) types)
+    else if eqb k 49 then literalKindOf (typeOf (selectorOf u) types)
+    else none
 
 -- a literal of a kind, as the one operand
 unfoldable pub literalAlone : Option ℕ → Parse (List records.Operand)

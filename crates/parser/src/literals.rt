@@ -9,7 +9,7 @@ ghost use Rattle.grammar.specs.Index.{Indexed};
 ghost use Rattle.tracker.specs.Entries.{entriesOf};
 ghost use Rattle.tracker.specs.Hints.{Hinted};
 ghost use Rattle.tracker.specs.Track.{idIs};
-ghost use Rattle.parser.specs.Parse.{FirstFits, Few, Parses, kindIs, isLiteral, LiteralFor, literalAlone, pairAlone};
+ghost use Rattle.parser.specs.Parse.{FirstFits, Few, Parses, kindIs, isLiteral, literalFor, literalAlone, pairAlone};
 use crate::operands::read_one;
 use crate::used::Parsed;
 use crate::used::Used;
@@ -77,7 +77,7 @@ pub fn literal_for(types: &[u32], hints: &[u16], tracker: TypeTracker, kind: u8,
     requires { ⌜ 3 * tracker .count ≤ length (now types) ⌝ }
     requires { ⌜ Hinted (tracker .count) (now types) (now hints) (tracker .greatest) ⌝ }
     requires { ⌜ FirstFits u ⌝ }
-    ensures { λ r. ⌜ LiteralFor (entriesOf (tracker .count) (now (types .entry))) u kind r ⌝ }
+    ensures { λ r. ⌜ (kindIs r ≡ literalFor (entriesOf (tracker .count) (now (types .entry))) u kind) × (isLiteral r ≡ true) ⌝ }
 {
     if kind == kinds::TYPED_LITERAL {
         let id = id_of(u.rtype);

@@ -14,7 +14,7 @@ ghost use Rattle.decoder.specs.Answer.{readerOf};
 ghost use Rattle.grammar.specs.Index.{Indexed};
 ghost use Rattle.tracker.specs.Entries.{entriesOf};
 ghost use Rattle.tracker.specs.Hints.{Hinted};
-ghost use Rattle.parser.specs.Parse.{Few, Parses, Walks, SlotWalks, kindIs, isLiteral, LiteralFor, kindAlone};
+ghost use Rattle.parser.specs.Parse.{Few, Parses, Walks, SlotWalks, kindIs, isLiteral, literalFor, kindAlone};
 ghost use Rattle.parser.specs.Slots.{Fresh, withResult};
 ghost use Rattle.parser.specs.Body.{Framed, startOf, rowRead};
 use crate::embedded::parse_spec_constant_op;
@@ -102,7 +102,7 @@ fn parse_slot(
 ) -> Parsed
     requires { ⌜ Indexed (now g) (now index) ⌝ }
     requires { ⌜ Few (now s) d u × (mayBeOperand kind ≡ true) × (isLiteral literal ≡ true) ⌝ }
-    ensures { λ r. ⌜ ((types : List Entry) → LiteralFor types u kind literal → SlotWalks (now (s .entry)) d (λ x. readSlot (grammarOf (now (g .entry))) types x kind (readerOf (now (s .entry)) d)) (now (log .entry)) (now (strings .entry)) (now (log .exit)) (now (strings .exit)) u r) ⌝ }
+    ensures { λ r. ⌜ ((types : List Entry) → kindIs literal ≡ literalFor types u kind → SlotWalks (now (s .entry)) d (λ x. readSlot (grammarOf (now (g .entry))) types x kind (readerOf (now (s .entry)) d)) (now (log .entry)) (now (strings .entry)) (now (log .exit)) (now (strings .exit)) u r) ⌝ }
 {
     if grammar::is_result(kind) {
         let w = d.word(s);

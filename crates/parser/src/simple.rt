@@ -14,7 +14,7 @@ ghost use Rattle.decoder.specs.Answer.{readerOf, wordFrom};
 ghost use Rattle.grammar.specs.Index.{Indexed};
 ghost use Rattle.tracker.specs.Entries.{entriesOf};
 ghost use Rattle.tracker.specs.Hints.{Hinted};
-ghost use Rattle.parser.specs.Parse.{Few, Parses, Walks, SlotWalks, leftOf, isWord, kindIs, LiteralFor, literalAlone};
+ghost use Rattle.parser.specs.Parse.{Few, Parses, Walks, SlotWalks, leftOf, isWord, kindIs, literalFor, literalAlone};
 ghost use Rattle.parser.specs.Slots.{Fresh};
 ghost use Rattle.parser.specs.Body.{Framed, startOf, rowRead};
 ghost use Rattle.parser.specs.Simple.{There, IfTaken};
@@ -183,7 +183,7 @@ fn simple_slot(
     requires { ⌜ Indexed (now g) (now index) ⌝ }
     requires { ⌜ Few (now s) d u ⌝ }
     requires { ⌜ There (now s) d ⌝ }
-    ensures { λ r. ⌜ ((types : List Entry) → LiteralFor types u kind literal → IfTaken (SlotWalks (now (s .entry)) d (λ x. readSlot (grammarOf (now (g .entry))) types x kind (readerOf (now (s .entry)) d)) (now (log .entry)) (now (strings .entry)) (now (log .exit)) (now (strings .exit)) u) r) ⌝ }
+    ensures { λ r. ⌜ ((types : List Entry) → kindIs literal ≡ literalFor types u kind → IfTaken (SlotWalks (now (s .entry)) d (λ x. readSlot (grammarOf (now (g .entry))) types x kind (readerOf (now (s .entry)) d)) (now (log .entry)) (now (strings .entry)) (now (log .exit)) (now (strings .exit)) u) r) ⌝ }
 {
     if grammar::is_result(kind) {
         let x = next_word(d, s);
