@@ -8,8 +8,7 @@ use lib.Dec.{leb, eqb}
 use lib.ListN.{length}
 use Rattle.spec.specs.Base.{if_then_else_}
 use Rattle.spec.specs.Records.{Entry, entry}
-use Rattle.spec.specs.Layout.{isType}
-use Rattle.spec.specs.Types.{entryOf, define, defineInt, defineFloat, inherit, trackValue}
+use Rattle.spec.specs.Types.{isType, entryOf, define, defineInt, defineFloat, inherit, trackValue}
 use Rattle.tracker.specs.Entries.{entriesOf}
 use Rattle.tracker.specs.declared.Told.{Told}
 use Rattle.tracker.specs.Track.{intOf, floatOf, typeOf, trackOf, toldWith, toldOf}

@@ -8,8 +8,7 @@ use lib.ListN.{length}
 use borrow.Author.Tests.{le-leb, lt-leb}
 use Rattle.spec.specs.Base.{if_then_else_}
 use Rattle.spec.specs.Records.{Operand, Instr, Entry}
-use Rattle.spec.specs.Layout.{isType}
-use Rattle.spec.specs.Types.{literalInt, trackInt, trackFloat, trackType, trackValue, trackResult, track}
+use Rattle.spec.specs.Types.{isType, literalInt, trackInt, trackFloat, trackType, trackValue, trackResult, track}
 use Rattle.tracker.specs.Track.{intOf, floatOf, typeOf, trackOf, Literals}
 use Rattle.tracker.proofs.Growth.{Grown, track-grows}
 

@@ -10,8 +10,7 @@ use lib.ListN.{length}
 use borrow.Author.Tests.{le-leb, lt-leb, eq-eqb, ne-eqb}
 use Rattle.spec.specs.Base.{if_then_else_}
 use Rattle.spec.specs.Records.{Entry}
-use Rattle.spec.specs.Layout.{isType}
-use Rattle.spec.specs.Types.{entryOf, define, inherit, trackValue}
+use Rattle.spec.specs.Types.{isType, entryOf, define, inherit, trackValue}
 use Rattle.tracker.specs.declared.Id.{Id}
 use Rattle.tracker.specs.declared.Id.the-variants.{Absent, Is}
 use Rattle.tracker.specs.declared.Resolved.{Resolved}

@@ -8,8 +8,7 @@ use lib.ListN.{length}
 use Rattle.spec.specs.Base.{if_then_else_}
 use Rattle.spec.specs.Records as records
 use Rattle.spec.specs.Records.{Entry}
-use Rattle.spec.specs.Layout.{isType}
-use Rattle.spec.specs.Types.{define, literalInt, defineInt, defineFloat, trackValue}
+use Rattle.spec.specs.Types.{isType, define, literalInt, defineInt, defineFloat, trackValue}
 use Rattle.operand.specs.declared.Parts.{Parts}
 use Rattle.operand.specs.Parts.{Fits}
 use Rattle.tracker.specs.declared.Id.{Id}

@@ -15,6 +15,7 @@ use operand::Operand;
 use operand::Parts;
 use operand::operand_of;
 use spec::Found;
+use spec::opcodes;
 
 // A hint has 16 bits. This one says that the id's entry comes too late for one: it is among all.
 const LATE: u16 = 65535;
@@ -191,8 +192,8 @@ fn track_type(opcode: u16, count: usize, first: Parts, second: Parts) -> Resolve
     ensures { λ r. ⌜ ((id : ℕ) (es : List Entry) → defined id r es ≡ typeOf opcode id count (literalOf first) (literalOf second) es) ⌝ }
 {
     match opcode {
-        21 => track_int(count, first, second),
-        22 => track_float(count, first),
+        opcodes::TYPE_INT => track_int(count, first, second),
+        opcodes::TYPE_FLOAT => track_float(count, first),
         _ => Resolved::Unknown,
     }
 }
