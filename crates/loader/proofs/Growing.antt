@@ -6,7 +6,7 @@ use native.Mathlib.Omega.{arith}
 use native.Mathlib.Nat.{add-zero, zero-add}
 use lib.ListN.{length, length-append}
 use lib.Seq.{sets}
-use Rattle.spec.specs.Records.{Placed, Instr, operandsLog, operandsStrings, logFrom, fieldsOf, fieldWords, recordsFrom}
+use Rattle.spec.specs.Records.{Placed, Instr, operandsLog, operandsStrings, logFrom, fieldsOf, fieldWords, recordsFrom, entrySize}
 use Rattle.spec.specs.Types.{track}
 use Rattle.spec.proofs.Store.{sets-append}
 use Rattle.demands.proofs.Stores.{operands-log-length}
@@ -44,7 +44,7 @@ grow l₀ l l₁ a b c n e h f g =
     ∙ ap (λ (z : List ℕ). sets l₀ 0 z) (sym g)
 
 module _ (t₀ t t₁ : List ℕ) (n m : ℕ) (i : Instr) (size : length t ≡ length t₀) (now : t ≡ stored t₀ (entriesOf n t))
-    (next : t₁ ≡ stored t (track i (entriesOf n t))) (count : length (track i (entriesOf n t)) ≡ m) (room : 3 * m ≤ length t₀) where
+    (next : t₁ ≡ stored t (track i (entriesOf n t))) (count : length (track i (entriesOf n t)) ≡ m) (room : entrySize * m ≤ length t₀) where
   -- the entries after an instruction are those of the store
   pub entries-next : track i (entriesOf n t) ≡ entriesOf m t₁
   entries-next =

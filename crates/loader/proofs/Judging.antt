@@ -1,103 +1,139 @@
 -- Laws of an instruction before anything is kept: decoded, then placed, then given room.
-use Prim.Native.Nat.{ℕ, _+_, _*_, _≤_}
+use Prim.Native.Nat.{ℕ, suc, _+_, _*_, _-_, _≤_, _<_}
 use mathlib.Core.Path.{_≡_, refl, ap, sym, subst, _∙_}
 use mathlib.Core.Bool.{Bool, true, false}
-use mathlib.Core.List.{List}
+use mathlib.Core.List.{List, [], _∷_, _++_}
 use native.Mathlib.Omega.{arith}
-use borrow.Author.Tests.{eqb-true, ne-eqb, le-ltb}
+use borrow.Author.Tests.{eqb-true, ne-eqb, le-ltb, le-leb}
 use lib.Dec.{eqb}
-use lib.ListN.{length}
+use lib.ListN.{length, drop, length-drop}
+use Rattle.spec.specs.declared.Limit.the-variants.{Unlimited}
 use Rattle.spec.specs.declared.Refusal.{Refusal}
 use Rattle.spec.specs.declared.State.{State}
 use Rattle.spec.specs.declared.Cell.{Cell}
 use Rattle.spec.specs.declared.Cell.the-variants.{Tagged, Refuses}
 use Rattle.spec.specs.declared.Counts.{Counts}
 use Rattle.spec.specs.declared.Fields.{Fields}
-use Rattle.spec.specs.Base.{if_then_else_, orZero}
-use Rattle.spec.specs.Records.{Instr, Entry, operandsLog, operandsStrings, presence, fieldsOf}
-use Rattle.spec.specs.Reader.{Read, refusal}
+use Rattle.spec.specs.Base.{if_then_else_, orZero, has}
+use Rattle.spec.specs.Records.{Instr, Placed, Entry, operandsLog, operandsStrings, presence, fieldsOf}
+use Rattle.spec.specs.Reader.{refusal, readerAt}
+use Rattle.spec.specs.Grammar.{grammarOf}
 use Rattle.spec.specs.Layout.{layoutOf}
 use Rattle.spec.specs.Types.{track}
-use Rattle.spec.specs.Load.{counts, roomFault, usedAfter}
+use Rattle.spec.specs.Match.{readInstr}
+use Rattle.spec.specs.Load.{Book, counts, roomFault, usedAfter, stop, loadFrom}
+use Rattle.demands.proofs.Lists.{has-leb}
 use Rattle.demands.proofs.Stores.{operands-log-length}
 use Rattle.tracker.specs.Entries.{entriesOf}
-use Rattle.tracker.specs.Track.{idIs, FirstFit, literalOf}
+use Rattle.tracker.specs.Track.{idIs, literalOf}
 use Rattle.tracker.proofs.Laws.{length-entries}
 use Rattle.tracker.proofs.Growth.{track-grows}
 use Rattle.tracker.proofs.Instruction.{track-as}
 use Rattle.parser.specs.declared.inst.Decoded.{Decoded}
 use Rattle.parser.specs.declared.inst.InstRead.{InstRead}
 use Rattle.parser.specs.declared.inst.InstRead.the-variants as inst
-use Rattle.parser.specs.Inst.{Handed, Declined, Decodes, ByRow, RowIs}
+use Rattle.parser.specs.Inst.{Decodes, DecodesOver, RowIs}
 use Rattle.loader.specs.declared.parts.Progress.{Progress}
+use Rattle.loader.specs.declared.parts.Taken.{Taken}
 use Rattle.loader.specs.declared.step.Judged.{Judged}
-use Rattle.loader.specs.declared.step.Judged.the-variants.{Good, Refused}
-use Rattle.loader.specs.Steps.{usedBy, placedAs, tracked, needOf, fieldsBy, judgedBy, unread, misplaced, crowded, Verdict}
+use Rattle.loader.specs.declared.step.Judged.the-variants.{Got, Refused}
+use Rattle.loader.specs.Steps.{usedBy, readAt, Moderate, Fair, tracked, needOf, fieldsBy, Shown, Shows, taken, judgedBy, judged}
 
--- LAYOUT, THEN ROOM
+-- an instruction with its tag
+abbrev pub placedAs : Instr → ℕ → Placed
+placedAs i tag = record { instr = i; tag = tag }
 
-module _ (room need : Counts) (at : ℕ) (d : Decoded) (c : Cell) where
-  -- no place
-  pub judged-misplaced : (n : ℕ) → c ≡ Refuses n → (r : Judged) → r ≡ Refused (refusal n at 0) → r ≡ judgedBy room need at d c
-  unfolding judgedBy
-  judged-misplaced n e r q = rw e q
+-- DECODED
 
-  module _ (tag : ℕ) (next : State) (e : c ≡ Tagged tag next) (fault : ℕ) (f : fault ≡ roomFault room need) where
-    -- a place, and room
-    pub judged-good : fault ≡ 0 → Good d tag next ≡ judgedBy room need at d c
-    unfolding judgedBy
-    judged-good z = rw (e, ← f, z)
+-- what the parser tells
+pub shows : (s g types scratch spare : List ℕ) (p : Progress) (v : InstRead)
+    → DecodesOver s (p .at) (readAt s g types p) scratch spare 0 0 (p .strings) v
+    → RowIs g (entriesOf (p .types) types) s (p .at) (readAt s g types p) v → Shows s g types scratch spare p v
+unfolding Decodes RowIs Shows
+shows s g types scratch spare p (inst.Got d) h b = record { scratch₀ = h .log₀; spare₀ = h .strs₀; handed = h .decodes; row = b }
+shows s g types scratch spare p (inst.Refused y) h b = h .decodes
 
-    -- a place, and no room
-    pub judged-crowded : (fault ≡ 0 → ⊥) → (r : Judged) → r ≡ Refused (refusal fault at 0) → r ≡ judgedBy room need at d c
-    unfolding judgedBy
-    judged-crowded z r q = rw (e, ← f, ne-eqb fault 0 z) q
-
--- A DECODED INSTRUCTION
-
-module _ {s : List ℕ} {x : Read Instr} {l₀ t₀ l t : List ℕ} (p : Progress) (d : Decoded)
-    (h : Handed s (p .at) x l₀ t₀ l t 0 0 (p .strings) d) where
+module _ {s g types scratch spare : List ℕ} {p : Progress} {d : Decoded} (shown : Shown s g types scratch spare p d) where
   -- its records' length
-  pub log-size : d .log ≡ length (operandsLog (p .strings) (h .instr .operands))
-  log-size = omega (arith, h .nlog, operands-log-length (p .strings + 0) (p .strings) (h .instr .operands))
+  pub log-size : d .log ≡ length (operandsLog (p .strings) (shown .handed .instr .operands))
+  log-size =
+      let h = shown .handed in
+      omega (arith, h .nlog, operands-log-length (p .strings + 0) (p .strings) (h .instr .operands))
 
   -- its strings' length
-  pub strings-size : d .strings ≡ length (operandsStrings (h .instr .operands))
-  strings-size = omega (arith, h .nstrings)
+  pub strings-size : d .strings ≡ length (operandsStrings (shown .handed .instr .operands))
+  strings-size = omega (arith, shown .handed .nstrings)
 
   -- the entries after it are those after the instruction
-  pub tracked-is : (es : List Entry) → tracked d es ≡ track (h .instr) es
+  pub tracked-is : (es : List Entry) → tracked d es ≡ track (shown .handed .instr) es
   unfolding tracked
   tracked-is es =
+      let h = shown .handed in
       rw (← h .opcode, ← h .rtype, ← h .rid) (track-as (h .instr) (d .operands) _ _ es (h .operands) (h .literals))
 
   -- what is taken with it is what is taken with the instruction
-  pub need-is : (es : List Entry) → needOf p d es ≡ usedAfter (usedBy p) (h .instr) (track (h .instr) es)
+  pub need-is : (es : List Entry) → needOf p d es ≡ usedAfter (usedBy p) (shown .handed .instr) (track (shown .handed .instr) es)
   unfolding needOf
   need-is es =
+      let i = shown .handed .instr in
       ap (λ (n : ℕ). counts (p .instructions + 1) (p .log + n) (p .strings + d .strings) (length (tracked d es)))
-      (log-size ∙ operands-log-length (p .strings) 0 (h .instr .operands))
-      ∙ ap (λ (n : ℕ). counts (p .instructions + 1) (p .log + length (operandsLog 0 (h .instr .operands))) (p .strings + n) (length (tracked d es)))
+      (log-size ∙ operands-log-length (p .strings) 0 (i .operands))
+      ∙ ap (λ (n : ℕ). counts (p .instructions + 1) (p .log + length (operandsLog 0 (i .operands))) (p .strings + n) (length (tracked d es)))
       strings-size
-      ∙ ap (λ (fs : List Entry). usedAfter (usedBy p) (h .instr) fs) (tracked-is es)
+      ∙ ap (λ (fs : List Entry). usedAfter (usedBy p) i fs) (tracked-is es)
 
   -- the fields of its record are those of the instruction
-  pub fields-are : (tag : ℕ) → fieldsBy p d tag ≡ fieldsOf (p .log) (placedAs (h .instr) tag)
+  pub fields-are : (tag : ℕ) → fieldsBy p d tag ≡ fieldsOf (p .log) (placedAs (shown .handed .instr) tag)
   unfolding fieldsBy fieldsOf
-  fields-are tag = rw (h .opcode, h .rtype, h .rid, h .offset, h .operands, h .words)
+  fields-are tag = let h = shown .handed in rw (h .opcode, h .rtype, h .rid, h .offset, h .operands, h .words)
 
   -- it has the same place
-  pub placed-is : (st : State) (c : Cell) → layoutOf (d .opcode) st ≡ c → layoutOf (h .instr .opcode) st ≡ c
-  placed-is st c e = ap (λ (o : ℕ). layoutOf o st) (h .opcode) ∙ e
+  pub placed-is : (c : Cell) → layoutOf (d .opcode) (p .state) ≡ c → layoutOf (shown .handed .instr .opcode) (p .state) ≡ c
+  placed-is c e = ap (λ (o : ℕ). layoutOf o (p .state)) (shown .handed .opcode) ∙ e
 
--- its records are few, and so are its strings; its first two operands are operands
-pub few-read : (s : List ℕ) (at : ℕ) (x : Read Instr) (l₀ t₀ l t : List ℕ) (a b c : ℕ) (v : InstRead) → Decodes s at x l₀ t₀ l t a b c v
-    → (d : Decoded) → v ≡ inst.Got d → length s ≤ 67108864
-    → (d .log ≤ 1000000000) × (d .strings ≤ 1000000000) × FirstFit (d .operands) (d .first) (d .second)
-unfolding Decodes
-few-read s at x l₀ t₀ l t a b c v e d q short =
-    let h : Handed s at x l₀ t₀ l t a b c d = subst (Decodes s at x l₀ t₀ l t a b c) q e in
-    (omega (arith, h .few-log, h .inside), omega (arith, h .few-strings, h .inside), h .fits)
+  -- it has no more than a module
+  pub moderate : length s ≤ 67108864 → Moderate d
+  moderate short =
+      let h = shown .handed in
+      record {
+        few = omega (arith, h .few, h .inside);
+        few-log = omega (arith, h .few-log, h .inside);
+        few-strings = omega (arith, h .few-strings, h .inside);
+        fits = h .fits;
+      }
+
+-- neither has what was read
+pub fair : (s g types scratch spare : List ℕ) (p : Progress) (v : InstRead) → Shows s g types scratch spare p v → length s ≤ 67108864 → Fair v
+unfolding Shows Fair
+fair s g types scratch spare p (inst.Got d) h short = moderate h short
+fair s g types scratch spare p (inst.Refused y) h short = tt
+
+-- LAYOUT, THEN ROOM
+
+-- not read
+pub judged-unread : (room : Counts) (es : List Entry) (p : Progress) (v : InstRead) (y : Refusal) → v ≡ inst.Refused y
+    → Refused y ≡ judged room es p v
+unfolding judged
+judged-unread room es p v y q = rw q
+
+module _ (room : Counts) (es : List Entry) (p : Progress) (v : InstRead) (d : Decoded) (q : v ≡ inst.Got d) where
+  -- no place
+  pub judged-misplaced : (n : ℕ) → layoutOf (d .opcode) (p .state) ≡ Refuses n → (r : Judged) → r ≡ Refused (refusal n (p .at) 0)
+      → r ≡ judged room es p v
+  unfolding judged judgedBy
+  judged-misplaced n e r f = rw (q, e) f
+
+  module _ (tag : ℕ) (next : State) (e : layoutOf (d .opcode) (p .state) ≡ Tagged tag next) (fault : ℕ)
+      (f : fault ≡ roomFault room (needOf p d es)) where
+    -- a place, and room
+    pub judged-good : fault ≡ 0 → Got (taken p d tag next) ≡ judged room es p v
+    unfolding judged judgedBy
+    judged-good z = rw (q, e, ← f, z)
+
+    -- a place, and no room
+    pub judged-crowded : (fault ≡ 0 → ⊥) → (r : Judged) → r ≡ Refused (refusal fault (p .at) 0) → r ≡ judged room es p v
+    unfolding judged judgedBy
+    judged-crowded z r k = rw (q, e, ← f, ne-eqb fault 0 z) k
 
 module _ (room : Counts) (p : Progress) (d : Decoded) where
   -- the room for it, by the count of entries after it
@@ -139,46 +175,64 @@ fields-by p d tag bits a b e f g = rw (e, f, g)
 
 -- THE VERDICT
 
-module _ (s g : List ℕ) (x : Read Instr) (room : Counts) (es : List Entry) (l₀ t₀ l t : List ℕ) (p : Progress) where
-  module _ (d : Decoded) (h : Handed s (p .at) x l₀ t₀ l t 0 0 (p .strings) d) (b : ByRow g es s (p .at) x d) where
+-- the book of what is kept
+abbrev pub bookOf : List Placed → List Entry → Progress → Book
+bookOf ks es p = record { kept = ks; types = es; used = usedBy p; state = p .state }
+
+-- a word is left
+pub word-left : (s : List ℕ) (at : ℕ) → 4 ≤ length s - at → has 4 (drop at s) ≡ true
+word-left s at h = has-leb 4 (drop at s) ∙ le-leb 4 (length (drop at s)) (simp length-drop h)
+
+-- an instruction that goes in: it was read, it has its place, and there is room for it
+pub record Admitted (s g types scratch spare : List ℕ) (room : Counts) (p : Progress) (t : Taken) : Type 0 where
+  pub from : t .from ≡ p
+  pub shown : Shown s g types scratch spare (t .from) (t .read)
+  pub placed : layoutOf (t .read .opcode) (t .from .state) ≡ Tagged (t .tag) (t .state)
+  pub fits : roomFault room (needOf (t .from) (t .read) (entriesOf (t .from .types) types)) ≡ 0
+
+-- an instruction that is refused: the load stops at it, with any header, whatever is kept
+abbrev pub Stops : List ℕ → List ℕ → List ℕ → Counts → Progress → Refusal → Type 0
+Stops s g types room p y =
+    (h : List ℕ) (ks : List Placed) (n : ℕ) → 4 ≤ length s - p .at
+    → loadFrom (grammarOf g) room h (suc n) (bookOf ks (entriesOf (p .types) types) p) (readerAt s (p .at) Unlimited)
+    ≡ stop h (bookOf ks (entriesOf (p .types) types) p) (y .number) (y .place) (y .value)
+
+module _ (s g types scratch spare : List ℕ) (room : Counts) (p : Progress) where
+  -- one of the two
+  abbrev pub Verdict : Judged → Type 0
+  Verdict (Got t) = Admitted s g types scratch spare room p t
+  Verdict (Refused y) = Stops s g types room p y
+
+  module _ (d : Decoded) (shown : Shown s g types scratch spare p d) where
     -- by room
     room-verdict : (tag : ℕ) (next : State) → layoutOf (d .opcode) (p .state) ≡ Tagged tag next → (c : Bool)
-        → eqb (roomFault room (needOf p d es)) 0 ≡ c
-        → Verdict s g x room es l t p (if c then Good d tag next else Refused (refusal (roomFault room (needOf p d es)) (p .at) 0))
-    unfolding Verdict
-    room-verdict tag next e true f =
-        record {
-          shown = record { scratch₀ = l₀; spare₀ = t₀; handed = h; row = b };
-          placed = e;
-          fits = eqb-true _ _ f;
-        }
+        → eqb (roomFault room (needOf p d (entriesOf (p .types) types))) 0 ≡ c
+        → Verdict (if c then Got (taken p d tag next) else Refused (refusal (roomFault room (needOf p d (entriesOf (p .types) types))) (p .at) 0))
+    unfolding loadFrom readerAt
+    room-verdict tag next e true f = record { from = refl; shown = shown; placed = e; fits = eqb-true _ _ f }
     room-verdict tag next e false f =
-        let q = need-is p d h es in
-        crowded (h .instr) _ tag next (h .read) (placed-is p d h (p .state) (Tagged tag next) e)
-        (ap (λ (u : Counts). eqb (roomFault room u) 0) (sym q) ∙ f)
-        (ap (λ (u : Counts). refusal (roomFault room u) (p .at) 0) q
-        ∙ ap (λ (a : ℕ). refusal (roomFault room (usedAfter (usedBy p) (h .instr) (track (h .instr) es))) a 0) (sym (h .offset)))
+        let i = shown .handed in
+        let es = entriesOf (p .types) types in
+        let q = need-is shown es in
+        let z : eqb (roomFault room (usedAfter (usedBy p) (i .instr) (track (i .instr) es))) 0 ≡ false = rw q at f in
+        λ h ks n w. rw (word-left s (p .at) w, i .read, placed-is shown _ e, z, q, i .offset)
 
     -- by layout
-    cell-verdict : (c : Cell) → layoutOf (d .opcode) (p .state) ≡ c → Verdict s g x room es l t p (judgedBy room (needOf p d es) (p .at) d c)
-    unfolding Verdict judgedBy
-    cell-verdict (Tagged tag next) e = room-verdict tag next e (eqb (roomFault room (needOf p d es)) 0) refl
-    cell-verdict (Refuses n) e =
-        misplaced (h .instr) _ n (h .read) (placed-is p d h (p .state) (Refuses n) e) (ap (λ (a : ℕ). refusal n a 0) (sym (h .offset)))
+    cell-verdict : (c : Cell) → layoutOf (d .opcode) (p .state) ≡ c
+        → Verdict (judgedBy room (needOf p d (entriesOf (p .types) types)) p d c)
+    unfolding judgedBy loadFrom readerAt
+    cell-verdict (Tagged tag next) e = room-verdict tag next e (eqb (roomFault room (needOf p d (entriesOf (p .types) types))) 0) refl
+    cell-verdict (Refuses m) e =
+        let i = shown .handed in
+        λ h ks n w. rw (word-left s (p .at) w, i .read, placed-is shown _ e, i .offset)
 
-  module _ (v : InstRead) (e : Decodes s (p .at) x l₀ t₀ l t 0 0 (p .strings) v) (f : RowIs g es s (p .at) x v) where
-    -- it is not read
-    pub judges-unread : (y : Refusal) → v ≡ inst.Refused y → Verdict s g x room es l t p (Refused y)
-    unfolding Decodes Verdict
-    judges-unread y q =
-        let h : Declined x y = subst (Decodes s (p .at) x l₀ t₀ l t 0 0 (p .strings)) q e in
-        unread (h .rest) (h .read)
+  -- by what was read
+  read-verdict : (v : InstRead) → Shows s g types scratch spare p v → Verdict (judged room (entriesOf (p .types) types) p v)
+  unfolding Shows judged loadFrom readerAt
+  read-verdict (inst.Got d) x = cell-verdict d x (layoutOf (d .opcode) (p .state)) refl
+  read-verdict (inst.Refused y) x = λ h ks n w. rw (word-left s (p .at) w, x .read)
 
-    -- it is read
-    pub judges-read : (d : Decoded) → v ≡ inst.Got d → (r : Judged)
-        → r ≡ judgedBy room (needOf p d es) (p .at) d (layoutOf (d .opcode) (p .state)) → Verdict s g x room es l t p r
-    unfolding Decodes RowIs
-    judges-read d q r z =
-        let h : Handed s (p .at) x l₀ t₀ l t 0 0 (p .strings) d = subst (Decodes s (p .at) x l₀ t₀ l t 0 0 (p .strings)) q e in
-        let b : ByRow g es s (p .at) x d = subst (RowIs g es s (p .at) x) q f in
-        subst (Verdict s g x room es l t p) (sym z) (cell-verdict d h b (layoutOf (d .opcode) (p .state)) refl)
+  -- by the answer
+  pub verdict : (v : InstRead) → Shows s g types scratch spare p v → (r : Judged) → r ≡ judged room (entriesOf (p .types) types) p v
+      → (z : Judged) → r ≡ z → Verdict z
+  verdict v x r e z q = subst Verdict (sym e ∙ q) (read-verdict v x)

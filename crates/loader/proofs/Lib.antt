@@ -1,4 +1,3 @@
-pub mod Fitting
 pub mod Judging
 pub mod Keeping
 pub mod Growing

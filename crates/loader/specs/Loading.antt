@@ -1,10 +1,16 @@
 -- A load into lent stores: what it comes to, what it answers, and what it leaves.
-use Prim.Native.Nat.{ℕ}
+use Prim.Native.Nat.{ℕ, _/_}
 use mathlib.Core.Path.{_≡_}
 use mathlib.Core.List.{List}
+use lib.ListN.{length}
+use Rattle.spec.specs.declared.Limit.the-variants.{Unlimited}
 use Rattle.spec.specs.declared.Loaded.{Loaded}
 use Rattle.spec.specs.Words.{AllBytes}
-use Rattle.spec.specs.Load.{Outcome, load, Stores, storesOf, roomIn, laidOn}
+use Rattle.spec.specs.Reader.{readerAt}
+use Rattle.spec.specs.Grammar.{grammarOf}
+use Rattle.spec.specs.Load.{Outcome, emptyBook, loadFrom, loadWith, load, Stores, storesOf, roomIn, laidOn}
+use Rattle.loader.specs.declared.parts.Ended.{Ended}
+use Rattle.loader.specs.Steps.{saidAt}
 
 -- what a load of a module comes to by a grammar and the room in stores
 unfoldable pub loading : List ℕ → List ℕ → Stores → Outcome
@@ -19,3 +25,13 @@ pub record Leaves (x : Outcome) (before after : Stores) (r : Loaded) : Type 0 wh
 pub record Loads (m g : List ℕ) (before after : Stores) (r : Loaded) : Type 0 where
   pub leaves : Leaves (loading m g before) before after r
   pub bytes : AllBytes m
+
+-- the same of a load by a grammar that is well-formed, from the length on
+unfoldable pub LoadsWith : List ℕ → List ℕ → Stores → Stores → Loaded → Type 0
+LoadsWith g m before after r = Leaves (loadWith (grammarOf g) (roomIn before) m) before after r
+
+-- the same from the first instruction on, whatever the header
+unfoldable pub LoadsFrom : List ℕ → List ℕ → Stores → Stores → Ended → Type 0
+LoadsFrom g m before after r =
+    (h : List ℕ)
+    → Leaves (loadFrom (grammarOf g) (roomIn before) h (length m / 4) emptyBook (readerAt m 20 Unlimited)) before after (saidAt h r)

@@ -12,6 +12,7 @@ use run::SHORT;
 use run::load_few;
 use run::load_many;
 use spec::Loaded;
+use spec::refusals;
 
 // Loads a module by the bytes of a grammar.
 pub fn load(
@@ -27,7 +28,7 @@ pub fn load(
         (lent (now (instructions .exit)) (now (log .exit)) (now (strings .exit)) (now (types .exit))) r ⌝ }
 {
     if !grammar::well_formed(grammar) {
-        return no_instruction(24, 0);
+        return no_instruction(refusals::BAD_GRAMMAR, 0);
     }
     let mut index = [0u16; grammar::SIZE];
     grammar::fill_index(grammar, &mut index);

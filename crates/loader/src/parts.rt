@@ -1,17 +1,19 @@
-// The parts of a load: what it answers, the room that there is, and the fields of a record.
+// The parts of a load: where it stands, what it answers, and the fields of a record.
 ghost use mathlib.Core.Path.{_≡_};
-ghost use Prim.Native.Nat.{_*_, _≤_, _<_};
+ghost use Prim.Native.Nat.{_≤_, _<_};
 ghost use Rattle.spec.specs.Base.{orZero};
 ghost use Rattle.spec.specs.Records.{presence};
 ghost use Rattle.spec.specs.Layout.{endNumber};
-ghost use Rattle.spec.specs.Load.{roomOf, roomFault, nothing};
+ghost use Rattle.spec.specs.Load.{nothing};
 ghost use Rattle.tracker.specs.Track.{idIs};
-ghost use Rattle.loader.specs.Steps.{usedBy, saidAt, fieldsBy};
+ghost use Rattle.loader.specs.Steps.{saidAt, fieldsBy, Bounded, Moderate};
 use parser::Decoded;
 use spec::Counts;
 use spec::Fields;
 use spec::Loaded;
+use spec::Refusal;
 use spec::State;
+use spec::refusals;
 use tracker::Id;
 
 // Where a load stands: the place of the next instruction, what is kept so far, an id above which none has a type, and the state of the
@@ -26,14 +28,28 @@ pub struct Progress {
     pub state: State,
 }
 
+// An instruction that goes in: where the load stood before it, what was read, its tag, and the state after it.
+pub struct Taken {
+    pub from: Progress,
+    pub read: Decoded,
+    pub tag: u8,
+    pub state: State,
+}
+
+// Where a load stopped, and why: at the end the number is 0, 16 or 21.
+pub struct Ended {
+    pub progress: Progress,
+    pub refusal: Refusal,
+}
+
 // "At the end an open block is 21, else an open function 16."
 pub fn end_number(s: State) -> u32
     ensures { λ r. ⌜ r ≡ endNumber s ⌝ }
 {
     match s {
-        State::Outside => 0,
-        State::Function => 16,
-        State::Block => 21,
+        State::Outside => refusals::ACCEPTED,
+        State::Function => refusals::OPEN_FUNCTION,
+        State::Block => refusals::OPEN_BLOCK,
     }
 }
 
@@ -57,11 +73,13 @@ pub fn no_instruction(number: u32, offset: usize) -> Loaded
     }
 }
 
-// A load that stops at the instruction after those kept.
-pub fn stopped(header: [u32; 5], p: Progress, number: u32, offset: usize, value: u32) -> Loaded
-    requires { ⌜ p .instructions < 67108864 ⌝ }
-    ensures { λ r. ⌜ r ≡ saidAt header (usedBy p) number offset value ⌝ }
+// A load that stopped at the instruction after those kept.
+pub fn stopped(header: [u32; 5], e: Ended) -> Loaded
+    requires { ⌜ e .progress .instructions < 67108864 ⌝ }
+    ensures { λ r. ⌜ r ≡ saidAt header e ⌝ }
 {
+    let p = e.progress;
+    let x = e.refusal;
     let counts = Counts {
         instructions: p.instructions,
         log: p.log,
@@ -69,44 +87,13 @@ pub fn stopped(header: [u32; 5], p: Progress, number: u32, offset: usize, value:
         types: p.types,
     };
     Loaded {
-        number,
-        offset,
+        number: x.number,
+        offset: x.place,
         index: p.instructions + 1,
-        value,
+        value: x.value,
         header,
         counts,
     }
-}
-
-// The room in stores of so many words, bytes, bytes and words.
-pub fn room_in(instructions: usize, log: usize, strings: usize, types: usize) -> Counts
-    ensures { λ r. ⌜ r ≡ roomOf instructions log strings types ⌝ }
-{
-    Counts {
-        instructions: instructions / records::RECORD,
-        log,
-        strings,
-        types: types / 3,
-    }
-}
-
-// The first store that lacks room: 25, 26, 27, 28 in that order, or 0.
-pub fn room_fault(room: Counts, need: Counts) -> u32
-    ensures { λ r. ⌜ r ≡ roomFault room need ⌝ }
-{
-    if room.instructions < need.instructions {
-        return 25;
-    }
-    if room.log < need.log {
-        return 26;
-    }
-    if room.strings < need.strings {
-        return 27;
-    }
-    if room.types < need.types {
-        return 28;
-    }
-    0
 }
 
 // "1 for a result type, 2 for a result id".
@@ -135,9 +122,9 @@ fn id_word(x: Id) -> u32
     }
 }
 
-// The fields of the record of a decoded instruction.
+// The fields of the record of an instruction that goes in.
 pub fn fields_of(p: Progress, d: Decoded, tag: u8) -> Fields
-    requires { ⌜ (p .at ≤ 67108864) × (4 * p .log ≤ 9 * p .at) × (4 * d .operands ≤ 67108864) ⌝ }
+    requires { ⌜ Bounded p × Moderate d ⌝ }
     ensures { λ r. ⌜ r ≡ fieldsBy p d tag ⌝ }
 {
     let rtype = d.rtype;

@@ -1,48 +1,81 @@
 // One instruction of a load: decoded, placed in the layout, given room, and kept.
 ghost use mathlib.Core.Path.{_≡_};
-ghost use Prim.Native.Nat.{_+_, _*_, _≤_, _<_};
+ghost use Prim.Native.Nat.{_+_, _*_, _≤_};
 ghost use lib.ListN.{length};
-ghost use Rattle.spec.specs.Layout.{layoutOf};
-ghost use Rattle.spec.specs.Load.{roomOf, roomFault};
+ghost use Rattle.spec.specs.Records.{recordSize, entrySize};
+ghost use Rattle.spec.specs.Reader.{refusal};
+ghost use Rattle.spec.specs.Load.{roomFault};
 ghost use Rattle.reflect.specs.Column.{layoutTable, kindTable};
 ghost use Rattle.grammar.specs.Index.{Indexed};
 ghost use Rattle.tracker.specs.Entries.{entriesOf};
-ghost use Rattle.tracker.specs.Hints.{Hinted};
-ghost use Rattle.tracker.specs.Track.{FirstFit};
-ghost use Rattle.loader.specs.Steps.{readAt, needOf, judgedBy, Bounded, Verdict, Shown, Admitted, Stored, Keeps, Steps};
+ghost use Rattle.loader.specs.Steps.{Bounded, Typed, Moderate, Fair, needOf, judged, tracked, Shown, Shows, Stored, Recorded};
 use crate::parts::Progress;
+use crate::parts::Taken;
 use crate::parts::fields_of;
-use crate::parts::room_fault;
 use parser::Decoded;
 use parser::InstRead;
 use parser::parse_body;
 use parser::parse_inst;
+use records::RECORD;
+use room::room_fault;
 use spec::Cell;
 use spec::Counts;
 use spec::Refusal;
-use spec::State;
+use spec::refusals;
 use tracker::TypeTracker;
 
-// What becomes of an instruction before anything is kept: it goes in with a tag and a state, or is refused.
+// What becomes of an instruction before anything is kept: it goes in, or is refused.
 pub enum Judged {
-    Good(Decoded, u8, State),
+    Got(Taken),
     Refused(Refusal),
 }
 
-// What becomes of an instruction: the load goes on behind it, or stops.
-pub enum Step {
-    On(Progress),
-    Stop(Refusal),
+// DECODING
+
+// The next instruction: its operands' records and strings go to scratch and spare, where they fit.
+pub fn decode(
+    s: &[u8],
+    g: &[u8],
+    index: &[u16],
+    types: &[u32],
+    hints: &[u16],
+    scratch: &mut [u8],
+    spare: &mut [u8],
+    p: Progress,
+) -> InstRead
+    requires { ⌜ Indexed (now g) (now index) ⌝ }
+    requires { ⌜ (length (now s) ≤ 67108864) × (p .at + 4 ≤ length (now s)) ⌝ }
+    requires { ⌜ Bounded p × Typed (now types) (now hints) p ⌝ }
+    ensures { λ r. ⌜ Shows (now (s .entry)) (now (g .entry)) (now (types .entry)) (now (scratch .exit)) (now (spare .exit)) p r ⌝ }
+{
+    let at = p.at;
+    let base = p.strings;
+    let tracker = TypeTracker {
+        count: p.types,
+        greatest: p.greatest,
+    };
+    parse_inst(
+        s,
+        at,
+        g,
+        index,
+        types,
+        hints,
+        tracker,
+        scratch,
+        0,
+        spare,
+        0,
+        base,
+    )
 }
 
-// ROOM
+// LAYOUT, THEN ROOM
 
 // What is taken with a decoded instruction more. It adds an entry at most: where there is room for one, no more is asked.
-fn need_after(p: Progress, d: Decoded, types: &[u32], hints: &[u16], room: Counts) -> Counts
-    requires { ⌜ (3 * p .types ≤ length (now types)) × (p .instructions < 67108864) ⌝ }
-    requires { ⌜ Hinted (p .types) (now types) (now hints) (p .greatest) ⌝ }
-    requires { ⌜ (p .log ≤ 1000000000) × (d .log ≤ 1000000000) × (p .strings ≤ 1000000000) × (d .strings ≤ 1000000000) ⌝ }
-    requires { ⌜ FirstFit (d .operands) (d .first) (d .second) ⌝ }
+fn need_after(types: &[u32], hints: &[u16], room: Counts, p: Progress, d: Decoded) -> Counts
+    requires { ⌜ Bounded p × Typed (now types) (now hints) p ⌝ }
+    requires { ⌜ Moderate d ⌝ }
     ensures { λ r. ⌜ roomFault room r ≡ roomFault room (needOf p d (entriesOf (p .types) (now (types .entry)))) ⌝ }
 {
     let mut entries = p.types + 1;
@@ -74,11 +107,9 @@ fn need_after(p: Progress, d: Decoded, types: &[u32], hints: &[u16], room: Count
     }
 }
 
-// LAYOUT, THEN ROOM
-
 // A decoded instruction that is refused for its layout or for room.
 fn refused(number: u32, place: usize) -> Judged
-    ensures { λ r. ⌜ r ≡ Judged.Refused (record { number = number; place = place; value = 0 }) ⌝ }
+    ensures { λ r. ⌜ r ≡ Judged.Refused (refusal number place 0) ⌝ }
 {
     let x = Refusal {
         number,
@@ -88,81 +119,43 @@ fn refused(number: u32, place: usize) -> Judged
     Judged::Refused(x)
 }
 
-// A decoded instruction by its layout and the room for it.
-fn admit(
+// An instruction by its layout and the room for it, where it was read.
+pub fn admit(
     kinds: &[u8; 256],
     table: &[[u8; 3]; 19],
-    p: Progress,
-    d: Decoded,
     types: &[u32],
     hints: &[u16],
     room: Counts,
-) -> Judged
-    requires { ⌜ (3 * p .types ≤ length (now types)) × (p .instructions < 67108864) ⌝ }
-    requires { ⌜ (now table ≡ layoutTable) × (now kinds ≡ kindTable) ⌝ }
-    requires { ⌜ Hinted (p .types) (now types) (now hints) (p .greatest) ⌝ }
-    requires { ⌜ (p .log ≤ 1000000000) × (d .log ≤ 1000000000) × (p .strings ≤ 1000000000) × (d .strings ≤ 1000000000) ⌝ }
-    requires { ⌜ FirstFit (d .operands) (d .first) (d .second) ⌝ }
-    ensures { λ r. ⌜ r ≡ judgedBy room (needOf p d (entriesOf (p .types) (now (types .entry)))) (p .at) d (layoutOf (d .opcode) (p .state)) ⌝ }
-{
-    let state = p.state;
-    let cell = reflect::place(kinds, table, d.opcode, state);
-    match cell {
-        Cell::Refuses(n) => refused(n as u32, p.at),
-        Cell::Tagged(tag, next) => {
-            let fault = room_fault(room, need_after(p, d, types, hints, room));
-            if fault == 0 {
-                return Judged::Good(d, tag, next);
-            }
-            refused(fault, p.at)
-        }
-    }
-}
-
-// DECODING FIRST
-
-// The next instruction, before anything is kept: its operands' records and strings go to scratch and spare, where they fit.
-fn judge(
-    kinds: &[u8; 256],
-    table: &[[u8; 3]; 19],
-    s: &[u8],
-    g: &[u8],
-    index: &[u16],
-    types: &[u32],
-    hints: &[u16],
-    scratch: &mut [u8],
-    spare: &mut [u8],
-    room: Counts,
     p: Progress,
+    read: InstRead,
 ) -> Judged
-    requires { ⌜ Indexed (now g) (now index) ⌝ }
-    requires { ⌜ Bounded (now s) (now types) (now hints) p ⌝ }
     requires { ⌜ (now table ≡ layoutTable) × (now kinds ≡ kindTable) ⌝ }
-    ensures { λ r. ⌜ Verdict (now (s .entry)) (now (g .entry)) (readAt (now (s .entry)) (now (g .entry)) (now (types .entry)) p) room (entriesOf (p .types) (now (types .entry))) (now (scratch .exit)) (now (spare .exit)) p r ⌝ }
+    requires { ⌜ Bounded p × Typed (now types) (now hints) p ⌝ }
+    requires { ⌜ Fair read ⌝ }
+    ensures { λ r. ⌜ r ≡ judged room (entriesOf (p .types) (now (types .entry))) p read ⌝ }
 {
-    let at = p.at;
-    let base = p.strings;
-    let tracker = TypeTracker {
-        count: p.types,
-        greatest: p.greatest,
-    };
-    let read = parse_inst(
-        s,
-        at,
-        g,
-        index,
-        types,
-        hints,
-        tracker,
-        scratch,
-        0,
-        spare,
-        0,
-        base,
-    );
     match read {
         InstRead::Refused(x) => Judged::Refused(x),
-        InstRead::Got(d) => admit(kinds, table, p, d, types, hints, room),
+        InstRead::Got(d) => {
+            let state = p.state;
+            let cell = reflect::place(kinds, table, d.opcode, state);
+            match cell {
+                Cell::Refuses(n) => refused(n as u32, p.at),
+                Cell::Tagged(tag, next) => {
+                    let fault = room_fault(room, need_after(types, hints, room, p, d));
+                    if fault == refusals::ACCEPTED {
+                        let t = Taken {
+                            from: p,
+                            read: d,
+                            tag,
+                            state: next,
+                        };
+                        return Judged::Got(t);
+                    }
+                    refused(fault, p.at)
+                }
+            }
+        }
     }
 }
 
@@ -170,7 +163,7 @@ fn judge(
 
 // Keeps the operands of an instruction that goes in: from scratch and spare, or, where they are too long for these, from the module
 // again.
-fn keep_operands(
+pub fn keep_operands(
     s: &[u8],
     g: &[u8],
     index: &[u16],
@@ -180,15 +173,17 @@ fn keep_operands(
     hints: &[u16],
     scratch: &[u8],
     spare: &[u8],
-    p: Progress,
-    d: Decoded,
+    t: Taken,
 )
     requires { ⌜ Indexed (now g) (now index) ⌝ }
-    requires { ⌜ Bounded (now s) (now types) (now hints) p ⌝ }
-    requires { ⌜ (p .log + d .log ≤ length (now log)) × (p .strings + d .strings ≤ length (now strings)) ⌝ }
-    requires { ⌜ Shown (now s) (now g) (readAt (now s) (now g) (now types) p) (entriesOf (p .types) (now types)) (now scratch) (now spare) p d ⌝ }
-    ensures { λ _. ⌜ Stored (readAt (now (s .entry)) (now (g .entry)) (now (types .entry)) p) (now (log .entry)) (now (strings .entry)) (now (log .exit)) (now (strings .exit)) p ⌝ }
+    requires { ⌜ (length (now s) ≤ 67108864) × (t .from .at + 4 ≤ length (now s)) ⌝ }
+    requires { ⌜ Bounded (t .from) × Typed (now types) (now hints) (t .from) ⌝ }
+    requires { ⌜ (t .from .log + t .read .log ≤ length (now log)) × (t .from .strings + t .read .strings ≤ length (now strings)) ⌝ }
+    requires { ⌜ Shown (now s) (now g) (now types) (now scratch) (now spare) (t .from) (t .read) ⌝ }
+    ensures { λ _. ⌜ Stored (now (s .entry)) (now (g .entry)) (now (types .entry)) (now (log .entry)) (now (strings .entry)) (now (log .exit)) (now (strings .exit)) (t .from) ⌝ }
 {
+    let p = t.from;
+    let d = t.read;
     let at = p.at;
     let log_to = p.log;
     let strings_to = p.strings;
@@ -224,43 +219,23 @@ fn keep_operands(
     );
 }
 
-// Keeps an instruction that goes in.
-fn keep(
-    s: &[u8],
-    g: &[u8],
-    index: &[u16],
+// Keeps the record and the type entry of an instruction that goes in: the load stands behind it.
+pub fn keep_record(
     instructions: &mut [u32],
-    log: &mut [u8],
-    strings: &mut [u8],
     types: &mut [u32],
     hints: &mut [u16],
-    scratch: &[u8],
-    spare: &[u8],
-    p: Progress,
-    d: Decoded,
-    tag: u8,
-    state: State,
+    t: Taken,
 ) -> Progress
-    requires { ⌜ Indexed (now g) (now index) ⌝ }
-    requires { ⌜ Bounded (now s) (now types) (now hints) p ⌝ }
-    requires { ⌜ Admitted (now s) (now g) (readAt (now s) (now g) (now types) p) (roomOf (length (now instructions)) (length (now log)) (length (now strings)) (length (now types))) (entriesOf (p .types) (now types)) (now scratch) (now spare) p d tag state ⌝ }
-    ensures { λ r. ⌜ Keeps (now (s .entry)) (readAt (now (s .entry)) (now (g .entry)) (now (types .entry)) p) (roomOf (length (now (instructions .entry))) (length (now (log .entry))) (length (now (strings .entry))) (length (now (types .entry)))) (now (instructions .entry)) (now (log .entry)) (now (strings .entry)) (now (types .entry)) (now (instructions .exit)) (now (log .exit)) (now (strings .exit)) (now (types .exit)) (now (hints .exit)) p r ⌝ }
+    requires { ⌜ Bounded (t .from) × Typed (now types) (now hints) (t .from) ⌝ }
+    requires { ⌜ Moderate (t .read) ⌝ }
+    requires { ⌜ recordSize * t .from .instructions + recordSize ≤ length (now instructions) ⌝ }
+    requires { ⌜ entrySize * length (tracked (t .read) (entriesOf (t .from .types) (now types))) ≤ length (now types) ⌝ }
+    ensures { λ r. ⌜ Recorded (now (instructions .entry)) (now (types .entry)) (now (instructions .exit)) (now (types .exit)) (now (hints .exit)) t r ⌝ }
 {
-    keep_operands(
-        s,
-        g,
-        index,
-        log,
-        strings,
-        types,
-        hints,
-        scratch,
-        spare,
-        p,
-        d,
-    );
-    let fields = fields_of(p, d, tag);
-    records::put_fields(instructions, records::RECORD * p.instructions, fields);
+    let p = t.from;
+    let d = t.read;
+    let fields = fields_of(p, d, t.tag);
+    records::put_fields(instructions, RECORD * p.instructions, fields);
     let tracker = TypeTracker {
         count: p.types,
         greatest: p.greatest,
@@ -279,6 +254,7 @@ fn keep(
         first,
         second,
     );
+    let state = t.state;
     Progress {
         at: p.at + 4 * (d.words as usize),
         instructions: p.instructions + 1,
@@ -287,64 +263,5 @@ fn keep(
         types: tracked.count,
         greatest: tracked.greatest,
         state,
-    }
-}
-
-// Takes the next instruction: judged, and kept where it goes in.
-pub fn take(
-    kinds: &[u8; 256],
-    table: &[[u8; 3]; 19],
-    s: &[u8],
-    g: &[u8],
-    index: &[u16],
-    instructions: &mut [u32],
-    log: &mut [u8],
-    strings: &mut [u8],
-    types: &mut [u32],
-    hints: &mut [u16],
-    scratch: &mut [u8],
-    spare: &mut [u8],
-    room: Counts,
-    p: Progress,
-) -> Step
-    requires { ⌜ Indexed (now g) (now index) ⌝ }
-    requires { ⌜ Bounded (now s) (now types) (now hints) p ⌝ }
-    requires { ⌜ room ≡ roomOf (length (now instructions)) (length (now log)) (length (now strings)) (length (now types)) ⌝ }
-    requires { ⌜ (now table ≡ layoutTable) × (now kinds ≡ kindTable) ⌝ }
-    ensures { λ r. ⌜ Steps (now (s .entry)) (readAt (now (s .entry)) (now (g .entry)) (now (types .entry)) p) room (now (instructions .entry)) (now (log .entry)) (now (strings .entry)) (now (types .entry)) (now (instructions .exit)) (now (log .exit)) (now (strings .exit)) (now (types .exit)) (now (hints .exit)) p r ⌝ }
-{
-    let verdict = judge(
-        kinds,
-        table,
-        s,
-        g,
-        index,
-        types,
-        hints,
-        scratch,
-        spare,
-        room,
-        p,
-    );
-    match verdict {
-        Judged::Refused(x) => Step::Stop(x),
-        Judged::Good(d, tag, state) => {
-            Step::On(keep(
-                s,
-                g,
-                index,
-                instructions,
-                log,
-                strings,
-                types,
-                hints,
-                scratch,
-                spare,
-                p,
-                d,
-                tag,
-                state,
-            ))
-        }
     }
 }

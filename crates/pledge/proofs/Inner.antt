@@ -32,6 +32,8 @@ use Rattle.records.proofs.fields_at as fields-at-call
 use Rattle.records.proofs.record_at as record-at-call
 use Rattle.records.proofs.operand_at as operand-at-call
 use Rattle.records.proofs.put_fields as put-fields-call
+use Rattle.room.proofs.room_in as room-in-call
+use Rattle.room.proofs.room_fault as room-fault-call
 use Rattle.words.proofs.put_word as put-word-call
 use Rattle.operand.proofs.is_two as is-two-call
 use Rattle.operand.proofs.record_length as record-length-call
@@ -145,6 +147,13 @@ operand-at = λ κs a x y after other ask p q. (both (p .is) (q .is), refl)
 -- a record put into the store
 pub put-fields : Determined put-fields-call.Kinds.ps put-fields-call.Kinds.r put-fields-call.Reads.Asked put-fields-call.Reads.Learnt
 put-fields = λ κs a x y after other ask p q. (refl, and (both p q) refl)
+
+-- the room in stores, and the first store that lacks it
+pub room-in : Determined room-in-call.Kinds.ps room-in-call.Kinds.r room-in-call.Reads.Asked room-in-call.Reads.Learnt
+room-in = λ κs a x y after other ask p q. (both p q, refl)
+
+pub room-fault : Determined room-fault-call.Kinds.ps room-fault-call.Kinds.r room-fault-call.Reads.Asked room-fault-call.Reads.Learnt
+room-fault = λ κs a x y after other ask p q. (both p q, refl)
 
 -- a word put into bytes
 pub put-word : Determined put-word-call.Kinds.ps put-word-call.Kinds.r put-word-call.Reads.Asked put-word-call.Reads.Learnt

@@ -4,19 +4,21 @@ use borrow.Author.Needs.{needs}
 use Rattle.loader.proofs.parts.id_word.Statement.{statement}
 use Rattle.loader.proofs.parts.id_word.Tie as tie
 
-enum-told : tie.Need-enum-told
-enum-told c = search needs
-
-enum-known-x : tie.Need-enum-known-x
-enum-known-x c = search needs
-
 returns : tie.Need-returns
 unfolding idIs
-returns c = search needs
+returns c =
+    search needs
 
 returns-2 : tie.Need-returns-2
 unfolding idIs
-returns-2 c = search needs
+returns-2 c =
+    search needs
 
 pub id-word-spec : {M : Type 1} → statement M
-id-word-spec = tie.close (tie.spec enum-told enum-known-x returns returns-2)
+id-word-spec =
+    tie.close
+    (tie.spec
+    (λ c. search needs)
+    (λ c. search needs)
+    returns
+    returns-2)

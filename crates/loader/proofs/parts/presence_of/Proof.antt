@@ -4,50 +4,36 @@ use borrow.Author.Needs.{needs}
 use Rattle.loader.proofs.parts.presence_of.Statement.{statement}
 use Rattle.loader.proofs.parts.presence_of.Tie as tie
 
-enum-told : tie.Need-enum-told
-enum-told c = search needs
-
-enum-told-2 : tie.Need-enum-told-2
-enum-told-2 c = search needs
-
-enum-told-3 : tie.Need-enum-told-3
-enum-told-3 c = search needs
-
-enum-told-4 : tie.Need-enum-told-4
-enum-told-4 c = search needs
-
-enum-told-5 : tie.Need-enum-told-5
-enum-told-5 c = search needs
-
-enum-told-6 : tie.Need-enum-told-6
-enum-told-6 c = search needs
-
 returns : tie.Need-returns
 unfolding idIs
-returns c = search needs
+returns c =
+    search needs
 
 returns-2 : tie.Need-returns-2
 unfolding idIs
-returns-2 c = search needs
+returns-2 c =
+    search needs
 
 returns-3 : tie.Need-returns-3
 unfolding idIs
-returns-3 c = search needs
+returns-3 c =
+    search needs
 
 returns-4 : tie.Need-returns-4
 unfolding idIs
-returns-4 c = search needs
+returns-4 c =
+    search needs
 
 pub presence-of-spec : {M : Type 1} → statement M
 presence-of-spec =
     tie.close
     (tie.spec
-    enum-told
-    enum-told-2
-    enum-told-3
-    enum-told-4
-    enum-told-5
-    enum-told-6
+    (λ c. search needs)
+    (λ c. search needs)
+    (λ c. search needs)
+    (λ c. search needs)
+    (λ c. search needs)
+    (λ c. search needs)
     returns
     returns-2
     returns-3

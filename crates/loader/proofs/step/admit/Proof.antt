@@ -1,55 +1,43 @@
--- `loader::step::admit` meets its contract: no place, no room, or both.
-use Rattle.loader.proofs.Judging.{judged-misplaced, judged-good, judged-crowded}
-use mathlib.Core.Path.{sym, _∙_}
+-- `loader::step::admit` meets its contract: not read, no place, no room, or all three.
+use Rattle.loader.specs.Steps.{Fair}
+use Rattle.loader.proofs.Judging.{judged-unread, judged-misplaced, judged-good, judged-crowded}
+use mathlib.Core.Path.{sym, subst, _∙_}
 use borrow.Author.Needs.{needs}
 use Rattle.loader.proofs.step.admit.Statement.{statement}
 use Rattle.loader.proofs.step.admit.Tie as tie
 
-place-requires : tie.Need-place-requires
-place-requires c κs = c .before .before .pre .1 .0
-
-enum-known-cell : tie.Need-enum-known-cell
-enum-known-cell c = search needs
-
-cast-refused : tie.Need-cast-refused
-cast-refused c = search needs
-
-refused-requires : tie.Need-refused-requires
-refused-requires c κs = search needs
-
-enum-known-cell-2 : tie.Need-enum-known-cell-2
-enum-known-cell-2 c = search needs
-
 need-after-requires : tie.Need-need-after-requires
-need-after-requires c κs = (c .before .before .before .before .before .before .pre .0, c .before .before .before .before .before .before .pre .1 .1)
-
-room-fault-requires : tie.Need-room-fault-requires
-room-fault-requires c κs = search needs
+unfolding Fair
+need-after-requires c κs =
+    (c .before .before .before .before .before .before .before .before .before .pre .1 .0, subst Fair (c .before .before .before .before .before .read2 .given .1) (c .before .before .before .before .before .before .before .before .before .pre .1 .1))
 
 returns : tie.Need-returns
-returns c = judged-good _ _ _ _ _ _ _ (sym (c .before .before .before .before .before .before .place .ensures) ∙ c .before .before .before .before .cell2 .given .1) _ (c .before .room-fault .ensures ∙ c .before .before .need-after .ensures) (c .if1 .taken)
-
-refused-requires-2 : tie.Need-refused-requires-2
-refused-requires-2 c κs = search needs
-
-returns-2 : tie.Need-returns-2
-returns-2 c = judged-misplaced _ _ _ _ _ _ (sym (c .before .before .before .before .place .ensures) ∙ c .before .before .cell .given .1) _ (c .refused .ensures)
+returns c =
+    judged-good _ _ _ _ _ (c .before .before .before .before .before .before .before .before .read2 .given .1) _ _ (sym (c .before .before .before .before .before .before .place .ensures) ∙ c .before .before .before .before .cell2 .given .1) _ (c .before .room-fault .ensures ∙ c .before .before .need-after .ensures) (c .if1 .taken)
 
 returns-3 : tie.Need-returns-3
-returns-3 c = judged-crowded _ _ _ _ _ _ _ (sym (c .before .before .before .before .before .before .before .place .ensures) ∙ c .before .before .before .before .before .cell2 .given .1) _ (c .before .before .room-fault .ensures ∙ c .before .before .before .need-after .ensures) (c .before .if1 .left) _ (c .refused2 .ensures)
+returns-3 c =
+    judged-misplaced _ _ _ _ _ (c .before .before .before .before .before .before .read2 .given .1) _ (sym (c .before .before .before .before .place .ensures) ∙ c .before .before .cell .given .1) _ (c .refused .ensures)
+
+returns-4 : tie.Need-returns-4
+returns-4 c =
+    judged-crowded _ _ _ _ _ (c .before .before .before .before .before .before .before .before .before .read2 .given .1) _ _ (sym (c .before .before .before .before .before .before .before .place .ensures) ∙ c .before .before .before .before .before .cell2 .given .1) _ (c .before .before .room-fault .ensures ∙ c .before .before .before .need-after .ensures) (c .before .if1 .left) _ (c .refused2 .ensures)
 
 pub admit-spec : {M : Type 1} → statement M
 admit-spec =
     tie.close
     (tie.spec
-    place-requires
-    enum-known-cell
-    cast-refused
-    refused-requires
-    enum-known-cell-2
+    (λ c. search needs)
+    (λ c. search needs)
+    (λ c κs. c .before .before .before .before .before .pre .0)
+    (λ c. search needs)
+    (λ c. search needs)
+    (λ c κs. search needs)
+    (λ c. search needs)
     need-after-requires
-    room-fault-requires
+    (λ c κs. search needs)
     returns
-    refused-requires-2
-    returns-2
-    returns-3)
+    (λ c κs. search needs)
+    (λ c. judged-unread _ _ _ _ _ (c .before .read .given .1))
+    returns-3
+    returns-4)

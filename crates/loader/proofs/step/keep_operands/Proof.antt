@@ -7,51 +7,44 @@ use borrow.Author.Needs.{needs}
 use Rattle.loader.proofs.step.keep_operands.Statement.{statement}
 use Rattle.loader.proofs.step.keep_operands.Tie as tie
 
-slice-aggregate-put-bytes : tie.Need-slice-aggregate-put-bytes
-slice-aggregate-put-bytes c = sym (length-take-le _ _ (c .before .before .before .if1 .taken))
-
 put-bytes-requires : tie.Need-put-bytes-requires
-put-bytes-requires c κs = omega (arith, length-take-le (c .before .before .before .before .before .before .before .before .before .before .before .before .before .args .d .log) (c .before .before .before .before .before .before .before .before .before .before .before .before .before .args .scratch .now) (c .before .before .before .if1 .taken), c .before .before .before .before .before .before .before .before .before .before .before .before .before .pre .1 .1 .0 .0)
-
-slice-aggregate-put-bytes-2 : tie.Need-slice-aggregate-put-bytes-2
-slice-aggregate-put-bytes-2 c = sym (length-take-le _ _ (c .before .before .before .before .before .before .before .if2 .taken))
+put-bytes-requires c κs =
+    let at-start = c .before .before .before .before .before .before .before .before .before .before .before .before .before .before .before in
+    omega (arith, length-take-le (at-start .args .t .read .log) (at-start .args .scratch .now) (c .before .before .before .if1 .taken), at-start .pre .1 .1 .1 .0 .0)
 
 put-bytes-requires-2 : tie.Need-put-bytes-requires-2
-put-bytes-requires-2 c κs = omega (arith, length-take-le (c .before .before .before .before .before .before .before .before .before .before .before .before .before .before .before .before .before .before .args .d .strings) (c .before .before .before .before .before .before .before .before .before .before .before .before .before .before .before .before .before .before .args .spare .now) (c .before .before .before .before .before .before .before .if2 .taken), c .before .before .before .before .before .before .before .before .before .before .before .before .before .before .before .before .before .before .pre .1 .1 .0 .1)
-
-same-length : tie.Need-same-length
-same-length c = search needs
-
-same-length-2 : tie.Need-same-length-2
-same-length-2 c = search needs
+put-bytes-requires-2 c κs =
+    let at-start = c .before .before .before .before .before .before .before .before .before .before .before .before .before .before .before .before .before .before .before .before in
+    omega (arith, length-take-le (at-start .args .t .read .strings) (at-start .args .spare .now) (c .before .before .before .before .before .before .before .if2 .taken), at-start .pre .1 .1 .1 .0 .1)
 
 returns : tie.Need-returns
-returns c = from-scratch (c .before .before .before .before .before .before .before .before .before .before .before .before .before .before .before .before .before .before .before .before .before .pre .1 .1 .1) (c .before .before .before .before .before .before .before .before .before .before .before .if1 .taken) (c .before .before .before .before .before .before .before .before .before .before .if2 .taken) _ _ _ _ (c .before .before .before .before .before .before .before .put-bytes .ensures) (c .before .before .put-bytes2 .ensures)
+returns c =
+    from-scratch (c .before .before .before .before .before .before .before .before .before .before .before .before .before .before .before .before .before .before .before .before .before .before .before .pre .1 .1 .1 .1) (c .before .before .before .before .before .before .before .before .before .before .before .if1 .taken) (c .before .before .before .before .before .before .before .before .before .before .if2 .taken) _ _ _ _ (c .before .before .before .before .before .before .before .put-bytes .ensures) (c .before .before .put-bytes2 .ensures)
 
 parse-body-requires : tie.Need-parse-body-requires
-parse-body-requires c κs = let b = c .before .before .before .before .before .before .before .before .before .before .before .before .pre .1 .0 in let h = c .before .before .before .before .before .before .before .before .before .before .before .before .pre .1 .1 .1 in (c .before .before .before .before .before .before .before .before .before .before .before .before .pre .0, ((b .short, b .inside, h .handed .moves, b .types-in), ((b .few-log, omega (arith, b .few-strings)), ((h .row .inside, h .row .operands), b .hinted))))
-
-same-length-3 : tie.Need-same-length-3
-same-length-3 c = search needs
-
-same-length-4 : tie.Need-same-length-4
-same-length-4 c = search needs
+parse-body-requires c κs =
+    let asked = c .before .before .before .before .before .before .before .before .before .before .before .before .before .before .pre in
+    let stands = asked .1 .1 .0 .0 in
+    let typed = asked .1 .1 .0 .1 in
+    let shown = asked .1 .1 .1 .1 in
+    (asked .0, ((asked .1 .0 .0, asked .1 .0 .1, shown .handed .moves, typed .inside), ((stands .few-log, omega (arith, stands .few-strings)), ((shown .row .inside, shown .row .operands), typed .hinted))))
 
 returns-2 : tie.Need-returns-2
-returns-2 c = from-module (c .before .before .before .before .before .before .before .before .before .before .before .before .before .before .before .before .before .pre .1 .1 .1) _ _ _ _ (c .before .before .before .before .before .before .before .before .before .before .before .before .before .before .before .before .before .pre .1 .1 .0 .0) (c .before .before .before .before .before .before .before .before .before .before .before .before .before .before .before .before .before .pre .1 .1 .0 .1) _ (c .before .before .before .before .parse-body .ensures .0)
+returns-2 c =
+    let fit = c .before .before .before .before .before .before .before .before .before .before .before .before .before .before .before .before .before .before .before .pre .1 .1 .1 in from-module (fit .1) _ _ _ _ (fit .0 .0) (fit .0 .1) _ (c .before .before .before .before .parse-body .ensures .0)
 
 pub keep-operands-spec : {M : Type 1} → statement M
 keep-operands-spec =
     tie.close
     (tie.spec
-    slice-aggregate-put-bytes
+    (λ c. sym (length-take-le _ _ (c .before .before .before .if1 .taken)))
     put-bytes-requires
-    slice-aggregate-put-bytes-2
+    (λ c. sym (length-take-le _ _ (c .before .before .before .before .before .before .before .if2 .taken)))
     put-bytes-requires-2
-    same-length
-    same-length-2
+    (λ c. search needs)
+    (λ c. search needs)
     returns
     parse-body-requires
-    same-length-3
-    same-length-4
+    (λ c. search needs)
+    (λ c. search needs)
     returns-2)

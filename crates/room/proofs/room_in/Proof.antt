@@ -1,8 +1,8 @@
--- `loader::parts::room_in` meets its contract.
+-- `room::room_in` meets its contract.
 use Rattle.spec.specs.Load.{roomOf}
 use mathlib.Core.Path.{refl}
-use Rattle.loader.proofs.parts.room_in.Statement.{statement}
-use Rattle.loader.proofs.parts.room_in.Tie as tie
+use Rattle.room.proofs.room_in.Statement.{statement}
+use Rattle.room.proofs.room_in.Tie as tie
 
 returns : tie.Need-returns
 unfolding roomOf
