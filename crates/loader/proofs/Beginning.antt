@@ -13,7 +13,7 @@ use Rattle.spec.specs.Reader.{readerAt}
 use Rattle.spec.specs.Header.{headerFrom}
 use Rattle.spec.specs.Grammar.{grammarOf, wellFormed}
 use Rattle.spec.specs.Builtin.{builtin, builtin-well-formed}
-use Rattle.spec.specs.Load.{Outcome, nothing, afterHeader, loadWith, load, Stores, storesOf, laidOver, laidOn, roomIn}
+use Rattle.spec.specs.Load.{Outcome, nothing, afterHeader, loadWith, load, Stores, storesOf, laidOver, laidOn}
 use Rattle.demands.proofs.Bytes.{SliceOfBytes, slice-bytes}
 use Rattle.demands.proofs.Starts.{header-is}
 use Rattle.grammar.specs.Index.{Indexed}

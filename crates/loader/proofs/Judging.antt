@@ -1,8 +1,8 @@
 -- Laws of an instruction before anything is kept: decoded, then placed, then given room.
-use Prim.Native.Nat.{ℕ, suc, _+_, _*_, _-_, _≤_, _<_}
+use Prim.Native.Nat.{ℕ, suc, _+_, _*_, _-_, _≤_}
 use mathlib.Core.Path.{_≡_, refl, ap, sym, subst, _∙_}
 use mathlib.Core.Bool.{Bool, true, false}
-use mathlib.Core.List.{List, [], _∷_, _++_}
+use mathlib.Core.List.{List}
 use native.Mathlib.Omega.{arith}
 use borrow.Author.Tests.{eqb-true, ne-eqb, le-ltb, le-leb}
 use lib.Dec.{eqb}
@@ -20,7 +20,6 @@ use Rattle.spec.specs.Reader.{refusal, readerAt}
 use Rattle.spec.specs.Grammar.{grammarOf}
 use Rattle.spec.specs.Layout.{layoutOf}
 use Rattle.spec.specs.Types.{track}
-use Rattle.spec.specs.Match.{readInstr}
 use Rattle.spec.specs.Load.{Book, counts, roomFault, usedAfter, stop, loadFrom}
 use Rattle.demands.proofs.Lists.{has-leb}
 use Rattle.demands.proofs.Stores.{operands-log-length}
@@ -102,7 +101,7 @@ module _ {s g types scratch spare : List ℕ} {p : Progress} {d : Decoded} (show
         fits = h .fits;
       }
 
--- neither has what was read
+-- nor has what was read
 pub fair : (s g types scratch spare : List ℕ) (p : Progress) (v : InstRead) → Shows s g types scratch spare p v → length s ≤ 67108864 → Fair v
 unfolding Shows Fair
 fair s g types scratch spare p (inst.Got d) h short = moderate h short

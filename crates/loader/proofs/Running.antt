@@ -25,14 +25,14 @@ use Rattle.spec.specs.Match.{readInstr}
 use Rattle.spec.specs.Load.{roomOf, roomFault, usedAfter, Covers, Book, emptyBook, Outcome, stop, loadFrom, Stores, lent, roomIn, storesOf, laidOver, laidOn, roomed, onBook}
 use Rattle.demands.proofs.Lists.{has-leb}
 use Rattle.demands.proofs.Room.{fits-covers}
-use Rattle.demands.proofs.Stores.{operands-log-length, records-length, strings-more, log-more}
+use Rattle.demands.proofs.Stores.{records-length, strings-more, log-more}
 use Rattle.grammar.specs.Index.{Indexed}
 use Rattle.tracker.specs.Entries.{entriesOf, stored}
 use Rattle.tracker.proofs.Hinting.{hinted-none}
 use Rattle.loader.specs.declared.parts.Progress.{Progress}
 use Rattle.loader.specs.declared.parts.Taken.{Taken}
-use Rattle.loader.specs.Steps.{usedBy, saidAt, readAt, Bounded, Typed, tracked, needOf, Stored, Recorded}
-use Rattle.loader.specs.Loading.{Leaves, LoadsFrom}
+use Rattle.loader.specs.Steps.{usedBy, saidAt, Bounded, Typed, tracked, needOf, Stored, Recorded}
+use Rattle.loader.specs.Loading.{LoadsFrom}
 use Rattle.loader.proofs.Judging.{placedAs, bookOf, word-left, Admitted, Stops, log-size, strings-size, tracked-is, need-is, fields-are, placed-is}
 use Rattle.loader.proofs.Keeping.{log-short}
 use Rattle.loader.proofs.Growing.{records-more, grow, entries-next, types-next}
@@ -183,14 +183,10 @@ module _ {s g : List ℕ} {room : Counts} {before now : Stores} {h₀ hs : List 
 -- AN INSTRUCTION THAT GOES IN
 
 module _ {s g : List ℕ} {room : Counts} {before now : Stores} {h₀ hs : List ℕ} {p : Progress} {scratch spare : List ℕ} {t : Taken}
-    (was : Running s g room before now h₀ hs p) (word : 4 ≤ length s - p .at) (a : Admitted s g (now .types) scratch spare room p t) where
+    (was : Running s g room before now h₀ hs p) (a : Admitted s g (now .types) scratch spare room p t) where
   -- the load stands where the instruction was taken
   pub here : Running s g room before now h₀ hs (t .from)
   here = subst (Running s g room before now h₀ hs) (sym (a .from)) was
-
-  -- where a word is left
-  pub more : 4 ≤ length s - t .from .at
-  more = omega (arith, word, ap (λ (x : Progress). x .at) (a .from))
 
   -- each store covers what is needed
   covered : Covers room (needOf (t .from) (t .read) (entriesOf (t .from .types) (now .types)))
@@ -214,81 +210,86 @@ module _ {s g : List ℕ} {room : Counts} {before now : Stores} {h₀ hs : List 
   unfolding roomIn roomOf needOf
   entries-fit = omega (arith, covered .types, ap (λ (c : Counts). c .types) (here .room-is), same-types here)
 
-  module _ {i₁ t₁ h₁ : List ℕ} {q : Progress} (k : Recorded (now .instructions) (now .types) i₁ t₁ h₁ t q) where
-    -- the load comes nearer to the end
-    pub fewer : length s - q .at < length s - p .at
-    fewer = omega (arith, word, k .at, a .shown .handed .moves, ap (λ (x : Progress). x .at) (a .from))
+  module _ (word : 4 ≤ length s - p .at) where
+    -- a word is left there
+    pub more : 4 ≤ length s - t .from .at
+    more = omega (arith, word, ap (λ (x : Progress). x .at) (a .from))
 
-    -- one instruction more
-    pub goes-on : (index l₁ w₁ : List ℕ) → Indexed g index → Stored s g (now .types) (now .log) (now .strings) l₁ w₁ (t .from)
-        → length h₁ ≡ length hs → Running s g room before (lent i₁ l₁ w₁ t₁) h₀ h₁ q
-    unfolding needOf Stored stored laidOver
-    goes-on index l₁ w₁ ix st same =
-        let f = t .from in
-        let d = t .read in
-        let h = a .shown .handed in
-        let i = h .instr in
-        let ks = here .kept in
-        let pl = placedAs i (t .tag) in
-        let es = entriesOf (f .types) (now .types) in
-        let laid = st i _ (h .read) in
-        let one = ap (λ (c : Counts). c .instructions) (k .used) in
-        let logged = ap (λ (c : Counts). c .log) (k .used) in
-        let strung = ap (λ (c : Counts). c .strings) (k .used) in
-        let typed = ap (λ (c : Counts). c .types) (k .used) in
-        let types-are : t₁ ≡ stored (now .types) (track i es) = k .types-are ∙ ap (stored (now .types)) (tracked-is (a .shown) es) in
-        let count : length (track i es) ≡ q .types = ap length (sym (tracked-is (a .shown) es)) ∙ sym typed in
-        let size : length t₁ ≡ length (now .types) = ap length (k .types-are) ∙ length-sets (now .types) 0 (joined entryWords (tracked d es)) in
-        let fit : entrySize * q .types ≤ length (before .types) = omega (arith, entries-fit, typed, same-types here) in
-        let en = entries-next (before .types) (now .types) t₁ (f .types) (q .types) i (same-types here) (here .types-are) types-are count fit in
-        let strs : 0 + length (stringStore ks) ≡ f .strings = zero-add (length (stringStore ks)) ∙ here .nstrings in
-        let logs : logFrom 0 (ks ++ (pl ∷ [])) ≡ logFrom 0 ks ++ operandsLog (f .strings) (i .operands) =
-        log-more 0 ks pl ∙ ap (λ (n : ℕ). logFrom 0 ks ++ operandsLog n (i .operands)) strs
-        in
-        let starts : 0 + length (logFrom 0 ks) ≡ f .log = zero-add (length (logFrom 0 ks)) ∙ here .nlog in
-        let short-log = log-short g index ix es s (f .at) i _ (f .strings) (h .read) in
-        record {
-          kept = ks ++ (pl ∷ []);
-          fuel = here .fuel - 1;
-          left = λ z.
-              left-more here more z
-              ∙ load-goes (grammarOf g) room z s (f .at) (here .fuel - 1) (bookOf ks es f) i (q .at) (t .tag) (q .state) (usedBy q) more
-              (h .read ∙ ap (λ (n : ℕ). got i (readerAt s n Unlimited)) (sym (k .at)))
-              (placed-is (a .shown) _ (a .placed) ∙ ap (Tagged (t .tag)) (sym (k .state))) (sym (need-is (a .shown) es) ∙ sym (k .used))
-              (ap (roomFault room) (k .used) ∙ a .fits)
-              ∙ ap
-              (λ (fs : List Entry). loadFrom (grammarOf g) room z (here .fuel - 1) (bookOf (ks ++ (pl ∷ [])) fs q) (readerAt s (q .at) Unlimited))
-              en;
-          enough = omega (arith, here .enough, k .at, h .moves);
-          inside = omega (arith, k .at, h .inside);
-          short = here .short;
-          bounded =
-              record {
-                short = omega (arith, k .at, h .inside, here .short);
-                few = omega (arith, here .bounded .few, k .at, h .moves, one);
-                few-log = omega (arith, here .bounded .few-log, short-log, log-size (a .shown), h .words, k .at, logged);
-                few-strings = omega (arith, h .few-strings, k .at, strung);
-              };
-          room-is = here .room-is;
-          ninstructions = length-append ks (pl ∷ []) ∙ omega (arith, here .ninstructions, one);
-          nlog =
-              ap length logs
-              ∙ length-append (logFrom 0 ks) (operandsLog (f .strings) (i .operands))
-              ∙ omega (arith, here .nlog, log-size (a .shown), logged);
-          nstrings =
-              ap length (strings-more ks pl)
-              ∙ length-append (stringStore ks) (operandsStrings (i .operands))
-              ∙ omega (arith, here .nstrings, strings-size (a .shown), strung);
-          instructions-are =
-              grow (before .instructions) (now .instructions) i₁ (recordsFrom 0 ks) (fieldWords (fieldsOf (f .log) pl)) _ (recordSize * f .instructions) (here .instructions-are)
-              (records-length 0 ks ∙ ap (λ (n : ℕ). recordSize * n) (here .ninstructions))
-              (k .instructions-are ∙ ap (λ (z : Fields). sets (now .instructions) (recordSize * f .instructions) (fieldWords z)) (fields-are (a .shown) (t .tag)))
-              (records-more 0 0 ks pl ∙ ap (λ (n : ℕ). recordsFrom 0 ks ++ fieldWords (fieldsOf n pl)) starts);
-          log-is = grow (before .log) (now .log) l₁ (logFrom 0 ks) (operandsLog (f .strings) (i .operands)) _ (f .log) (here .log-is) (here .nlog) (laid .0) logs;
-          strings-are =
-              grow (before .strings) (now .strings) w₁ (stringStore ks) (operandsStrings (i .operands)) _ (f .strings) (here .strings-are) (here .nstrings) (laid .1)
-              (strings-more ks pl);
-          types-are = types-next (before .types) (now .types) t₁ (f .types) (q .types) i (same-types here) (here .types-are) types-are count fit;
-          typed = record { inside = omega (arith, entries-fit, typed, size); hinted = k .hinted };
-          same-hints = same ∙ here .same-hints;
-        }
+    module _ {i₁ t₁ h₁ : List ℕ} {q : Progress} (k : Recorded (now .instructions) (now .types) i₁ t₁ h₁ t q) where
+      -- the load comes nearer to the end
+      pub fewer : length s - q .at < length s - p .at
+      fewer = omega (arith, word, k .at, a .shown .handed .moves, ap (λ (x : Progress). x .at) (a .from))
+
+      -- one instruction more
+      pub goes-on : (index l₁ w₁ : List ℕ) → Indexed g index → Stored s g (now .types) (now .log) (now .strings) l₁ w₁ (t .from)
+          → length h₁ ≡ length hs → Running s g room before (lent i₁ l₁ w₁ t₁) h₀ h₁ q
+      unfolding needOf Stored stored laidOver
+      goes-on index l₁ w₁ ix st same =
+          let f = t .from in
+          let d = t .read in
+          let h = a .shown .handed in
+          let i = h .instr in
+          let ks = here .kept in
+          let pl = placedAs i (t .tag) in
+          let es = entriesOf (f .types) (now .types) in
+          let laid = st i _ (h .read) in
+          let one = ap (λ (c : Counts). c .instructions) (k .used) in
+          let logged = ap (λ (c : Counts). c .log) (k .used) in
+          let strung = ap (λ (c : Counts). c .strings) (k .used) in
+          let typed = ap (λ (c : Counts). c .types) (k .used) in
+          let types-are : t₁ ≡ stored (now .types) (track i es) = k .types-are ∙ ap (stored (now .types)) (tracked-is (a .shown) es) in
+          let count : length (track i es) ≡ q .types = ap length (sym (tracked-is (a .shown) es)) ∙ sym typed in
+          let size : length t₁ ≡ length (now .types) = ap length (k .types-are) ∙ length-sets (now .types) 0 (joined entryWords (tracked d es)) in
+          let fit : entrySize * q .types ≤ length (before .types) = omega (arith, entries-fit, typed, same-types here) in
+          let en = entries-next (before .types) (now .types) t₁ (f .types) (q .types) i (same-types here) (here .types-are) types-are count fit in
+          let strs : 0 + length (stringStore ks) ≡ f .strings = zero-add (length (stringStore ks)) ∙ here .nstrings in
+          let logs : logFrom 0 (ks ++ (pl ∷ [])) ≡ logFrom 0 ks ++ operandsLog (f .strings) (i .operands) =
+          log-more 0 ks pl ∙ ap (λ (n : ℕ). logFrom 0 ks ++ operandsLog n (i .operands)) strs
+          in
+          let starts : 0 + length (logFrom 0 ks) ≡ f .log = zero-add (length (logFrom 0 ks)) ∙ here .nlog in
+          let short-log = log-short g index ix es s (f .at) i _ (f .strings) (h .read) in
+          record {
+            kept = ks ++ (pl ∷ []);
+            fuel = here .fuel - 1;
+            left = λ z.
+                left-more here more z
+                ∙ load-goes (grammarOf g) room z s (f .at) (here .fuel - 1) (bookOf ks es f) i (q .at) (t .tag) (q .state) (usedBy q) more
+                (h .read ∙ ap (λ (n : ℕ). got i (readerAt s n Unlimited)) (sym (k .at)))
+                (placed-is (a .shown) _ (a .placed) ∙ ap (Tagged (t .tag)) (sym (k .state))) (sym (need-is (a .shown) es) ∙ sym (k .used))
+                (ap (roomFault room) (k .used) ∙ a .fits)
+                ∙ ap
+                (λ (fs : List Entry). loadFrom (grammarOf g) room z (here .fuel - 1) (bookOf (ks ++ (pl ∷ [])) fs q) (readerAt s (q .at) Unlimited))
+                en;
+            enough = omega (arith, here .enough, k .at, h .moves);
+            inside = omega (arith, k .at, h .inside);
+            short = here .short;
+            bounded =
+                record {
+                  short = omega (arith, k .at, h .inside, here .short);
+                  few = omega (arith, here .bounded .few, k .at, h .moves, one);
+                  few-log = omega (arith, here .bounded .few-log, short-log, log-size (a .shown), h .words, k .at, logged);
+                  few-strings = omega (arith, h .few-strings, k .at, strung);
+                };
+            room-is = here .room-is;
+            ninstructions = length-append ks (pl ∷ []) ∙ omega (arith, here .ninstructions, one);
+            nlog =
+                ap length logs
+                ∙ length-append (logFrom 0 ks) (operandsLog (f .strings) (i .operands))
+                ∙ omega (arith, here .nlog, log-size (a .shown), logged);
+            nstrings =
+                ap length (strings-more ks pl)
+                ∙ length-append (stringStore ks) (operandsStrings (i .operands))
+                ∙ omega (arith, here .nstrings, strings-size (a .shown), strung);
+            instructions-are =
+                grow (before .instructions) (now .instructions) i₁ (recordsFrom 0 ks) (fieldWords (fieldsOf (f .log) pl)) _ (recordSize * f .instructions) (here .instructions-are)
+                (records-length 0 ks ∙ ap (λ (n : ℕ). recordSize * n) (here .ninstructions))
+                (k .instructions-are ∙ ap (λ (z : Fields). sets (now .instructions) (recordSize * f .instructions) (fieldWords z)) (fields-are (a .shown) (t .tag)))
+                (records-more 0 0 ks pl ∙ ap (λ (n : ℕ). recordsFrom 0 ks ++ fieldWords (fieldsOf n pl)) starts);
+            log-is = grow (before .log) (now .log) l₁ (logFrom 0 ks) (operandsLog (f .strings) (i .operands)) _ (f .log) (here .log-is) (here .nlog) (laid .0) logs;
+            strings-are =
+                grow (before .strings) (now .strings) w₁ (stringStore ks) (operandsStrings (i .operands)) _ (f .strings) (here .strings-are) (here .nstrings) (laid .1)
+                (strings-more ks pl);
+            types-are = types-next (before .types) (now .types) t₁ (f .types) (q .types) i (same-types here) (here .types-are) types-are count fit;
+            typed = record { inside = omega (arith, entries-fit, typed, size); hinted = k .hinted };
+            same-hints = same ∙ here .same-hints;
+          }

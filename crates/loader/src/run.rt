@@ -145,11 +145,11 @@ fn load_with(
 
 // THE STACK
 //
-// All that a load works with lies in the frame of one of the next two functions, which differ in their hints alone, but for the scratch
-// and the spare of load_from, which are short. They are two because
-// a frame has room for everything that its function declares, whichever branch is taken: one function for both would have a short
-// module pay for the long hints. The compiler keeps them apart from their callers because each is called from two places and, with
-// its tables, is too long to be put in line there; tools/stack sees to it that this stays so.
+// All that a load works with, but for the scratch and the spare of load_from, which are short, lies in the frame of one of the next two
+// functions, which differ in their hints alone. They are two because a frame has room for everything that its function declares,
+// whichever branch is taken: one function for both would have a short module pay for the long hints. The compiler keeps them apart from
+// their callers because each is called from two places and, with its tables, is too long to be put in line there; tools/stack sees to
+// it that this stays so.
 
 // A load of a short module: a long table of hints would take more time to clear than it saves.
 pub fn load_few(

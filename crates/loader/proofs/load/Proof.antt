@@ -9,7 +9,7 @@ use Rattle.loader.proofs.load.Tie as tie
 returns : tie.Need-returns
 returns c =
     let checked = c .before .before in
-    load-unformed _ _ _ (c .before .before .before .before .before .before .before .before .shared-slice-known .given) (sym (checked .well-formed .ensures) ∙ not-true _ (c .before .if1 .taken)) _ (c .no-instruction .ensures)
+    load-unformed _ _ _ (checked .before .before .before .before .before .before .shared-slice-known .given) (sym (checked .well-formed .ensures) ∙ not-true _ (c .before .if1 .taken)) _ (c .no-instruction .ensures)
 
 fill-index-requires : tie.Need-fill-index-requires
 fill-index-requires c κs =
@@ -17,13 +17,17 @@ fill-index-requires c κs =
 
 returns-2 : tie.Need-returns-2
 returns-2 c =
-    let checked = c .before .before .before .before .before .before .before .before .before .before .before .before .before .before .before .before .before .before .before in
-    load-formed _ _ _ (c .before .before .before .before .before .before .before .before .before .before .before .before .before .before .before .before .before .before .before .before .before .before .before .before .before .shared-slice-known .given) (sym (checked .well-formed .ensures) ∙ not-false _ (c .before .before .before .before .before .before .before .before .before .before .before .before .before .before .before .before .before .before .if1 .left)) _ _ (c .before .before .before .before .before .before .before .before .load-few .ensures)
+    let loaded = c .before .before .before .before .before .before .before .before in
+    let well = loaded .before .before .before .before .before .before .before .before .before .before in
+    let checked = well .before in
+    load-formed _ _ _ (checked .before .before .before .before .before .before .shared-slice-known .given) (sym (checked .well-formed .ensures) ∙ not-false _ (well .if1 .left)) _ _ (loaded .load-few .ensures)
 
 returns-3 : tie.Need-returns-3
 returns-3 c =
-    let checked = c .before .before .before .before .before .before .before .before .before .before .before .before .before .before .before .before .before .before .before in
-    load-formed _ _ _ (c .before .before .before .before .before .before .before .before .before .before .before .before .before .before .before .before .before .before .before .before .before .before .before .before .before .shared-slice-known .given) (sym (checked .well-formed .ensures) ∙ not-false _ (c .before .before .before .before .before .before .before .before .before .before .before .before .before .before .before .before .before .before .if1 .left)) _ _ (c .before .before .before .before .before .before .before .before .load-many .ensures)
+    let loaded = c .before .before .before .before .before .before .before .before in
+    let well = loaded .before .before .before .before .before .before .before .before .before .before in
+    let checked = well .before in
+    load-formed _ _ _ (checked .before .before .before .before .before .before .shared-slice-known .given) (sym (checked .well-formed .ensures) ∙ not-false _ (well .if1 .left)) _ _ (loaded .load-many .ensures)
 
 pub load-spec : {M : Type 1} → statement M
 load-spec =

@@ -6,11 +6,15 @@ use Rattle.loader.proofs.load_builtin.Tie as tie
 
 returns : tie.Need-returns
 returns c =
-    load-prepared _ _ _ (c .before .before .before .before .before .before .before .before .before .before .before .before .before .before .before .before .before .before .before .before .before .before .shared-slice-known .given) (c .before .before .before .before .before .before .before .before .before .before .before .before .before .before .before .before .before .table .ensures) _ _ (c .before .before .before .before .before .before .before .before .load-few .ensures)
+    let loaded = c .before .before .before .before .before .before .before .before in
+    let tabled = loaded .before .before .before .before .before .before .before .before .before in
+    load-prepared _ _ _ (tabled .before .before .before .before .before .shared-slice-known .given) (tabled .table .ensures) _ _ (loaded .load-few .ensures)
 
 returns-2 : tie.Need-returns-2
 returns-2 c =
-    load-prepared _ _ _ (c .before .before .before .before .before .before .before .before .before .before .before .before .before .before .before .before .before .before .before .before .before .before .shared-slice-known .given) (c .before .before .before .before .before .before .before .before .before .before .before .before .before .before .before .before .before .table .ensures) _ _ (c .before .before .before .before .before .before .before .before .load-many .ensures)
+    let loaded = c .before .before .before .before .before .before .before .before in
+    let tabled = loaded .before .before .before .before .before .before .before .before .before in
+    load-prepared _ _ _ (tabled .before .before .before .before .before .shared-slice-known .given) (tabled .table .ensures) _ _ (loaded .load-many .ensures)
 
 pub load-builtin-spec : {M : Type 1} → statement M
 load-builtin-spec =

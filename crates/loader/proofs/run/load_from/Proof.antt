@@ -21,48 +21,73 @@ abbrev μ-loop : tie.MeasureT-loop
 
 decode-requires : tie.Need-decode-requires Inv-loop μ-loop
 decode-requires c κs =
-    let running = c .before .before .before .before .before .before .loop .inv .0 in
-    (c .before .before .before .before .before .before .before .before .before .before .before .before .before .before .before .before .pre .0, ((running .short, omega (arith, running .inside, c .before .before .before .before .if1 .taken)), (running .bounded, running .typed)))
+    let turn = c .before .before .before .before .before .before in
+    let running = turn .loop .inv .0 in
+    (turn .before .before .before .before .before .before .before .before .before .before .pre .0, ((running .short, omega (arith, running .inside, c .before .before .before .before .if1 .taken)), (running .bounded, running .typed)))
 
 admit-requires : tie.Need-admit-requires Inv-loop μ-loop
 admit-requires c κs =
-    let running = c .before .before .before .before .before .before .before .before .before .before .before .loop .inv .0 in
-    (c .before .before .before .before .before .before .before .before .before .before .before .before .before .before .before .before .before .before .before .before .before .pre .1 .1, ((running .bounded, running .typed), fair _ _ _ _ _ _ _ (c .before .before .before .before .decode .ensures) (running .short)))
+    let decoded = c .before .before .before .before in
+    let turn = decoded .before .before .before .before .before .before .before in
+    let running = turn .loop .inv .0 in
+    (turn .before .before .before .before .before .before .before .before .before .before .pre .1 .1, ((running .bounded, running .typed), fair _ _ _ _ _ _ _ (decoded .decode .ensures) (running .short)))
 
 returns : tie.Need-returns Inv-loop μ-loop
 returns c =
-    let running = c .before .before .before .before .before .before .before .before .before .before .before .before .before .before .before .loop .inv .0 in
-    (halts running (c .before .before .before .before .before .before .before .before .before .before .before .before .before .if1 .taken) _ (verdict _ _ _ _ _ _ _ _ (c .before .before .before .before .before .before .before .before .decode .ensures) _ (c .before .before .before .admit .ensures) _ (c .before .verdict .given .1)), few-kept running)
+    let judged = c .before .before .before in
+    let decoded = judged .before .before .before .before .before in
+    let turn = decoded .before .before .before .before .before .before .before in
+    let running = turn .loop .inv .0 in
+    (halts running (decoded .before .before .before .before .before .if1 .taken) _ (verdict _ _ _ _ _ _ _ _ (decoded .decode .ensures) _ (judged .admit .ensures) _ (c .before .verdict .given .1)), few-kept running)
 
 keep-operands-requires : tie.Need-keep-operands-requires Inv-loop μ-loop
 keep-operands-requires c κs =
-    let running = c .before .before .before .before .before .before .before .before .before .before .before .before .before .before .before .before .before .before .before .before .before .loop .inv .0 in
-    let word = c .before .before .before .before .before .before .before .before .before .before .before .before .before .before .before .before .before .before .before .if1 .taken in
-    let goes-in = verdict _ _ _ _ _ _ _ _ (c .before .before .before .before .before .before .before .before .before .before .before .before .before .before .decode .ensures) _ (c .before .before .before .before .before .before .before .before .before .admit .ensures) _ (c .before .before .before .before .before .before .before .verdict2 .given .1) in
-    let stands = here running word goes-in in
-    (c .before .before .before .before .before .before .before .before .before .before .before .before .before .before .before .before .before .before .before .before .before .before .before .before .before .before .before .before .before .before .before .pre .0, ((stands .short, omega (arith, stands .inside, more running word goes-in)), ((stands .bounded, stands .typed), (operands-fit running word goes-in, goes-in .shown))))
+    let taken = c .before .before .before .before .before .before .before in
+    let judged = taken .before .before in
+    let decoded = judged .before .before .before .before .before in
+    let turn = decoded .before .before .before .before .before .before .before in
+    let running = turn .loop .inv .0 in
+    let word = decoded .before .before .before .before .before .if1 .taken in
+    let goes-in = verdict _ _ _ _ _ _ _ _ (decoded .decode .ensures) _ (judged .admit .ensures) _ (taken .verdict2 .given .1) in
+    let at-start = turn .before .before .before .before .before .before .before .before .before .before in
+    let stands = here running goes-in in
+    (at-start .pre .0, ((stands .short, omega (arith, stands .inside, more running goes-in word)), ((stands .bounded, stands .typed), (operands-fit running goes-in, goes-in .shown))))
 
 keep-record-requires : tie.Need-keep-record-requires Inv-loop μ-loop
 keep-record-requires c κs =
-    let running = c .before .before .before .before .before .before .before .before .before .before .before .before .before .before .before .before .before .before .before .before .before .before .before .before .before .before .before .before .before .loop .inv .0 in
-    let word = c .before .before .before .before .before .before .before .before .before .before .before .before .before .before .before .before .before .before .before .before .before .before .before .before .before .before .before .if1 .taken in
-    let goes-in = verdict _ _ _ _ _ _ _ _ (c .before .before .before .before .before .before .before .before .before .before .before .before .before .before .before .before .before .before .before .before .before .before .decode .ensures) _ (c .before .before .before .before .before .before .before .before .before .before .before .before .before .before .before .before .before .admit .ensures) _ (c .before .before .before .before .before .before .before .before .before .before .before .before .before .before .before .verdict2 .given .1) in
-    let stands = here running word goes-in in
-    ((stands .bounded, stands .typed), (moderate (goes-in .shown) (stands .short), (record-fits running word goes-in, entries-fit running word goes-in)))
+    let taken = c .before .before .before .before .before .before .before .before .before .before .before .before .before .before .before in
+    let judged = taken .before .before in
+    let decoded = judged .before .before .before .before .before in
+    let turn = decoded .before .before .before .before .before .before .before in
+    let running = turn .loop .inv .0 in
+    let goes-in = verdict _ _ _ _ _ _ _ _ (decoded .decode .ensures) _ (judged .admit .ensures) _ (taken .verdict2 .given .1) in
+    let stands = here running goes-in in
+    ((stands .bounded, stands .typed), (moderate (goes-in .shown) (stands .short), (record-fits running goes-in, entries-fit running goes-in)))
 
 loop-less : tie.Need-loop-less Inv-loop μ-loop
 loop-less c =
-    let running = c .before .before .before .before .before .before .before .before .before .before .before .before .before .before .before .before .before .before .before .before .before .before .before .before .before .before .before .before .before .before .before .before .before .before .before .before .loop .inv .0 in
-    let word = c .before .before .before .before .before .before .before .before .before .before .before .before .before .before .before .before .before .before .before .before .before .before .before .before .before .before .before .before .before .before .before .before .before .before .if1 .taken in
-    let goes-in = verdict _ _ _ _ _ _ _ _ (c .before .before .before .before .before .before .before .before .before .before .before .before .before .before .before .before .before .before .before .before .before .before .before .before .before .before .before .before .before .decode .ensures) _ (c .before .before .before .before .before .before .before .before .before .before .before .before .before .before .before .before .before .before .before .before .before .before .before .before .admit .ensures) _ (c .before .before .before .before .before .before .before .before .before .before .before .before .before .before .before .before .before .before .before .before .before .before .verdict2 .given .1) in
-    fewer running word goes-in (c .before .before .before .before .before .before .keep-record .ensures)
+    let taken = c .before .before .before .before .before .before .before .before .before .before .before .before .before .before .before .before .before .before .before .before .before .before in
+    let judged = taken .before .before in
+    let decoded = judged .before .before .before .before .before in
+    let turn = decoded .before .before .before .before .before .before .before in
+    let running = turn .loop .inv .0 in
+    let word = decoded .before .before .before .before .before .if1 .taken in
+    let goes-in = verdict _ _ _ _ _ _ _ _ (decoded .decode .ensures) _ (judged .admit .ensures) _ (taken .verdict2 .given .1) in
+    fewer running goes-in word (c .before .before .before .before .before .before .keep-record .ensures)
 
 loop-again : tie.Need-loop-again Inv-loop μ-loop
 loop-again c =
-    let running = c .before .before .before .before .before .before .before .before .before .before .before .before .before .before .before .before .before .before .before .before .before .before .before .before .before .before .before .before .before .before .before .before .before .before .before .before .loop .inv .0 in
-    let word = c .before .before .before .before .before .before .before .before .before .before .before .before .before .before .before .before .before .before .before .before .before .before .before .before .before .before .before .before .before .before .before .before .before .before .if1 .taken in
-    let goes-in = verdict _ _ _ _ _ _ _ _ (c .before .before .before .before .before .before .before .before .before .before .before .before .before .before .before .before .before .before .before .before .before .before .before .before .before .before .before .before .before .decode .ensures) _ (c .before .before .before .before .before .before .before .before .before .before .before .before .before .before .before .before .before .before .before .before .before .before .before .before .admit .ensures) _ (c .before .before .before .before .before .before .before .before .before .before .before .before .before .before .before .before .before .before .before .before .before .before .verdict2 .given .1) in
-    (goes-on running word goes-in (c .before .before .before .before .before .before .keep-record .ensures) _ _ _ (c .before .before .before .before .before .before .before .before .before .before .before .before .before .before .before .before .before .before .before .before .before .before .before .before .before .before .before .before .before .before .before .before .before .before .before .before .before .before .before .before .before .before .before .before .before .before .pre .0) (c .before .before .before .before .before .before .before .before .before .before .before .before .before .before .keep-operands .ensures) (c .before .hints .given), (c .before .before .before .before .before .before .before .before .before .before .before .before .before .before .before .before .before .before .before .before .before .before .before .before .before .before .before .before .scratch2 .given, c .before .before .before .before .before .before .before .before .before .before .before .before .before .before .before .before .before .before .before .before .before .before .before .before .before .before .before .spare2 .given))
+    let recorded = c .before .before .before .before .before .before in
+    let stored = recorded .before .before .before .before .before .before .before .before in
+    let taken = stored .before .before .before .before .before .before .before .before in
+    let judged = taken .before .before in
+    let decoded = judged .before .before .before .before .before in
+    let turn = decoded .before .before .before .before .before .before .before in
+    let running = turn .loop .inv .0 in
+    let word = decoded .before .before .before .before .before .if1 .taken in
+    let goes-in = verdict _ _ _ _ _ _ _ _ (decoded .decode .ensures) _ (judged .admit .ensures) _ (taken .verdict2 .given .1) in
+    let at-start = turn .before .before .before .before .before .before .before .before .before .before in
+    (goes-on running goes-in word (recorded .keep-record .ensures) _ _ _ (at-start .pre .0) (stored .keep-operands .ensures) (c .before .hints .given), (judged .before .before .before .before .scratch2 .given, judged .before .before .before .spare2 .given))
 
 pub load-from-spec : {M : Type 1} → statement M
 load-from-spec =

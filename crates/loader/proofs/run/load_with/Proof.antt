@@ -6,12 +6,17 @@ use Rattle.loader.proofs.run.load_with.Tie as tie
 
 load-from-requires : tie.Need-load-from-requires
 load-from-requires c κs =
-    let asked = c .before .before .before .before .before .before .before .before .before .before .before .before .before .before .before .before .before .before .before .pre in
-    (asked .0, ((with-room _ _ (c .before .before .before .before .before .before .before .before .before .header .ensures) (c .before .before .before .before .before .before .if2 .left), c .before .before .before .before .before .before .before .before .before .before .if1 .left), asked .1))
+    let there = c .before .before .before .before .before .before in
+    let headed = there .before .before .before in
+    let asked = headed .before .before .before .before .before .before .before .before .before .before .pre in
+    (asked .0, ((with-room _ _ (headed .header .ensures) (there .if2 .left), headed .before .if1 .left), asked .1))
 
 returns-3 : tie.Need-returns-3
 returns-3 c =
-    with-header _ _ (c .before .before .before .before .before .before .before .before .before .before .before .before .before .before .before .before .before .before .before .before .before .before .if1 .left) _ (c .before .before .before .before .before .before .before .before .before .before .before .before .before .before .before .before .before .before .before .before .before .header .ensures) (c .before .before .before .before .before .before .before .before .before .before .before .before .before .before .before .before .before .before .if2 .left) _ _ _ (c .before .before .before .before .before .before .before .before .before .before .before .load-from .ensures .0) _ (c .stopped .ensures)
+    let loaded = c .before .before .before .before .before .before .before .before .before .before .before in
+    let there = loaded .before .before .before .before .before .before .before in
+    let headed = there .before .before .before in
+    with-header _ _ (headed .before .if1 .left) _ (headed .header .ensures) (there .if2 .left) _ _ _ (loaded .load-from .ensures .0) _ (c .stopped .ensures)
 
 pub load-with-spec : {M : Type 1} → statement M
 load-with-spec =

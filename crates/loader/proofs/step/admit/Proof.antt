@@ -13,15 +13,18 @@ need-after-requires c κs =
 
 returns : tie.Need-returns
 returns c =
-    judged-good _ _ _ _ _ (c .before .before .before .before .before .before .before .before .read2 .given .1) _ _ (sym (c .before .before .before .before .before .before .place .ensures) ∙ c .before .before .before .before .cell2 .given .1) _ (c .before .room-fault .ensures ∙ c .before .before .need-after .ensures) (c .if1 .taken)
+    let placed = c .before .before .before .before .before .before in
+    judged-good _ _ _ _ _ (placed .before .before .read2 .given .1) _ _ (sym (placed .place .ensures) ∙ c .before .before .before .before .cell2 .given .1) _ (c .before .room-fault .ensures ∙ c .before .before .need-after .ensures) (c .if1 .taken)
 
 returns-3 : tie.Need-returns-3
 returns-3 c =
-    judged-misplaced _ _ _ _ _ (c .before .before .before .before .before .before .read2 .given .1) _ (sym (c .before .before .before .before .place .ensures) ∙ c .before .before .cell .given .1) _ (c .refused .ensures)
+    let placed = c .before .before .before .before in
+    judged-misplaced _ _ _ _ _ (placed .before .before .read2 .given .1) _ (sym (placed .place .ensures) ∙ c .before .before .cell .given .1) _ (c .refused .ensures)
 
 returns-4 : tie.Need-returns-4
 returns-4 c =
-    judged-crowded _ _ _ _ _ (c .before .before .before .before .before .before .before .before .before .read2 .given .1) _ _ (sym (c .before .before .before .before .before .before .before .place .ensures) ∙ c .before .before .before .before .before .cell2 .given .1) _ (c .before .before .room-fault .ensures ∙ c .before .before .before .need-after .ensures) (c .before .if1 .left) _ (c .refused2 .ensures)
+    let placed = c .before .before .before .before .before .before .before in
+    judged-crowded _ _ _ _ _ (placed .before .before .read2 .given .1) _ _ (sym (placed .place .ensures) ∙ c .before .before .before .before .before .cell2 .given .1) _ (c .before .before .room-fault .ensures ∙ c .before .before .before .need-after .ensures) (c .before .if1 .left) _ (c .refused2 .ensures)
 
 pub admit-spec : {M : Type 1} → statement M
 admit-spec =

@@ -19,7 +19,8 @@ put-bytes-requires-2 c κs =
 
 returns : tie.Need-returns
 returns c =
-    from-scratch (c .before .before .before .before .before .before .before .before .before .before .before .before .before .before .before .before .before .before .before .before .before .before .before .pre .1 .1 .1 .1) (c .before .before .before .before .before .before .before .before .before .before .before .if1 .taken) (c .before .before .before .before .before .before .before .before .before .before .if2 .taken) _ _ _ _ (c .before .before .before .before .before .before .before .put-bytes .ensures) (c .before .before .put-bytes2 .ensures)
+    let short = c .before .before .before .before .before .before .before .before .before .before in
+    from-scratch (short .before .before .before .before .before .before .before .before .before .before .before .before .before .pre .1 .1 .1 .1) (short .before .if1 .taken) (short .if2 .taken) _ _ _ _ (c .before .before .before .before .before .before .before .put-bytes .ensures) (c .before .before .put-bytes2 .ensures)
 
 parse-body-requires : tie.Need-parse-body-requires
 parse-body-requires c κs =
