@@ -1,5 +1,5 @@
 -- Laws of the walk over a row's operands.
-use Prim.Native.Nat.{ℕ, zero, suc, _+_, _-_, _<_, _≤_}
+use Prim.Native.Nat.{ℕ, zero, suc, _+_, _*_, _-_, _<_, _≤_}
 use mathlib.Core.Path.{_≡_, refl, ap, sym, subst, _∙_}
 use mathlib.Core.Bool.{Bool, true, false, and-eq-true-iff}
 use mathlib.Core.List.{List, [], _∷_}
@@ -25,7 +25,7 @@ use Rattle.parser.specs.declared.used.Parsed.{Parsed}
 use Rattle.parser.specs.declared.used.Parsed.the-variants.{Got, Refused}
 use Rattle.parser.specs.declared.used.Frame.{Frame}
 use Rattle.parser.specs.Parse.{selectorOf, notesOf, notes, noNotes, wordIs, leftOf, Went, Few, isOperand, slotsAt, Walked, RowRead, Walks, SlotWalks}
-use Rattle.parser.specs.Slots.{unused, Fresh}
+use Rattle.parser.specs.Fresh.{unused, Fresh}
 use Rattle.parser.specs.Body.{Framed, startOf, rowRead}
 use Rattle.parser.proofs.Walk.{went-nowhere, went-then}
 
@@ -73,6 +73,11 @@ pub record Rowing (s : List ℕ) (g : Grammar) (types : List Entry) (x : Read Se
   pub few : Few s d u
   pub went : Went d₀ d 0
   pub allowed : every isOperand ss ≡ true
+
+-- what is in use where an instruction begins, as it is made
+pub fresh-unused : (at a b c : ℕ) (u : Used) → u ≡ unused a b c → 4 * a ≤ 9 * at → c + b ≤ at → Fresh at u
+unfolding unused
+fresh-unused at a b c u e p q = rw e (record { nothing = refl; few-log = p; few-strings = q })
 
 -- nothing is seen where nothing is in use
 walked-nothing : (log strs : List ℕ) (a b c : ℕ) → Walked log strs log strs (unused a b c) (unused a b c) nothingSeen

@@ -19,7 +19,7 @@ use Rattle.parser.specs.declared.used.Frame.{Frame}
 use Rattle.parser.specs.declared.simple.Simple.{Simple}
 use Rattle.parser.specs.declared.simple.Simple.the-variants.{Got as Taken}
 use Rattle.parser.specs.Parse.{wordIs, leftOf, Went, Few, Parses, kindIs, literalFor, kindAlone, SlotWalks}
-use Rattle.parser.specs.Slots.{withResult}
+use Rattle.parser.specs.Fresh.{withResult}
 use Rattle.parser.specs.Body.{Framed, startOf}
 use Rattle.parser.specs.Simple.{There, IfTaken}
 use Rattle.parser.proofs.SlotLaws.{walks-result, walks-as}

@@ -23,7 +23,7 @@ use Rattle.parser.specs.declared.used.Used.{Used}
 use Rattle.parser.specs.declared.used.Parsed.{Parsed}
 use Rattle.parser.specs.declared.used.Parsed.the-variants.{Got, Refused}
 use Rattle.parser.specs.Parse.{Notes, selectorOf, notesOf, noteAs, note, notes, noNotes, Step, Few, Held, Parses, wordIs, isWord, isUntyped, kindIs, literalFor, literalAlone, pairAlone, kindAlone, Walked, RowRead, Walks, SlotWalks}
-use Rattle.parser.specs.Slots.{unused, withResults, withResult}
+use Rattle.parser.specs.Fresh.{unused, withResults, withResult}
 use Rattle.parser.proofs.KindLaws.{not-kind, word-no-enum, number-word, number-untyped, result-else}
 use Rattle.parser.proofs.One.{step-word}
 use Rattle.parser.proofs.Walk.{held-then, step-went, same-read}

@@ -1,5 +1,5 @@
 pub mod Parse
 pub mod Inst
 pub mod Body
-pub mod Slots
+pub mod Fresh
 pub mod Simple

@@ -10,7 +10,7 @@ ghost use Rattle.grammar.specs.Index.{Indexed};
 ghost use Rattle.grammar.specs.Find.{placeFound, rowFound};
 ghost use Rattle.tracker.specs.Entries.{entriesOf};
 ghost use Rattle.tracker.specs.Hints.{Hinted};
-ghost use Rattle.parser.specs.Slots.{Fresh};
+ghost use Rattle.parser.specs.Fresh.{Fresh};
 ghost use Rattle.parser.specs.Inst.{Ended, Decodes, DecodesOver, ShapeIs, RowIs};
 ghost use Rattle.parser.specs.Body.{Framed, bodyRead};
 use crate::rows::parse_operands;

@@ -15,7 +15,7 @@ ghost use Rattle.grammar.specs.Index.{Indexed};
 ghost use Rattle.tracker.specs.Entries.{entriesOf};
 ghost use Rattle.tracker.specs.Hints.{Hinted};
 ghost use Rattle.parser.specs.Parse.{Few, Parses, Walks, SlotWalks, kindIs, isLiteral, literalFor, kindAlone};
-ghost use Rattle.parser.specs.Slots.{Fresh, withResult};
+ghost use Rattle.parser.specs.Fresh.{Fresh, withResult};
 ghost use Rattle.parser.specs.Body.{Framed, startOf, rowRead};
 use crate::embedded::parse_spec_constant_op;
 use crate::literals::literal_for;

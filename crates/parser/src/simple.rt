@@ -15,7 +15,7 @@ ghost use Rattle.grammar.specs.Index.{Indexed};
 ghost use Rattle.tracker.specs.Entries.{entriesOf};
 ghost use Rattle.tracker.specs.Hints.{Hinted};
 ghost use Rattle.parser.specs.Parse.{Few, Parses, Walks, SlotWalks, leftOf, isWord, kindIs, literalFor, literalAlone};
-ghost use Rattle.parser.specs.Slots.{Fresh};
+ghost use Rattle.parser.specs.Fresh.{Fresh};
 ghost use Rattle.parser.specs.Body.{Framed, startOf, rowRead};
 ghost use Rattle.parser.specs.Simple.{There, IfTaken};
 use crate::literals::literal_for;

@@ -9,7 +9,7 @@ ghost use Rattle.operand.specs.Parts.{parts, Fits};
 ghost use Rattle.operand.specs.Log.{recordOf, recordLength, Laid};
 ghost use Rattle.tracker.specs.Track.{idIs};
 ghost use Rattle.parser.specs.Parse.{wordIs, FirstFits, selectorOf, Pushed, Copied};
-ghost use Rattle.parser.specs.Slots.{unused};
+ghost use Rattle.parser.specs.Fresh.{unused};
 use decoder::Decoder;
 use operand::Parts;
 use spec::Refusal;

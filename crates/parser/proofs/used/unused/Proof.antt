@@ -1,5 +1,5 @@
 -- `parser::used::unused` meets its contract. Assumes nothing.
-use Rattle.parser.specs.Slots as slots
+use Rattle.parser.specs.Fresh as slots
 use borrow.Author.Needs.{needs}
 use Rattle.parser.proofs.used.unused.Statement.{statement}
 use Rattle.parser.proofs.used.unused.Tie as tie
