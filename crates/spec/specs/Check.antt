@@ -2,7 +2,7 @@
 --
 -- Three folds over the records, each with its own running state, name the first record that each finds bad. A record is bad when one
 -- of them finds it so, and each judges it by itself and the records before it: so the first bad record is the lowest that they name.
--- How long a record is, is a number that the check is given: `recordSize` for the records of today.
+-- How many words a record has is a number that the check is given; `recordSize` is that of the records that a load keeps.
 use Prim.Native.Nat.{ℕ, zero, suc, _+_, _*_, _/_, _%_}
 use mathlib.Core.Bool.{Bool, true, false, not, _&&_, _||_}
 use mathlib.Core.List.{List, [], _∷_}
