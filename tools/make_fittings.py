@@ -34,6 +34,7 @@ KNOWN = {
     "take": (2, lambda n, xs: xs[:n]),
     "noWords": (0, lambda: [0] * 5),
     "counts": (4, lambda *c: list(c)),
+    "lent": (4, lambda *s: dict(zip(("instructions", "log", "strings", "types"), s))),
     "fitting": (2, lambda s, x: (s, x)),
     "true": (0, lambda: True),
     "false": (0, lambda: False),

@@ -23,7 +23,7 @@ use Rattle.spec.specs.Layout
 use Rattle.spec.specs.Types
 use Rattle.spec.specs.Match
 use Rattle.spec.specs.Load
-use Rattle.spec.specs.Load.{counts, enough, Outcome, nothing, loadWith, load, Stores, storesOf}
+use Rattle.spec.specs.Load.{counts, enough, Outcome, nothing, loadWith, load, Stores, lent, storesOf}
 use Rattle.spec.specs.Listing
 use Rattle.spec.specs.Listing.{outcomeText, listing}
 use Rattle.spec.specs.Plain
@@ -71,13 +71,9 @@ module-of ws = joined bytesOf ws
 abbrev pub answer : ℕ → ℕ → ℕ → ℕ → List ℕ → Counts → Loaded
 answer n o i v h c = record { number = n; offset = o; index = i; value = v; header = h; counts = c }
 
--- four stores
-abbrev pub stores : List ℕ → List ℕ → List ℕ → List ℕ → Stores
-stores i l s t = record { instructions = i; log = l; strings = s; types = t }
-
 -- nothing kept
 abbrev pub bare : ℕ → ℕ → ℕ → ℕ → List ℕ → Bool → Shown
-bare n o i v h plain = record { said = answer n o i v h (counts 0 0 0 0); stores = stores [] [] [] []; plain = plain }
+bare n o i v h plain = record { said = answer n o i v h (counts 0 0 0 0); stores = lent [] [] [] []; plain = plain }
 
 -- H and some words, refused at the first instruction
 abbrev pub refusedAt : ℕ → ℕ → ℕ → List ℕ → Fitting
@@ -89,7 +85,7 @@ ab w plain =
     fitting (module-of (H ++ (0x00030007 ∷ 1 ∷ w ∷ [])))
     (record {
       said = answer 0 32 2 0 H (counts 1 9 2 0);
-      stores = stores (0x20007 ∷ 7 ∷ 20 ∷ 0 ∷ 1 ∷ 0 ∷ 1 ∷ 3 ∷ []) (40 ∷ bytesOf 0 ++ bytesOf 2) (ascii "ab") [];
+      stores = lent (0x20007 ∷ 7 ∷ 20 ∷ 0 ∷ 1 ∷ 0 ∷ 1 ∷ 3 ∷ []) (40 ∷ bytesOf 0 ++ bytesOf 2) (ascii "ab") [];
       plain = plain;
     })
 
@@ -108,7 +104,7 @@ fittings =
     ∷ fitting six  -- 6
     (record {
       said = answer 0 32 2 0 H (counts 1 10 0 0);
-      stores = stores (14 ∷ 4 ∷ 20 ∷ 0 ∷ 0 ∷ 0 ∷ 2 ∷ 3 ∷ []) (0x0B ∷ 0 ∷ 0 ∷ 0 ∷ 0 ∷ 0x0C ∷ 1 ∷ 0 ∷ 0 ∷ 0 ∷ []) [] [];
+      stores = lent (14 ∷ 4 ∷ 20 ∷ 0 ∷ 0 ∷ 0 ∷ 2 ∷ 3 ∷ []) (0x0B ∷ 0 ∷ 0 ∷ 0 ∷ 0 ∷ 0x0C ∷ 1 ∷ 0 ∷ 0 ∷ 0 ∷ []) [] [];
       plain = true;
     })
     ∷ refusedAt 4 20 0 (0 ∷ [])  -- 7
@@ -122,7 +118,7 @@ fittings =
     (record {
       said = answer 0 56 3 0 H (counts 2 19 0 2);
       stores =
-          stores
+          lent
           (0x20015 ∷ 11 ∷ 20 ∷ 0 ∷ 2 ∷ 0 ∷ 2 ∷ 4 ∷ 0x3002B ∷ 11 ∷ 36 ∷ 2 ∷ 3 ∷ 10 ∷ 1 ∷ 5 ∷ [])
           ((34 ∷ bytesOf 64) ++ (34 ∷ bytesOf 0) ++ (36 ∷ longBytes 4294967303))
           []
