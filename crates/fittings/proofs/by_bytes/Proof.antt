@@ -15,4 +15,4 @@ by-bytes-spec =
     (λ c. search needs)
     (λ c. search needs)
     (λ c. search needs)
-    (λ c. told _ _ (c .before .before .before .before .before .before .before .before .before .before .before .before .before .before .before .before .before .before .before .before .pre) (c .before .before .before .before .before .before .before .before .before .before .before .before .before .before .table .ensures) (c .before .before .before .before .before .before .before .before .load .ensures)))
+    (λ c. let at-load = c .before .before .before .before .before .before .before .before in let at-table = at-load .before .before .before .before .before .before in let at-start = at-table .before .before .before .before .before .before in told _ _ (at-start .pre) (at-table .table .ensures) (at-load .load .ensures)))

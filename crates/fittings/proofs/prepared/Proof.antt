@@ -14,4 +14,4 @@ prepared-spec =
     (λ c. search needs)
     (λ c. search needs)
     (λ c. search needs)
-    (λ c. told _ _ (c .before .before .before .before .before .before .before .before .before .before .before .before .before .before .before .before .before .before .pre) refl (c .before .before .before .before .before .before .before .before .load-builtin .ensures)))
+    (λ c. let at-load-builtin = c .before .before .before .before .before .before .before .before in let at-start = at-load-builtin .before .before .before .before .before .before .before .before .before .before in told _ _ (at-start .pre) refl (at-load-builtin .load-builtin .ensures)))

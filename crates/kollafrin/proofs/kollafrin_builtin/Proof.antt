@@ -12,4 +12,4 @@ kollafrin-builtin-spec =
     (λ c. search needs)
     (λ c κs. search needs)
     (λ c. search needs)
-    (λ c. table-put _ (c .before .before .put-where-fits .ensures) (c .before .before .before .before .before .table .ensures)))
+    (λ c. let at-put-where-fits = c .before .before in let at-table = at-put-where-fits .before .before .before in table-put _ (at-put-where-fits .put-where-fits .ensures) (at-table .table .ensures)))

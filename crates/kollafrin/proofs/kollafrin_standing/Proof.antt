@@ -11,4 +11,4 @@ kollafrin-standing-spec =
     (λ c κs. search needs)
     (λ c κs.
     rw (c .before .standing .ensures) (standing-index _ (λ i. c .before .before .before .before .shared-slice-known .given i .fits)))
-    (λ c. rw (← c .before .before .standing .ensures) (c .say-standing .ensures)))
+    (λ c. let at-standing = c .before .before in rw (← at-standing .standing .ensures) (c .say-standing .ensures)))

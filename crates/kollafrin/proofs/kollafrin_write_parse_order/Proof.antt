@@ -14,4 +14,4 @@ kollafrin-write-parse-order-spec =
     rw (c .before .before .before .write-parse-order .ensures .0) (parse-index _ _ _ (λ i.
     c .before .before .before .before .before .before .before .before .before .shared-slice-known .given i .fits)))
     (λ c. search needs)
-    (λ c. written-said (c .say-written .ensures) (c .before .before .before .before .write-parse-order .ensures)))
+    (λ c. let at-write-parse-order = c .before .before .before .before in written-said (c .say-written .ensures) (at-write-parse-order .write-parse-order .ensures)))

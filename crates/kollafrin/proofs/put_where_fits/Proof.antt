@@ -11,5 +11,5 @@ put-where-fits-spec =
     (tie.spec
     (λ c κs. search needs)
     (λ c. search needs)
-    (λ c. (refl, fits-in (c .before .before .before .before .before .before .before .args .bytes .now) (c .before .before .before .before .before .before .before .args .out .now) _ (c .before .before .before .before .if1 .taken) (c .before .before .put-bytes .ensures)))
+    (λ c. let at-put-bytes = c .before .before in let at-if1 = at-put-bytes .before .before in let at-start = at-if1 .before .before .before in (refl, fits-in (at-start .args .bytes .now) (at-start .args .out .now) _ (at-if1 .if1 .taken) (at-put-bytes .put-bytes .ensures)))
     (λ c. (refl, full-in _ _ (c .if1 .left))))

@@ -12,4 +12,4 @@ say-standing-spec =
     (tie.spec
     (λ c κs. search needs)
     (λ c. search needs)
-    (λ c. record { number = refl; words = rw (c .before .before .yes-or-no .ensures) }))
+    (λ c. let at-yes-or-no = c .before .before in record { number = refl; words = rw (at-yes-or-no .yes-or-no .ensures) }))

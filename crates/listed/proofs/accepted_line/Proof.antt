@@ -15,6 +15,6 @@ accepted-line-spec =
     (tie.spec
     (λ c. search needs)
     (λ c κs. omega arith)
-    (λ c κs. omega (arith, bytes-reach (c .before .before .before .put-text .ensures)))
-    (λ c. c .before .before .number .kept .0 ∙ c .before .before .before .before .before .before .put-text .kept .0)
-    (λ c. wrote-then (c .before .before .before .before .before .before .put-text .ensures) (c .before .before .number .ensures)))
+    (λ c κs. let at-put-text = c .before .before .before in omega (arith, bytes-reach (at-put-text .put-text .ensures)))
+    (λ c. let at-number = c .before .before in let at-put-text = at-number .before .before .before .before in at-number .number .kept .0 ∙ at-put-text .put-text .kept .0)
+    (λ c. let at-number = c .before .before in let at-put-text = at-number .before .before .before .before in wrote-then (at-put-text .put-text .ensures) (at-number .number .ensures)))

@@ -11,4 +11,4 @@ decimal-spec =
     (tie.spec
     (λ c κs. search needs)
     (λ c. search needs)
-    (λ c. c .before .before .digits .ensures))
+    (λ c. let at-digits = c .before .before in at-digits .digits .ensures))

@@ -9,8 +9,8 @@ last-line-spec =
     tie.close
     (tie.spec
     (λ c κs. omega arith)
-    (λ c. c .before .before .accepted-line .kept .0)
-    (λ c. last-accepted _ (c .before .before .before .before .if1 .taken) (c .before .before .accepted-line .ensures))
+    (λ c. let at-accepted-line = c .before .before in at-accepted-line .accepted-line .kept .0)
+    (λ c. let at-accepted-line = c .before .before in let at-if1 = at-accepted-line .before .before in last-accepted _ (at-if1 .if1 .taken) (at-accepted-line .accepted-line .ensures))
     (λ c κs. omega arith)
-    (λ c. c .before .before .refused-line .kept .0)
-    (λ c. last-refused _ (c .before .before .before .before .if1 .left) (c .before .before .refused-line .ensures)))
+    (λ c. let at-refused-line = c .before .before in at-refused-line .refused-line .kept .0)
+    (λ c. let at-refused-line = c .before .before in let at-if1 = at-refused-line .before .before in last-refused _ (at-if1 .if1 .left) (at-refused-line .refused-line .ensures)))

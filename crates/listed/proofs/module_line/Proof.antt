@@ -15,5 +15,5 @@ module-line-spec =
     (λ c. search needs)
     (λ c. search needs)
     (λ c κs. omega arith)
-    (λ c. c .before .before .version-line .kept .0)
-    (λ c. module-some _ (sym (c .before .before .before .before .before .all-zero .ensures) ∙ c .before .before .before .before .if1 .left) (c .before .before .version-line .ensures)))
+    (λ c. let at-version-line = c .before .before in at-version-line .version-line .kept .0)
+    (λ c. let at-version-line = c .before .before in let at-if1 = at-version-line .before .before in let at-all-zero = at-if1 .before in module-some _ (sym (at-all-zero .all-zero .ensures) ∙ at-if1 .if1 .left) (at-version-line .version-line .ensures)))

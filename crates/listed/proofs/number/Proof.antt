@@ -12,6 +12,6 @@ number-spec =
     tie.close
     (tie.spec
     (λ c κs. omega arith)
-    (λ c κs. omega (arith, decimal-reach _ (c .before .before .before .decimal .ensures)))
-    (λ c. c .before .before .put .kept .0 ∙ c .before .before .before .before .before .before .decimal .kept .0)
-    (λ c. wrote-then (c .before .before .before .before .before .before .decimal .ensures) (c .before .before .put .ensures)))
+    (λ c κs. let at-decimal = c .before .before .before in omega (arith, decimal-reach _ (at-decimal .decimal .ensures)))
+    (λ c. let at-put = c .before .before in let at-decimal = at-put .before .before .before .before in at-put .put .kept .0 ∙ at-decimal .decimal .kept .0)
+    (λ c. let at-put = c .before .before in let at-decimal = at-put .before .before .before .before in wrote-then (at-decimal .decimal .ensures) (at-put .put .ensures)))

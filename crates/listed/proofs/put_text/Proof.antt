@@ -12,4 +12,4 @@ put-text-spec =
     (λ c κs. search needs)
     (λ c. omega arith)
     (λ c. search needs)
-    (λ c. record { is = c .before .before .put-bytes .ensures; ends = refl }))
+    (λ c. let at-put-bytes = c .before .before in record { is = at-put-bytes .put-bytes .ensures; ends = refl }))

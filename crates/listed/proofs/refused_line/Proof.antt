@@ -15,8 +15,8 @@ refused-line-spec =
     (tie.spec
     (λ c. search needs)
     (λ c κs. omega arith)
-    (λ c κs. omega (arith, bytes-reach (c .before .before .before .put-text .ensures)))
-    (λ c κs. omega (arith, bytes-reach (c .before .before .before .before .before .before .before .put-text .ensures), number-reach _ _ (c .before .before .before .number .ensures)))
-    (λ c κs. omega (arith, bytes-reach (c .before .before .before .before .before .before .before .before .before .before .before .put-text .ensures), number-reach _ _ (c .before .before .before .before .before .before .before .number .ensures), number-reach _ _ (c .before .before .before .number2 .ensures)))
-    (λ c. c .before .before .number3 .kept .0 ∙ c .before .before .before .before .before .before .number2 .kept .0 ∙ c .before .before .before .before .before .before .before .before .before .before .number .kept .0 ∙ c .before .before .before .before .before .before .before .before .before .before .before .before .before .before .put-text .kept .0)
-    (λ c. wrote-then (c .before .before .before .before .before .before .before .before .before .before .before .before .before .before .put-text .ensures) (wrote-then (c .before .before .before .before .before .before .before .before .before .before .number .ensures) (wrote-then (c .before .before .before .before .before .before .number2 .ensures) (c .before .before .number3 .ensures)))))
+    (λ c κs. let at-put-text = c .before .before .before in omega (arith, bytes-reach (at-put-text .put-text .ensures)))
+    (λ c κs. let at-number = c .before .before .before in let at-put-text = at-number .before .before .before .before in omega (arith, bytes-reach (at-put-text .put-text .ensures), number-reach _ _ (at-number .number .ensures)))
+    (λ c κs. let at-number2 = c .before .before .before in let at-number = at-number2 .before .before .before .before in let at-put-text = at-number .before .before .before .before in omega (arith, bytes-reach (at-put-text .put-text .ensures), number-reach _ _ (at-number .number .ensures), number-reach _ _ (at-number2 .number2 .ensures)))
+    (λ c. let at-number3 = c .before .before in let at-number2 = at-number3 .before .before .before .before in let at-number = at-number2 .before .before .before .before in let at-put-text = at-number .before .before .before .before in at-number3 .number3 .kept .0 ∙ at-number2 .number2 .kept .0 ∙ at-number .number .kept .0 ∙ at-put-text .put-text .kept .0)
+    (λ c. let at-number3 = c .before .before in let at-number2 = at-number3 .before .before .before .before in let at-number = at-number2 .before .before .before .before in let at-put-text = at-number .before .before .before .before in wrote-then (at-put-text .put-text .ensures) (wrote-then (at-number .number .ensures) (wrote-then (at-number2 .number2 .ensures) (at-number3 .number3 .ensures)))))

@@ -18,6 +18,6 @@ main-spec =
     (λ c. search needs)
     (λ c κs. search needs)
     (λ c. omega (arith, listing-size _ _ (c .before .listing .ensures .0), c .before .listing .kept .1 .0))
-    (λ c. sym (length-take-le _ _ (omega (arith, listing-size _ _ (c .before .before .listing .ensures .0), c .before .before .listing .kept .1 .0))))
+    (λ c. let at-listing = c .before .before in sym (length-take-le _ _ (omega (arith, listing-size _ _ (at-listing .listing .ensures .0), at-listing .listing .kept .1 .0))))
     (λ c κs. search needs)
     (λ c. search needs))

@@ -12,5 +12,5 @@ keep-bytes-spec =
     (λ c. search needs)
     (λ c κs. search needs)
     (λ c. search needs)
-    (λ c. kept-fits (c .before .before .before .before .before .before .before .args .out .now) _ (c .before .before .before .before .before .before .before .args .at) (length (c .before .before .before .before .before .before .before .args .bytes .now)) (c .before .before .before .before .before .before .before .args .bytes .now) (c .before .before .before .before .if1 .taken) (c .before .before .put-bytes .ensures))
+    (λ c. let at-put-bytes = c .before .before in let at-if1 = at-put-bytes .before .before in let at-start = at-if1 .before .before .before in kept-fits (at-start .args .out .now) _ (at-start .args .at) (length (at-start .args .bytes .now)) (at-start .args .bytes .now) (at-if1 .if1 .taken) (at-put-bytes .put-bytes .ensures))
     (λ c. kept-full _ _ _ _ (c .if1 .left)))

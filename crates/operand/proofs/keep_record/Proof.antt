@@ -13,8 +13,8 @@ keep-record-spec =
     tie.close
     (tie.spec
     (λ c κs. search needs)
-    (λ c. omega (arith, c .record-length .ensures, length-range (c .before .before .args .p)))
+    (λ c. let at-start = c .before .before in omega (arith, c .record-length .ensures, length-range (at-start .args .p)))
     (λ c κs. search needs)
     (λ c. search needs)
-    (λ c. let e = c .before .before .before .before .before .record-length .ensures in (ap (λ (n : ℕ). c .before .before .before .before .before .before .before .args .at + n) e, kept-fits (c .before .before .before .before .before .before .before .args .log .now) _ (c .before .before .before .before .before .before .before .args .at) (recordLength (c .before .before .before .before .before .before .before .args .p)) (recordOf (c .before .before .before .before .before .before .before .args .p)) (omega (arith, e, c .before .before .before .before .if1 .taken)) (c .before .before .put-record .ensures)))
-    (λ c. let e = c .before .record-length .ensures in (ap (λ (n : ℕ). c .before .before .before .args .at + n) e, kept-full (c .before .before .before .args .log .now) (c .before .before .before .args .at) (recordLength (c .before .before .before .args .p)) (recordOf (c .before .before .before .args .p)) (omega (arith, e, c .if1 .left)))))
+    (λ c. let at-put-record = c .before .before in let at-if1 = at-put-record .before .before in let at-start = at-if1 .before .before .before in let e = c .before .before .before .before .before .record-length .ensures in (ap (λ (n : ℕ). at-start .args .at + n) e, kept-fits (at-start .args .log .now) _ (at-start .args .at) (recordLength (at-start .args .p)) (recordOf (at-start .args .p)) (omega (arith, e, at-if1 .if1 .taken)) (at-put-record .put-record .ensures)))
+    (λ c. let at-start = c .before .before .before in let e = c .before .record-length .ensures in (ap (λ (n : ℕ). at-start .args .at + n) e, kept-full (at-start .args .log .now) (at-start .args .at) (recordLength (at-start .args .p)) (recordOf (at-start .args .p)) (omega (arith, e, c .if1 .left)))))

@@ -6,7 +6,9 @@ use Rattle.records.proofs.fields_at.Statement.{statement}
 use Rattle.records.proofs.fields_at.Tie as tie
 
 returns : tie.Need-returns
-returns c = fields-drop (c .before .before .before .before .before .before .before .before .args .instructions .now) (c .before .before .before .before .before .before .before .before .args .at)
+returns c =
+    let at-start = c .before .before .before .before .before .before .before .before in
+    fields-drop (at-start .args .instructions .now) (at-start .args .at)
 
 pub fields-at-spec : {M : Type 1} → statement M
 fields-at-spec =

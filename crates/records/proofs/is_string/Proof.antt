@@ -7,7 +7,9 @@ use Rattle.records.proofs.is_string.Statement.{statement}
 use Rattle.records.proofs.is_string.Tie as tie
 
 returns-3 : tie.Need-returns-3
-returns-3 c = string-utf8 _ _ (c .before .before .before .zero .ensures) (c .before .enum-told .given .1) _ (c .utf8 .ensures)
+returns-3 c =
+    let at-zero = c .before .before .before in
+    string-utf8 _ _ (at-zero .zero .ensures) (c .before .enum-told .given .1) _ (c .utf8 .ensures)
 
 pub is-string-spec : {M : Type 1} → statement M
 is-string-spec =
@@ -18,6 +20,6 @@ is-string-spec =
     (λ c κs. search needs)
     (λ c. search needs)
     (λ c. search needs)
-    (λ c. string-zero _ _ (c .before .before .zero .ensures) _ (c .enum-told2 .given .1))
+    (λ c. let at-zero = c .before .before in string-zero _ _ (at-zero .zero .ensures) _ (c .enum-told2 .given .1))
     (λ c κs. search needs)
     returns-3)

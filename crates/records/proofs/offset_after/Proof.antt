@@ -8,13 +8,24 @@ use Rattle.records.proofs.offset_after.Statement.{statement}
 use Rattle.records.proofs.offset_after.Tie as tie
 
 returns-2 : tie.Need-returns-2
-returns-2 c = offset-other _ _ (sym (c .before .before .before .fields-hold .ensures) ∙ not-false _ (c .before .before .if1 .left)) (c .if2 .taken)
+returns-2 c =
+    let at-if1 = c .before .before in
+    let at-fields-hold = at-if1 .before in
+    offset-other _ _ (sym (at-fields-hold .fields-hold .ensures) ∙ not-false _ (at-if1 .if1 .left)) (c .if2 .taken)
 
 returns-3 : tie.Need-returns-3
-returns-3 c = offset-long _ _ (sym (c .before .before .before .before .before .fields-hold .ensures) ∙ not-false _ (c .before .before .before .before .if1 .left)) (c .before .before .if2 .left) (c .if3 .taken)
+returns-3 c =
+    let at-if2 = c .before .before in
+    let at-if1 = at-if2 .before .before in
+    let at-fields-hold = at-if1 .before in
+    offset-long _ _ (sym (at-fields-hold .fields-hold .ensures) ∙ not-false _ (at-if1 .if1 .left)) (at-if2 .if2 .left) (c .if3 .taken)
 
 returns-4 : tie.Need-returns-4
-returns-4 c = offset-next _ _ (sym (c .before .before .before .before .before .before .fields-hold .ensures) ∙ not-false _ (c .before .before .before .before .before .if1 .left)) (c .before .before .before .if2 .left) (c .before .if3 .left)
+returns-4 c =
+    let at-if2 = c .before .before .before in
+    let at-if1 = at-if2 .before .before in
+    let at-fields-hold = at-if1 .before in
+    offset-next _ _ (sym (at-fields-hold .fields-hold .ensures) ∙ not-false _ (at-if1 .if1 .left)) (at-if2 .if2 .left) (c .before .if3 .left)
 
 pub offset-after-spec : {M : Type 1} → statement M
 offset-after-spec =

@@ -14,13 +14,25 @@ abbrev μ-loop : tie.MeasureT-loop
 μ-loop ascii log strings count log-at strings-at a₀ b₀ words₀ passed₀ a b words passed = count - passed
 
 returns : tie.Need-returns Inv-loop μ-loop
-returns c = pass-fails (c .before .before .before .before .loop .inv) (c .before .before .before .loop-test .taken) _ (c .before .before .pass-operand .ensures) (c .enum-told .given .1)
+returns c =
+    let at-pass-operand = c .before .before in
+    let at-loop-test = at-pass-operand .before in
+    let at-loop = at-loop-test .before in
+    pass-fails (at-loop .loop .inv) (at-loop-test .loop-test .taken) _ (at-pass-operand .pass-operand .ensures) (c .enum-told .given .1)
 
 add-words : tie.Need-add-words Inv-loop μ-loop
-add-words c = omega (arith, pass-room (c .before .before .before .before .before .loop .inv) (c .before .before .before .before .loop-test .taken) _ (c .before .before .before .pass-operand .ensures) _ _ _ (c .before .step .given .1))
+add-words c =
+    let at-pass-operand = c .before .before .before in
+    let at-loop-test = at-pass-operand .before in
+    let at-loop = at-loop-test .before in
+    omega (arith, pass-room (at-loop .loop .inv) (at-loop-test .loop-test .taken) _ (at-pass-operand .pass-operand .ensures) _ _ _ (c .before .step .given .1))
 
 loop-again : tie.Need-loop-again Inv-loop μ-loop
-loop-again c = pass-goes-on (c .before .before .before .before .before .loop .inv) (c .before .before .before .before .loop-test .taken) _ (c .before .before .before .pass-operand .ensures) _ _ _ (c .before .step .given .1)
+loop-again c =
+    let at-pass-operand = c .before .before .before in
+    let at-loop-test = at-pass-operand .before in
+    let at-loop = at-loop-test .before in
+    pass-goes-on (at-loop .loop .inv) (at-loop-test .loop-test .taken) _ (at-pass-operand .pass-operand .ensures) _ _ _ (c .before .step .given .1)
 
 pub pass-operands-spec : {M : Type 1} → statement M
 pass-operands-spec =
@@ -28,8 +40,8 @@ pass-operands-spec =
     (tie.spec
     Inv-loop
     μ-loop
-    (λ c. pass-starts _ _ _ _ _ (c .before .before .pre .0 .0) (c .before .before .pre .0 .1))
-    (λ c κs. ((c .before .loop .inv .inLog, c .before .loop .inv .inStrings), c .before .before .before .before .pre .1))
+    (λ c. let at-start = c .before .before in pass-starts _ _ _ _ _ (at-start .pre .0 .0) (at-start .pre .0 .1))
+    (λ c κs. let at-start = c .before .before .before .before in ((c .before .loop .inv .inLog, c .before .loop .inv .inStrings), at-start .pre .1))
     (λ c. search needs)
     (λ c. search needs)
     returns

@@ -7,13 +7,22 @@ use Rattle.records.proofs.pass_text.Statement.{statement}
 use Rattle.records.proofs.pass_text.Tie as tie
 
 returns-3 : tie.Need-returns-3
-returns-3 c = string-ascii _ _ _ _ _ (c .before .before .if1 .left) (c .before .if2 .left) (c .before .before .before .before .pre .1 .1 (c .if3 .taken))
+returns-3 c =
+    let at-if1 = c .before .before in
+    let at-start = at-if1 .before .before in
+    string-ascii _ _ _ _ _ (at-if1 .if1 .left) (c .before .if2 .left) (at-start .pre .1 .1 (c .if3 .taken))
 
 returns-4 : tie.Need-returns-4
-returns-4 c = string-bytes _ _ _ _ _ (c .before .before .before .before .before .if1 .left) (c .before .before .before .before .if2 .left) true _ (c .before .is-string .ensures) (c .if4 .taken)
+returns-4 c =
+    let at-if2 = c .before .before .before .before in
+    let at-if1 = at-if2 .before in
+    string-bytes _ _ _ _ _ (at-if1 .if1 .left) (at-if2 .if2 .left) true _ (c .before .is-string .ensures) (c .if4 .taken)
 
 returns-5 : tie.Need-returns-5
-returns-5 c = string-bytes _ _ _ _ _ (c .before .before .before .before .before .if1 .left) (c .before .before .before .before .if2 .left) false _ (c .before .is-string .ensures) (c .if4 .left)
+returns-5 c =
+    let at-if2 = c .before .before .before .before in
+    let at-if1 = at-if2 .before in
+    string-bytes _ _ _ _ _ (at-if1 .if1 .left) (at-if2 .if2 .left) false _ (c .before .is-string .ensures) (c .if4 .left)
 
 pub pass-text-spec : {M : Type 1} → statement M
 pass-text-spec =

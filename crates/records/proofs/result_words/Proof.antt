@@ -10,7 +10,9 @@ use Rattle.records.proofs.result_words.Statement.{statement}
 use Rattle.records.proofs.result_words.Tie as tie
 
 add-result : tie.Need-add-result
-add-result c = omega (arith, c .one-if2 .ensures, c .before .one-if .ensures, word-few (eqb (c .before .before .before .args .f .head / 65536 % 2) 1), word-few (leb 2 (c .before .before .before .args .f .head / 65536)))
+add-result c =
+    let at-start = c .before .before .before in
+    omega (arith, c .one-if2 .ensures, c .before .one-if .ensures, word-few (eqb (at-start .args .f .head / 65536 % 2) 1), word-few (leb 2 (at-start .args .f .head / 65536)))
 
 pub result-words-spec : {M : Type 1} → statement M
 unfolding resultWords

@@ -20,6 +20,6 @@ is-type-spec =
     tie.close
     (tie.spec
     (λ c. sym (absent own {a = 0} (c .before .match .rest) (omega arith) (c .if1 .taken) trackedTypes tt))
-    (λ c. sym (absent own {b = 65536} (c .before .before .match .rest) (c .if2 .left) (omega arith) trackedTypes tt))
+    (λ c. let at-match = c .before .before in sym (absent own {b = 65536} (at-match .match .rest) (c .if2 .left) (omega arith) trackedTypes tt))
     (λ c. ⊎-elim (λ e. sym (ap isType e)) (λ e. sym (ap isType e)) (c .match .keys1))
-    (λ c. sym (is-true _ (passed own (c .before .before .match .rest) (c .before .if1 .left) (c .if2 .taken) isType tt))))
+    (λ c. let at-match = c .before .before in sym (is-true _ (passed own (at-match .match .rest) (c .before .if1 .left) (c .if2 .taken) isType tt))))

@@ -7,7 +7,10 @@ use Rattle.reflect.proofs.place_of.Statement.{statement}
 use Rattle.reflect.proofs.place_of.Tie as tie
 
 returns : tie.Need-returns
-returns c = place-is _ _ _ _ _ _ (c .before .before .before .pre .0) (c .before .before .before .pre .1) (c .before .before .column .ensures .0) refl (c .cell .ensures)
+returns c =
+    let at-column = c .before .before in
+    let at-start = at-column .before in
+    place-is _ _ _ _ _ _ (at-start .pre .0) (at-start .pre .1) (at-column .column .ensures .0) refl (c .cell .ensures)
 
 pub place-of-spec : {M : Type 1} → statement M
 place-of-spec =

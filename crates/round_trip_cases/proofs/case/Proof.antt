@@ -18,7 +18,7 @@ case-spec =
     (λ c. search needs)
     (λ c. search needs)
     (λ c. search needs)
-    (λ c. taken _ _ (c .before .before .before .before .before .before .before .before .pre .0))
+    (λ c. let at-start = c .before .before .before .before .before .before .before .before in taken _ _ (at-start .pre .0))
     (λ c. search needs)
     (λ c. taken _ _ (omega arith))
     (λ c. search needs)

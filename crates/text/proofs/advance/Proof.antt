@@ -10,8 +10,8 @@ advance-spec =
     (tie.spec
     (λ c κs. search needs)
     (λ c. step-first _ _ _ (c .before .if1 .taken) (c .first .ensures))
-    (λ c. step-low _ _ (c .before .before .if1 .left) (c .if2 .taken))
-    (λ c. step-high _ _ (c .before .before .before .before .if1 .left) (c .before .before .if2 .left) (c .if3 .taken))
+    (λ c. let at-if1 = c .before .before in step-low _ _ (at-if1 .if1 .left) (c .if2 .taken))
+    (λ c. let at-if2 = c .before .before in let at-if1 = at-if2 .before .before in step-high _ _ (at-if1 .if1 .left) (at-if2 .if2 .left) (c .if3 .taken))
     (λ c. search needs)
     (λ c κs. search needs)
-    (λ c. step-in _ _ (c .before .before .before .before .before .before .if1 .left) _ (c .before .before .before .before .if2 .left) (c .before .before .if3 .left) (c .more .ensures)))
+    (λ c. let at-if3 = c .before .before in let at-if2 = at-if3 .before .before in let at-if1 = at-if2 .before .before in step-in _ _ (at-if1 .if1 .left) _ (at-if2 .if2 .left) (at-if3 .if3 .left) (c .more .ensures)))

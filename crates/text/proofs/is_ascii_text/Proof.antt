@@ -25,5 +25,5 @@ is-ascii-text-spec =
     (λ c. omega arith)
     (λ c. omega arith)
     (λ c. omega arith)
-    (λ c. ((omega arith), ascii-turn _ _ (c .before .before .loop .ascii) (c .before .loop-test .taken) (c .before .before .loop .inv .1)))
+    (λ c. let at-loop = c .before .before in ((omega arith), ascii-turn _ _ (at-loop .loop .ascii) (c .before .loop-test .taken) (at-loop .loop .inv .1)))
     (λ c. ascii-end _ _ (c .before .loop .ascii) (c .loop-test .left) (c .before .loop .inv .1)))

@@ -20,8 +20,8 @@ zero-spec =
     μ-loop
     (λ c. search-starts _)
     (λ c. omega arith)
-    (λ c. search-finds (c .before .before .before .loop .inv) (c .before .before .loop-test .taken) (c .if1 .taken))
+    (λ c. let at-loop-test = c .before .before in let at-loop = at-loop-test .before in search-finds (at-loop .loop .inv) (at-loop-test .loop-test .taken) (c .if1 .taken))
     (λ c. omega arith)
     (λ c. omega arith)
-    (λ c. search-goes-on (c .before .before .before .loop .inv) (c .before .before .loop-test .taken) (c .if1 .left))
+    (λ c. let at-loop-test = c .before .before in let at-loop = at-loop-test .before in search-goes-on (at-loop .loop .inv) (at-loop-test .loop-test .taken) (c .if1 .left))
     (λ c. search-ends (c .before .loop .inv) (c .loop-test .left)))

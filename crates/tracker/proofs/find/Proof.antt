@@ -15,7 +15,7 @@ pub find-spec : {M : Type 1} → statement M
 find-spec =
     tie.close
     (tie.spec
-    (λ c. sym (c .before .before .before .pre .1 .above _ (c .if1 .taken)))
+    (λ c. let at-start = c .before .before .before in sym (at-start .pre .1 .above _ (c .if1 .taken)))
     (λ c. search needs)
     (λ c. search needs)
     (λ c κs. search needs)

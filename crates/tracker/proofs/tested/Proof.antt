@@ -15,6 +15,6 @@ tested-spec =
     (λ c. search needs)
     (λ c. search needs)
     (λ c. search needs)
-    (λ c. hint-own _ _ _ _ (c .before .before .if1 .taken) (c .if2 .taken))
-    (λ c. hint-other _ _ _ _ (c .before .before .if1 .taken) (c .if2 .left))
+    (λ c. let at-if1 = c .before .before in hint-own _ _ _ _ (at-if1 .if1 .taken) (c .if2 .taken))
+    (λ c. let at-if1 = c .before .before in hint-other _ _ _ _ (at-if1 .if1 .taken) (c .if2 .left))
     (λ c. hint-past _ _ _ _ (c .if1 .left)))

@@ -12,5 +12,5 @@ track-float-spec =
     (λ c. float-few _ _ (c .if1 .taken))
     (λ c κs. c .before .pre (c .if1 .left))
     (λ c. search needs)
-    (λ c. float-no-width _ _ (c .before .before .if1 .left) (literal-missing _ _ (c .before .operand-of .ensures) (c .match .keys2)))
-    (λ c. float-defined _ _ (c .before .before .before .before .if1 .left) _ (literal-there _ _ (c .before .before .before .operand-of .ensures) _ (c .before .o .given .1))))
+    (λ c. let at-if1 = c .before .before in float-no-width _ _ (at-if1 .if1 .left) (literal-missing _ _ (c .before .operand-of .ensures) (c .match .keys2)))
+    (λ c. let at-operand-of = c .before .before .before in let at-if1 = at-operand-of .before in float-defined _ _ (at-if1 .if1 .left) _ (literal-there _ _ (at-operand-of .operand-of .ensures) _ (c .before .o .given .1))))

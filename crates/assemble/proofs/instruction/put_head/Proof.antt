@@ -11,13 +11,26 @@ use Rattle.assemble.proofs.instruction.put_head.Statement.{statement}
 use Rattle.assemble.proofs.instruction.put_head.Tie as tie
 
 put-result-requires : tie.Need-put-result-requires
-put-result-requires c κs = (search needs, omega (arith, c .before .before .before .before .before .before .before .before .before .pre .1, result-words (c .before .before .before .before .before .before .before .before .before .args .f), c .before .before .out .given))
+put-result-requires c κs =
+    let at-out = c .before .before in
+    let at-start = at-out .before .before .before .before .before .before .before in
+    (search needs, omega (arith, at-start .pre .1, result-words (at-start .args .f), at-out .out .given))
 
 put-result-requires-2 : tie.Need-put-result-requires-2
-put-result-requires-2 c κs = (omega (arith, c .before .before .before .put-result .ensures .0, word-few (eqb (bitsIn (c .before .before .before .before .before .before .before .before .before .before .before .before .before .args .f) % 2) 1)), omega (arith, c .before .before .before .before .before .before .before .before .before .before .before .before .before .pre .1, result-words (c .before .before .before .before .before .before .before .before .before .before .before .before .before .args .f), c .before .before .before .put-result .ensures .0, c .before .before .out2 .given, c .before .before .before .before .before .before .out .given))
+put-result-requires-2 c κs =
+    let at-out2 = c .before .before in
+    let at-put-result = at-out2 .before in
+    let at-out = at-put-result .before .before .before in
+    let at-start = at-out .before .before .before .before .before .before .before in
+    (omega (arith, at-put-result .put-result .ensures .0, word-few (eqb (bitsIn (at-start .args .f) % 2) 1)), omega (arith, at-start .pre .1, result-words (at-start .args .f), at-put-result .put-result .ensures .0, at-out2 .out2 .given, at-out .out .given))
 
 returns : tie.Need-returns
-returns c = (omega (arith, result-words (c .before .before .before .before .before .before .before .before .before .before .before .before .before .before .before .before .args .f), c .before .before .before .before .before .before .put-result .ensures .0, c .before .before .put-result2 .ensures .0), head-put (c .before .before .before .before .before .before .before .before .before .before .before .before .before .before .before .before .args .out .now) _ _ _ (c .before .before .before .before .before .before .before .before .before .before .before .before .before .before .before .before .args .f) (c .before .before .before .before .before .before .before .before .before .before .put-word .ensures) (c .before .before .before .before .before .before .put-result .ensures .1) _ (c .before .before .before .before .before .before .put-result .ensures .0) (c .before .before .put-result2 .ensures .1))
+returns c =
+    let at-put-result2 = c .before .before in
+    let at-put-result = at-put-result2 .before .before .before .before in
+    let at-put-word = at-put-result .before .before .before .before in
+    let at-start = at-put-word .before .before .before .before .before .before in
+    (omega (arith, result-words (at-start .args .f), at-put-result .put-result .ensures .0, at-put-result2 .put-result2 .ensures .0), head-put (at-start .args .out .now) _ _ _ (at-start .args .f) (at-put-word .put-word .ensures) (at-put-result .put-result .ensures .1) _ (at-put-result .put-result .ensures .0) (at-put-result2 .put-result2 .ensures .1))
 
 pub put-head-spec : {M : Type 1} → statement M
 put-head-spec =

@@ -16,8 +16,9 @@ abbrev μ-loop : tie.MeasureT-loop
 
 loop-holds : tie.Need-loop-holds Inv-loop μ-loop
 loop-holds c =
+    let at-put-head = c .before .before .before in
     let at-start = c .before .before .before .before .before .before .before .before in
-    putting-starts _ _ _ _ _ _ (at-start .pre .0 .operands) (said-room (at-start .args .log .now) (at-start .args .strings .now) (at-start .args .out .now) _ (at-start .args .f) (at-start .pre .0) _ (c .before .before .before .put-head .ensures .1) (c .before .before .before .put-head .ensures .0) (at-start .pre .1))
+    putting-starts _ _ _ _ _ _ (at-start .pre .0 .operands) (said-room (at-start .args .log .now) (at-start .args .strings .now) (at-start .args .out .now) _ (at-start .args .f) (at-start .pre .0) _ (at-put-head .put-head .ensures .1) (at-put-head .put-head .ensures .0) (at-start .pre .1))
 
 put-operand-requires : tie.Need-put-operand-requires Inv-loop μ-loop
 put-operand-requires c κs =
@@ -26,20 +27,26 @@ put-operand-requires c κs =
 
 add-at : tie.Need-add-at Inv-loop μ-loop
 add-at c =
+    let at-put-operand = c .before .before .before in
+    let at-loop-test = at-put-operand .before .before in
+    let at-out = at-loop-test .before .before .before .before in
     let at-start = c .before .before .before .before .before .before .before .before .before .before .before .before .before .before .before in
     let at-loop = c .before .before .before .before .before .before in
-    let same : length (at-loop .loop .out) ≡ length (at-start .args .out .now) = putting-length (at-loop .loop .inv) ∙ c .before .before .before .before .before .before .before .before .before .out .given in
-    omega (arith, putting-room (at-loop .loop .inv) (c .before .before .before .before .before .loop-test .taken), c .before .before .before .put-operand .ensures .1 .0)
+    let same : length (at-loop .loop .out) ≡ length (at-start .args .out .now) = putting-length (at-loop .loop .inv) ∙ at-out .out .given in
+    omega (arith, putting-room (at-loop .loop .inv) (at-loop-test .loop-test .taken), at-put-operand .put-operand .ensures .1 .0)
 
 loop-again : tie.Need-loop-again Inv-loop μ-loop
 loop-again c =
+    let at-loop-test = c .before .before .before .before .before in
+    let at-loop = at-loop-test .before in
     let after = c .before .before .before in
-    putting-goes-on (c .before .before .before .before .before .before .loop .inv) (c .before .before .before .before .before .loop-test .taken) _ _ _ (after .put-operand .ensures .0) (after .put-operand .ensures .1 .0) (after .put-operand .ensures .1 .1)
+    putting-goes-on (at-loop .loop .inv) (at-loop-test .loop-test .taken) _ _ _ (after .put-operand .ensures .0) (after .put-operand .ensures .1 .0) (after .put-operand .ensures .1 .1)
 
 returns : tie.Need-returns Inv-loop μ-loop
 returns c =
+    let at-put-head = c .before .before .before .before .before in
     let at-start = c .before .before .before .before .before .before .before .before .before .before in
-    said-put (at-start .args .log .now) (at-start .args .strings .now) (at-start .args .out .now) _ (at-start .args .f) (at-start .pre .0) _ (c .before .before .before .before .before .put-head .ensures .1) (c .before .before .before .before .before .put-head .ensures .0) _ (putting-ends (c .before .loop .inv) (c .loop-test .left))
+    said-put (at-start .args .log .now) (at-start .args .strings .now) (at-start .args .out .now) _ (at-start .args .f) (at-start .pre .0) _ (at-put-head .put-head .ensures .1) (at-put-head .put-head .ensures .0) _ (putting-ends (c .before .loop .inv) (c .loop-test .left))
 
 pub put-instruction-spec : {M : Type 1} → statement M
 put-instruction-spec =
@@ -58,5 +65,5 @@ put-instruction-spec =
     (λ c. search needs)
     (λ c. omega arith)
     loop-again
-    (λ c. putting-length (c .before .loop .inv) ∙ c .before .before .before .before .out .given)
+    (λ c. let at-out = c .before .before .before .before in putting-length (c .before .loop .inv) ∙ at-out .out .given)
     returns)

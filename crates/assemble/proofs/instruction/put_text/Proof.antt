@@ -7,10 +7,17 @@ use Rattle.assemble.proofs.instruction.put_text.Statement.{statement}
 use Rattle.assemble.proofs.instruction.put_text.Tie as tie
 
 put-bytes-requires : tie.Need-put-bytes-requires
-put-bytes-requires c κs = omega (arith, length-padded (c .before .before .before .before .before .before .before .args .s .now), zeroed-length (c .before .before .before .before .before .before .before .args .out .now) _ (c .before .before .before .before .before .before .before .args .s .now) (c .before .before .before .put-word .ensures))
+put-bytes-requires c κs =
+    let at-put-word = c .before .before .before in
+    let at-start = at-put-word .before .before .before .before in
+    omega (arith, length-padded (at-start .args .s .now), zeroed-length (at-start .args .out .now) _ (at-start .args .s .now) (at-put-word .put-word .ensures))
 
 returns : tie.Need-returns
-returns c = (length-padded _, text-put (c .before .before .before .before .before .before .before .before .before .before .args .out .now) _ (c .before .before .before .before .before .before .before .before .before .before .args .s .now) (c .before .before .before .before .before .before .put-word .ensures) (c .before .before .before .before .before .before .before .before .before .before .pre) _ (c .before .before .put-bytes .ensures))
+returns c =
+    let at-put-bytes = c .before .before in
+    let at-put-word = at-put-bytes .before .before .before .before in
+    let at-start = at-put-word .before .before .before .before in
+    (length-padded _, text-put (at-start .args .out .now) _ (at-start .args .s .now) (at-put-word .put-word .ensures) (at-start .pre) _ (at-put-bytes .put-bytes .ensures))
 
 pub put-text-spec : {M : Type 1} → statement M
 put-text-spec =

@@ -9,15 +9,19 @@ use Rattle.assemble.proofs.order.end_of.Statement.{statement}
 use Rattle.assemble.proofs.order.end_of.Tie as tie
 
 returns-2 : tie.Need-returns-2
-returns-2 c = offset-end _ _ _ _ (c .before .before .before .before .before .before .before .pre) (c .before .before .before .before .before .before .before .args .count - 1) (omega (arith, c .before .before .before .if1 .left)) _ (c .before .before .record-at .ensures) (omega (arith, c .before .before .before .if1 .left))
+returns-2 c =
+    let at-record-at = c .before .before in
+    let at-if1 = at-record-at .before in
+    let at-start = at-if1 .before .before .before .before in
+    offset-end _ _ _ _ (at-start .pre) (at-start .args .count - 1) (omega (arith, at-if1 .if1 .left)) _ (at-record-at .record-at .ensures) (omega (arith, at-if1 .if1 .left))
 
 pub end-of-spec : {M : Type 1} → statement M
 end-of-spec =
     tie.close
     (tie.spec
-    (λ c. none-end _ _ _ _ (c .before .before .before .before .pre) (c .if1 .taken))
+    (λ c. let at-start = c .before .before .before .before in none-end _ _ _ _ (at-start .pre) (c .if1 .taken))
     (λ c. search needs)
-    (λ c κs. stores-in _ _ _ _ (c .before .before .before .before .pre) _ (omega (arith, c .if1 .left)))
+    (λ c κs. let at-start = c .before .before .before .before in stores-in _ _ _ _ (at-start .pre) _ (omega (arith, c .if1 .left)))
     (λ c. search needs)
     (λ c. search needs)
     (λ c. search needs)

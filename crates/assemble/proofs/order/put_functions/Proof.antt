@@ -19,13 +19,23 @@ abbrev μ-loop : tie.MeasureT-loop
 μ-loop instructions log strings count out₀ start keep i₀ at₀ out i at = count - i
 
 put-part-requires : tie.Need-put-part-requires Inv-loop μ-loop
-put-part-requires c κs = (c .before .before .before .before .before .before .before .pre .0, (c .before .loop-test .taken, going-room (c .before .before .loop .inv) _ _ (functions-more (stores-at _ _ _ _ (c .before .before .before .before .before .before .before .pre .0) _ (c .before .loop-test .taken) _ refl))))
+put-part-requires c κs =
+    let at-loop = c .before .before in
+    let at-start = at-loop .before .before .before .before .before in
+    (at-start .pre .0, (c .before .loop-test .taken, going-room (at-loop .loop .inv) _ _ (functions-more (stores-at _ _ _ _ (at-start .pre .0) _ (c .before .loop-test .taken) _ refl))))
 
 loop-again : tie.Need-loop-again Inv-loop μ-loop
-loop-again c = going-on (c .before .before .before .before .before .loop .inv) _ _ (functions-more (stores-at _ _ _ _ (c .before .before .before .before .before .before .before .before .before .before .pre .0) _ (c .before .before .before .before .loop-test .taken) _ refl)) (c .before .before .put-part .ensures)
+loop-again c =
+    let at-put-part = c .before .before in
+    let at-loop-test = at-put-part .before .before in
+    let at-loop = at-loop-test .before in
+    let at-start = at-loop .before .before .before .before .before in
+    going-on (at-loop .loop .inv) _ _ (functions-more (stores-at _ _ _ _ (at-start .pre .0) _ (at-loop-test .loop-test .taken) _ refl)) (at-put-part .put-part .ensures)
 
 returns : tie.Need-returns Inv-loop μ-loop
-returns c = going-ends (c .before .loop .inv) (functions-end _ (all-end _ _ _ _ (c .before .before .before .before .before .before .pre .0) _ (c .loop-test .left)))
+returns c =
+    let at-start = c .before .before .before .before .before .before in
+    going-ends (c .before .loop .inv) (functions-end _ (all-end _ _ _ _ (at-start .pre .0) _ (c .loop-test .left)))
 
 pub put-functions-spec : {M : Type 1} → statement M
 put-functions-spec =
@@ -33,7 +43,7 @@ put-functions-spec =
     (tie.spec
     Inv-loop
     μ-loop
-    (λ c. going-starts _ _ _ _ (omega arith) (c .before .before .before .before .pre .1))
+    (λ c. let at-start = c .before .before .before .before in going-starts _ _ _ _ (omega arith) (at-start .pre .1))
     put-part-requires
     (λ c. omega arith)
     (λ c. omega arith)

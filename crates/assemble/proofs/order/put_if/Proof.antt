@@ -9,17 +9,23 @@ use Rattle.assemble.proofs.order.put_if.Statement.{statement}
 use Rattle.assemble.proofs.order.put_if.Tie as tie
 
 put-instruction-requires : tie.Need-put-instruction-requires
-put-instruction-requires c κs = (c .before .before .before .before .before .pre .0, lent-room (c .before .before .before .before .before .args .out .now) (c .before .before .before .before .before .args .at) _ (c .before .before .before .before .before .pre .1 (c .before .if1 .taken)))
+put-instruction-requires c κs =
+    let at-start = c .before .before .before .before .before in
+    (at-start .pre .0, lent-room (at-start .args .out .now) (at-start .args .at) _ (at-start .pre .1 (c .before .if1 .taken)))
 
 returns : tie.Need-returns
-returns c = put-kept _ (c .before .before .before .before .before .before .before .before .args .out .now) (c .before .before .put-instruction .last .1 .1 .1 .0) _ (c .before .before .before .before .before .before .before .before .args .at) (c .before .before .before .before .if1 .taken) (c .before .before .put-instruction .ensures)
+returns c =
+    let at-put-instruction = c .before .before in
+    let at-if1 = at-put-instruction .before .before in
+    let at-start = at-if1 .before .before .before .before in
+    put-kept _ (at-start .args .out .now) (at-put-instruction .put-instruction .last .1 .1 .1 .0) _ (at-start .args .at) (at-if1 .if1 .taken) (at-put-instruction .put-instruction .ensures)
 
 pub put-if-spec : {M : Type 1} → statement M
 put-if-spec =
     tie.close
     (tie.spec
-    (λ c. omega (arith, c .before .before .before .before .pre .1 (c .if1 .taken)))
-    (λ c. omega (arith, c .before .before .before .before .pre .1 (c .if1 .taken)))
+    (λ c. let at-start = c .before .before .before .before in omega (arith, at-start .pre .1 (c .if1 .taken)))
+    (λ c. let at-start = c .before .before .before .before in omega (arith, at-start .pre .1 (c .if1 .taken)))
     (λ c. search needs)
     put-instruction-requires
     (λ c. search needs)

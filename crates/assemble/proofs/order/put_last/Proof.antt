@@ -16,19 +16,36 @@ abbrev μ-loop : tie.MeasureT-loop
 μ-loop instructions log strings count tag out at keep last₀ k₀ last k = count - k
 
 later-requires : tie.Need-later-requires Inv-loop μ-loop
-later-requires c κs = stores-in _ _ _ _ (c .before .before .before .before .before .before .pre .0) _ (omega (arith, c .before .loop .inv .within))
+later-requires c κs =
+    let at-start = c .before .before .before .before .before .before in
+    stores-in _ _ _ _ (at-start .pre .0) _ (omega (arith, c .before .loop .inv .within))
 
 loop-again : tie.Need-loop-again Inv-loop μ-loop
-loop-again c = found-goes-on (stores-at _ _ _ _ (c .before .before .before .before .before .before .before .pre .0) (c .before .before .loop .k) (omega (arith, c .before .before .loop .inv .within)) _ refl) _ _ _ (c .later .ensures) (omega (arith, c .before .before .loop .inv .within)) (c .before .before .loop .inv)
+loop-again c =
+    let at-loop = c .before .before in
+    let at-start = at-loop .before .before .before .before .before in
+    found-goes-on (stores-at _ _ _ _ (at-start .pre .0) (at-loop .loop .k) (omega (arith, at-loop .loop .inv .within)) _ refl) _ _ _ (c .later .ensures) (omega (arith, at-loop .loop .inv .within)) (at-loop .loop .inv)
 
 put-one-requires : tie.Need-put-one-requires Inv-loop μ-loop
-put-one-requires c κs = (c .before .before .before .before .before .before .before .before .pre .0, (c .before .if1 .taken, room-as _ _ (sym (found-ends _ _ _ _ (c .before .before .before .before .before .before .before .before .pre .0) _ _ _ (c .before .before .before .loop .inv) (c .before .before .loop-test .left))) (c .before .before .before .before .before .before .before .before .pre .1)))
+put-one-requires c κs =
+    let at-loop-test = c .before .before in
+    let at-loop = at-loop-test .before in
+    let at-start = at-loop .before .before .before .before .before in
+    (at-start .pre .0, (c .before .if1 .taken, room-as _ _ (sym (found-ends _ _ _ _ (at-start .pre .0) _ _ _ (at-loop .loop .inv) (at-loop-test .loop-test .left))) (at-start .pre .1)))
 
 returns : tie.Need-returns Inv-loop μ-loop
-returns c = wrote-as _ _ (found-ends _ _ _ _ (c .before .before .before .before .before .before .before .before .before .before .before .pre .0) _ _ _ (c .before .before .before .before .before .before .loop .inv) (c .before .before .before .before .before .loop-test .left)) (c .before .before .put-one .ensures)
+returns c =
+    let at-put-one = c .before .before in
+    let at-loop-test = at-put-one .before .before .before in
+    let at-loop = at-loop-test .before in
+    let at-start = at-loop .before .before .before .before .before in
+    wrote-as _ _ (found-ends _ _ _ _ (at-start .pre .0) _ _ _ (at-loop .loop .inv) (at-loop-test .loop-test .left)) (at-put-one .put-one .ensures)
 
 returns-2 : tie.Need-returns-2 Inv-loop μ-loop
-returns-2 c = wrote-as _ _ (sym (one-none _ _ _ _ (c .before .before .before .before .before .before .before .pre .0) _ (c .if1 .left)) ∙ found-ends _ _ _ _ (c .before .before .before .before .before .before .before .pre .0) _ _ _ (c .before .before .loop .inv) (c .before .loop-test .left)) (wrote-none _ _ _ (omega arith))
+returns-2 c =
+    let at-loop = c .before .before in
+    let at-start = at-loop .before .before .before .before .before in
+    wrote-as _ _ (sym (one-none _ _ _ _ (at-start .pre .0) _ (c .if1 .left)) ∙ found-ends _ _ _ _ (at-start .pre .0) _ _ _ (at-loop .loop .inv) (c .before .loop-test .left)) (wrote-none _ _ _ (omega arith))
 
 pub put-last-spec : {M : Type 1} → statement M
 put-last-spec =
@@ -36,12 +53,12 @@ put-last-spec =
     (tie.spec
     Inv-loop
     μ-loop
-    (λ c. found-starts _ _ _ _ (c .before .before .before .before .pre .0) _)
+    (λ c. let at-start = c .before .before .before .before in found-starts _ _ _ _ (at-start .pre .0) _)
     later-requires
-    (λ c. omega (arith, c .before .before .loop .inv .within))
-    (λ c. omega (arith, c .before .before .loop .inv .within))
+    (λ c. let at-loop = c .before .before in omega (arith, at-loop .loop .inv .within))
+    (λ c. let at-loop = c .before .before in omega (arith, at-loop .loop .inv .within))
     loop-again
     put-one-requires
-    (λ c. wrote-length (c .before .before .put-one .ensures))
+    (λ c. let at-put-one = c .before .before in wrote-length (at-put-one .put-one .ensures))
     returns
     returns-2)

@@ -8,13 +8,22 @@ use Rattle.assemble.proofs.order.put_module.Statement.{statement}
 use Rattle.assemble.proofs.order.put_module.Tie as tie
 
 put-sections-requires : tie.Need-put-sections-requires
-put-sections-requires c κs = (c .before .before .before .before .before .pre .0, room-first _ _ (room-as _ _ (module-is _) (c .before .before .before .before .before .pre .1)))
+put-sections-requires c κs =
+    let at-start = c .before .before .before .before .before in
+    (at-start .pre .0, room-first _ _ (room-as _ _ (module-is _) (at-start .pre .1)))
 
 put-functions-requires : tie.Need-put-functions-requires
-put-functions-requires c κs = (c .before .before .before .before .before .before .before .before .before .pre .0, room-next _ _ (room-as _ _ (module-is _) (c .before .before .before .before .before .before .before .before .before .pre .1)) (c .before .before .before .put-sections .ensures))
+put-functions-requires c κs =
+    let at-put-sections = c .before .before .before in
+    let at-start = at-put-sections .before .before .before .before .before .before in
+    (at-start .pre .0, room-next _ _ (room-as _ _ (module-is _) (at-start .pre .1)) (at-put-sections .put-sections .ensures))
 
 returns : tie.Need-returns
-returns c = wrote-as _ _ (sym (module-is _)) (wrote-both _ _ (room-as _ _ (module-is _) (c .before .before .before .before .before .before .before .before .before .before .before .before .pre .1)) (c .before .before .before .before .before .before .put-sections .ensures) (c .before .before .put-functions .ensures))
+returns c =
+    let at-put-functions = c .before .before in
+    let at-put-sections = at-put-functions .before .before .before .before in
+    let at-start = at-put-sections .before .before .before .before .before .before in
+    wrote-as _ _ (sym (module-is _)) (wrote-both _ _ (room-as _ _ (module-is _) (at-start .pre .1)) (at-put-sections .put-sections .ensures) (at-put-functions .put-functions .ensures))
 
 pub put-module-spec : {M : Type 1} → statement M
 put-module-spec =

@@ -16,13 +16,21 @@ abbrev μ-loop : tie.MeasureT-loop
 μ-loop instructions log strings count tag out₀ start keep i₀ at₀ out i at = count - i
 
 put-tagged-requires : tie.Need-put-tagged-requires Inv-loop μ-loop
-put-tagged-requires c κs = (c .before .before .before .before .before .before .before .pre .0, (c .before .loop-test .taken, going-room (c .before .before .loop .inv) _ _ (tagged-more _ _ _)))
+put-tagged-requires c κs =
+    let at-loop = c .before .before in
+    let at-start = at-loop .before .before .before .before .before in
+    (at-start .pre .0, (c .before .loop-test .taken, going-room (at-loop .loop .inv) _ _ (tagged-more _ _ _)))
 
 loop-again : tie.Need-loop-again Inv-loop μ-loop
-loop-again c = going-on (c .before .before .before .before .before .loop .inv) _ _ (tagged-more _ _ _) (c .before .before .put-tagged .ensures)
+loop-again c =
+    let at-put-tagged = c .before .before in
+    let at-loop = at-put-tagged .before .before .before in
+    going-on (at-loop .loop .inv) _ _ (tagged-more _ _ _) (at-put-tagged .put-tagged .ensures)
 
 returns : tie.Need-returns Inv-loop μ-loop
-returns c = going-ends (c .before .loop .inv) (tagged-end _ _ (all-end _ _ _ _ (c .before .before .before .before .before .before .pre .0) _ (c .loop-test .left)))
+returns c =
+    let at-start = c .before .before .before .before .before .before in
+    going-ends (c .before .loop .inv) (tagged-end _ _ (all-end _ _ _ _ (at-start .pre .0) _ (c .loop-test .left)))
 
 pub put-only-spec : {M : Type 1} → statement M
 put-only-spec =
@@ -30,7 +38,7 @@ put-only-spec =
     (tie.spec
     Inv-loop
     μ-loop
-    (λ c. going-starts _ _ _ _ (omega arith) (c .before .before .before .before .pre .1))
+    (λ c. let at-start = c .before .before .before .before in going-starts _ _ _ _ (omega arith) (at-start .pre .1))
     put-tagged-requires
     (λ c. omega arith)
     (λ c. omega arith)

@@ -18,19 +18,40 @@ abbrev μ-loop : tie.MeasureT-loop
 μ-loop instructions log strings count first out₀ start keep i₀ at₀ out i at = count - i
 
 record-at-requires : tie.Need-record-at-requires Inv-loop μ-loop
-record-at-requires c κs = stores-in _ _ _ _ (c .before .before .before .before .before .before .pre .0) _ (c .loop-test .taken)
+record-at-requires c κs =
+    let at-start = c .before .before .before .before .before .before in
+    stores-in _ _ _ _ (at-start .pre .0) _ (c .loop-test .taken)
 
 returns : tie.Need-returns Inv-loop μ-loop
-returns c = going-ends (c .before .before .before .before .loop .inv) (parameters-none (stores-at _ _ _ _ (c .before .before .before .before .before .before .before .before .before .pre .0) _ (c .before .before .before .loop-test .taken) _ (c .before .before .record-at .ensures)) (c .if1 .taken))
+returns c =
+    let at-record-at = c .before .before in
+    let at-loop-test = at-record-at .before in
+    let at-loop = at-loop-test .before in
+    let at-start = at-loop .before .before .before .before .before in
+    going-ends (at-loop .loop .inv) (parameters-none (stores-at _ _ _ _ (at-start .pre .0) _ (at-loop-test .loop-test .taken) _ (at-record-at .record-at .ensures)) (c .if1 .taken))
 
 put-tagged-requires : tie.Need-put-tagged-requires Inv-loop μ-loop
-put-tagged-requires c κs = (c .before .before .before .before .before .before .before .before .before .before .pre .0, (c .before .before .before .before .loop-test .taken, going-room (c .before .before .before .before .before .loop .inv) _ _ (parameters-more (stores-at _ _ _ _ (c .before .before .before .before .before .before .before .before .before .before .pre .0) _ (c .before .before .before .before .loop-test .taken) _ (c .before .before .before .record-at .ensures)) (c .before .if1 .left))))
+put-tagged-requires c κs =
+    let at-record-at = c .before .before .before in
+    let at-loop-test = at-record-at .before in
+    let at-loop = at-loop-test .before in
+    let at-start = at-loop .before .before .before .before .before in
+    (at-start .pre .0, (at-loop-test .loop-test .taken, going-room (at-loop .loop .inv) _ _ (parameters-more (stores-at _ _ _ _ (at-start .pre .0) _ (at-loop-test .loop-test .taken) _ (at-record-at .record-at .ensures)) (c .before .if1 .left))))
 
 loop-again : tie.Need-loop-again Inv-loop μ-loop
-loop-again c = going-on (c .before .before .before .before .before .before .before .before .loop .inv) _ _ (parameters-more (stores-at _ _ _ _ (c .before .before .before .before .before .before .before .before .before .before .before .before .before .pre .0) _ (c .before .before .before .before .before .before .before .loop-test .taken) _ (c .before .before .before .before .before .before .record-at .ensures)) (c .before .before .before .before .if1 .left)) (c .before .before .put-tagged .ensures)
+loop-again c =
+    let at-put-tagged = c .before .before in
+    let at-if1 = at-put-tagged .before .before in
+    let at-record-at = at-if1 .before .before in
+    let at-loop-test = at-record-at .before in
+    let at-loop = at-loop-test .before in
+    let at-start = at-loop .before .before .before .before .before in
+    going-on (at-loop .loop .inv) _ _ (parameters-more (stores-at _ _ _ _ (at-start .pre .0) _ (at-loop-test .loop-test .taken) _ (at-record-at .record-at .ensures)) (at-if1 .if1 .left)) (at-put-tagged .put-tagged .ensures)
 
 returns-2 : tie.Need-returns-2 Inv-loop μ-loop
-returns-2 c = going-ends (c .before .loop .inv) (parameters-end _ (all-end _ _ _ _ (c .before .before .before .before .before .before .pre .0) _ (c .loop-test .left)))
+returns-2 c =
+    let at-start = c .before .before .before .before .before .before in
+    going-ends (c .before .loop .inv) (parameters-end _ (all-end _ _ _ _ (at-start .pre .0) _ (c .loop-test .left)))
 
 pub put-parameters-spec : {M : Type 1} → statement M
 put-parameters-spec =
@@ -38,9 +59,9 @@ put-parameters-spec =
     (tie.spec
     Inv-loop
     μ-loop
-    (λ c. going-starts _ _ _ _ (omega arith) (c .before .before .before .before .pre .1))
+    (λ c. let at-start = c .before .before .before .before in going-starts _ _ _ _ (omega arith) (at-start .pre .1))
     record-at-requires
-    (λ c. going-length (c .before .before .before .before .loop .inv))
+    (λ c. let at-loop = c .before .before .before .before in going-length (at-loop .loop .inv))
     returns
     put-tagged-requires
     (λ c. omega arith)

@@ -21,22 +21,45 @@ abbrev μ-loop : tie.MeasureT-loop
 μ-loop instructions log strings count out₀ i₀ out i = count - i
 
 record-at-requires : tie.Need-record-at-requires Inv-loop μ-loop
-record-at-requires c κs = stores-in _ _ _ _ (c .before .before .before .before .before .before .pre .0) _ (c .loop-test .taken)
+record-at-requires c κs =
+    let at-start = c .before .before .before .before .before .before in
+    stores-in _ _ _ _ (at-start .pre .0) _ (c .loop-test .taken)
 
 sub-put-instruction : tie.Need-sub-put-instruction Inv-loop μ-loop
-sub-put-instruction c = omega (arith, offset-room _ _ _ _ (c .before .before .before .before .before .before .before .before .pre .0) _ (c .before .before .loop-test .taken) _ (c .before .record-at .ensures) _ _ (c .before .before .before .loop .inv) (c .before .before .before .before .before .before .before .before .pre .1))
+sub-put-instruction c =
+    let at-loop-test = c .before .before in
+    let at-loop = at-loop-test .before in
+    let at-start = at-loop .before .before .before .before .before in
+    omega (arith, offset-room _ _ _ _ (at-start .pre .0) _ (at-loop-test .loop-test .taken) _ (c .before .record-at .ensures) _ _ (at-loop .loop .inv) (at-start .pre .1))
 
 part-put-instruction-start : tie.Need-part-put-instruction-start Inv-loop μ-loop
-part-put-instruction-start c = omega (arith, offset-room _ _ _ _ (c .before .before .before .before .before .before .before .before .pre .0) _ (c .before .before .loop-test .taken) _ (c .before .record-at .ensures) _ _ (c .before .before .before .loop .inv) (c .before .before .before .before .before .before .before .before .pre .1))
+part-put-instruction-start c =
+    let at-loop-test = c .before .before in
+    let at-loop = at-loop-test .before in
+    let at-start = at-loop .before .before .before .before .before in
+    omega (arith, offset-room _ _ _ _ (at-start .pre .0) _ (at-loop-test .loop-test .taken) _ (c .before .record-at .ensures) _ _ (at-loop .loop .inv) (at-start .pre .1))
 
 put-instruction-requires : tie.Need-put-instruction-requires Inv-loop μ-loop
-put-instruction-requires c κs = (stores-at _ _ _ _ (c .before .before .before .before .before .before .before .before .before .pre .0) _ (c .before .before .before .loop-test .taken) _ (c .before .before .record-at .ensures) .sound, lent-room (c .before .before .before .before .loop .out) _ _ (offset-room _ _ _ _ (c .before .before .before .before .before .before .before .before .before .pre .0) _ (c .before .before .before .loop-test .taken) _ (c .before .before .record-at .ensures) _ _ (c .before .before .before .before .loop .inv) (c .before .before .before .before .before .before .before .before .before .pre .1)))
+put-instruction-requires c κs =
+    let at-record-at = c .before .before in
+    let at-loop-test = at-record-at .before in
+    let at-loop = at-loop-test .before in
+    let at-start = at-loop .before .before .before .before .before in
+    (stores-at _ _ _ _ (at-start .pre .0) _ (at-loop-test .loop-test .taken) _ (at-record-at .record-at .ensures) .sound, lent-room (at-loop .loop .out) _ _ (offset-room _ _ _ _ (at-start .pre .0) _ (at-loop-test .loop-test .taken) _ (at-record-at .record-at .ensures) _ _ (at-loop .loop .inv) (at-start .pre .1)))
 
 loop-again : tie.Need-loop-again Inv-loop μ-loop
-loop-again c = offset-put _ _ _ _ (c .before .before .before .before .before .before .before .before .before .before .before .before .pre .0) _ (c .before .before .before .before .before .before .loop-test .taken) _ (c .before .before .before .before .before .record-at .ensures) _ (c .before .before .before .before .before .before .before .loop .out) (c .before .before .before .before .before .before .before .loop .inv) (c .before .before .put-instruction .last .1 .1 .1 .0) (c .before .before .put-instruction .ensures)
+loop-again c =
+    let at-put-instruction = c .before .before in
+    let at-record-at = at-put-instruction .before .before .before in
+    let at-loop-test = at-record-at .before in
+    let at-loop = at-loop-test .before in
+    let at-start = at-loop .before .before .before .before .before in
+    offset-put _ _ _ _ (at-start .pre .0) _ (at-loop-test .loop-test .taken) _ (at-record-at .record-at .ensures) _ (at-loop .loop .out) (at-loop .loop .inv) (at-put-instruction .put-instruction .last .1 .1 .1 .0) (at-put-instruction .put-instruction .ensures)
 
 returns : tie.Need-returns Inv-loop μ-loop
-returns c = all-put _ _ _ _ (c .before .before .before .before .before .before .pre .0) _ (c .loop-test .left) _ _ (c .before .loop .inv)
+returns c =
+    let at-start = c .before .before .before .before .before .before in
+    all-put _ _ _ _ (at-start .pre .0) _ (c .loop-test .left) _ _ (c .before .loop .inv)
 
 pub put-read-spec : {M : Type 1} → statement M
 put-read-spec =

@@ -16,13 +16,22 @@ abbrev μ-loop : tie.MeasureT-loop
 μ-loop instructions log strings count out₀ start keep tag₀ at₀ out tag at = 12 - tag
 
 loop-holds : tie.Need-loop-holds Inv-loop μ-loop
-loop-holds c = going-as (going-starts _ _ (c .before .before .before .before .args .start) _ (omega arith) (c .before .before .before .before .pre .1)) (sections-all _)
+loop-holds c =
+    let at-start = c .before .before .before .before in
+    going-as (going-starts _ _ (at-start .args .start) _ (omega arith) (at-start .pre .1)) (sections-all _)
 
 put-section-requires : tie.Need-put-section-requires Inv-loop μ-loop
-put-section-requires c κs = (c .before .before .before .before .before .before .before .pre .0, going-room (c .before .before .loop .inv) _ _ (sections-more _ _ (c .before .loop-test .taken)))
+put-section-requires c κs =
+    let at-loop = c .before .before in
+    let at-start = at-loop .before .before .before .before .before in
+    (at-start .pre .0, going-room (at-loop .loop .inv) _ _ (sections-more _ _ (c .before .loop-test .taken)))
 
 loop-again : tie.Need-loop-again Inv-loop μ-loop
-loop-again c = going-on (c .before .before .before .before .before .loop .inv) _ _ (sections-more _ _ (c .before .before .before .before .loop-test .taken)) (c .before .before .put-section .ensures)
+loop-again c =
+    let at-put-section = c .before .before in
+    let at-loop-test = at-put-section .before .before in
+    let at-loop = at-loop-test .before in
+    going-on (at-loop .loop .inv) _ _ (sections-more _ _ (at-loop-test .loop-test .taken)) (at-put-section .put-section .ensures)
 
 pub put-sections-spec : {M : Type 1} → statement M
 put-sections-spec =

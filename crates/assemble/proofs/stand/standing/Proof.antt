@@ -18,13 +18,22 @@ abbrev μ-loop : tie.MeasureT-loop
 μ-loop instructions log strings instruction-count log-count string-count o₀ i₀ o i = instruction-count - i
 
 returns : tie.Need-returns Inv-loop μ-loop
-returns c = stands-bad _ _ _ (c .before .before .before .check .ensures) (c .before .checked .given .1)
+returns c = let at-check = c .before .before .before in stands-bad _ _ _ (at-check .check .ensures) (c .before .checked .given .1)
 
 returns-2 : tie.Need-returns-2 Inv-loop μ-loop
-returns-2 c = pass-stops (c .before .before .before .before .loop .inv) (c .before .before .before .loop-test .taken) _ (c .before .before .record-at .ensures) (sym (c .before .may-come .ensures) ∙ not-true _ (c .if1 .taken))
+returns-2 c =
+    let at-record-at = c .before .before in
+    let at-loop-test = at-record-at .before in
+    let at-loop = at-loop-test .before in
+    pass-stops (at-loop .loop .inv) (at-loop-test .loop-test .taken) _ (at-record-at .record-at .ensures) (sym (c .before .may-come .ensures) ∙ not-true _ (c .if1 .taken))
 
 loop-again : tie.Need-loop-again Inv-loop μ-loop
-loop-again c = pass-goes-on (c .before .before .before .before .before .loop .inv) (c .before .before .before .before .loop-test .taken) _ (c .before .before .before .record-at .ensures) (sym (c .before .before .may-come .ensures) ∙ not-false _ (c .before .if1 .left)) _ (c .order-after .ensures)
+loop-again c =
+    let at-may-come = c .before .before in
+    let at-record-at = at-may-come .before in
+    let at-loop-test = at-record-at .before in
+    let at-loop = at-loop-test .before in
+    pass-goes-on (at-loop .loop .inv) (at-loop-test .loop-test .taken) _ (at-record-at .record-at .ensures) (sym (at-may-come .may-come .ensures) ∙ not-false _ (c .before .if1 .left)) _ (c .order-after .ensures)
 
 pub standing-spec : {M : Type 1} → statement M
 standing-spec =
@@ -36,7 +45,7 @@ standing-spec =
     (λ c. search needs)
     returns
     (λ c. search needs)
-    (λ c. pass-starts _ _ (c .before .before .check .ensures) (c .enum-told .given .1))
+    (λ c. let at-check = c .before .before in pass-starts _ _ (at-check .check .ensures) (c .enum-told .given .1))
     (λ c κs. in-store (c .before .loop .inv) (c .loop-test .taken))
     (λ c κs. search needs)
     returns-2

@@ -6,7 +6,10 @@ use Rattle.assemble.proofs.write.write_module_order.Statement.{statemen
 use Rattle.assemble.proofs.write.write_module_order.Tie as tie
 
 returns : tie.Need-returns
-returns c = writes-as (module-order-by _ _ (c .before .before .before .before .module-header .ensures) _ _) (c .before .before .write-order .ensures)
+returns c =
+    let at-write-order = c .before .before in
+    let at-module-header = at-write-order .before .before in
+    writes-as (module-order-by _ _ (at-module-header .module-header .ensures) _ _) (at-write-order .write-order .ensures)
 
 pub write-module-order-spec : {M : Type 1} → statement M
 write-module-order-spec =

@@ -14,7 +14,7 @@ limited-string-spec =
     (tie.spec
     (λ c. search needs)
     (λ c κs. search needs)
-    (λ c. text-past _ _ _ _ _ (c .before .before .before .pre .0) (c .before .before .before .pre .1) (c .before .if1 .taken) (c .no-text .ensures))
+    (λ c. let at-start = c .before .before .before in text-past _ _ _ _ _ (at-start .pre .0) (at-start .pre .1) (c .before .if1 .taken) (c .no-text .ensures))
     (λ c. search needs)
     (λ c. search needs)
     (λ c. search needs)

@@ -12,5 +12,5 @@ take-one-spec =
     (λ c. search needs)
     (λ c. search needs)
     (λ c. none-less _ _ (c .enum-told .given .1))
-    (λ c. one-left _ _ _ (c .before .limit .given .1) (c .before .before .before .pre))
+    (λ c. let at-start = c .before .before .before in one-left _ _ _ (c .before .limit .given .1) (at-start .pre))
     (λ c. one-less _ _ _ (c .before .limit .given .1)))

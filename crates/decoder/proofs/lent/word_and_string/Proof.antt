@@ -16,4 +16,4 @@ word-and-string-spec =
     (λ c κs. search needs)
     (λ c κs. search needs)
     (λ c κs. search needs)
-    (λ c. rw (c .before .word-given .ensures, c .text-given .ensures, c .before .before .text-next .ensures, c .before .before .before .string-lent .ensures, c .before .before .before .before .word-next .ensures, c .before .before .before .before .before .word-lent .ensures)))
+    (λ c. let at-text-next = c .before .before in let at-string-lent = at-text-next .before in let at-word-next = at-string-lent .before in let at-word-lent = at-word-next .before in rw (c .before .word-given .ensures, c .text-given .ensures, at-text-next .text-next .ensures, at-string-lent .string-lent .ensures, at-word-next .word-next .ensures, at-word-lent .word-lent .ensures)))

@@ -4,9 +4,6 @@ use borrow.Author.Needs.{needs}
 use Rattle.grammar.proofs.find.bit_listed.Statement.{statement}
 use Rattle.grammar.proofs.find.bit_listed.Tie as tie
 
-is-listed-requires : tie.Need-is-listed-requires
-is-listed-requires c κs = search needs
-
 returns : tie.Need-returns
 returns c = bit-set _ _ _ _ _ (c .before .if1 .taken) (c .is-listed .ensures)
 
@@ -14,4 +11,4 @@ returns-2 : tie.Need-returns-2
 returns-2 c = bit-clear _ _ _ _ (c .if1 .left)
 
 pub bit-listed-spec : {M : Type 1} → statement M
-bit-listed-spec = tie.close (tie.spec is-listed-requires returns returns-2)
+bit-listed-spec = tie.close (tie.spec (λ c κs. search needs) returns returns-2)

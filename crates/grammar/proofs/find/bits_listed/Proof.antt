@@ -13,25 +13,31 @@ abbrev μ-loop : tie.MeasureT-loop
 μ-loop g index kind mask rest₀ bit₀ rest bit = rest
 
 loop-holds : tie.Need-loop-holds Inv-loop μ-loop
-loop-holds c = bits-start _ _ _ (c .before .before .fits .mask .fits)
+loop-holds c = let at-fits = c .before .before in bits-start _ _ _ (at-fits .fits .mask .fits)
 
 cast-bit-listed : tie.Need-cast-bit-listed Inv-loop μ-loop
 cast-bit-listed c = omega (arith, bits-near _ _ _ _ _ (c .before .loop .inv) (c .loop-test .taken))
 
-bit-listed-requires : tie.Need-bit-listed-requires Inv-loop μ-loop
-bit-listed-requires c κs = search needs
-
 returns : tie.Need-returns Inv-loop μ-loop
-returns c = bits-bad _ _ _ _ _ (c .before .before .before .loop .inv) (c .before .before .loop-test .taken) _ (c .before .bit-listed .ensures) (c .if1 .taken)
+returns c =
+    let at-loop-test = c .before .before in
+    let at-loop = at-loop-test .before in
+    bits-bad _ _ _ _ _ (at-loop .loop .inv) (at-loop-test .loop-test .taken) _ (c .before .bit-listed .ensures) (c .if1 .taken)
 
 mul-bit : tie.Need-mul-bit Inv-loop μ-loop
-mul-bit c = omega (arith, bits-near _ _ _ _ _ (c .before .before .before .loop .inv) (c .before .before .loop-test .taken))
+mul-bit c =
+    let at-loop-test = c .before .before in
+    let at-loop = at-loop-test .before in
+    omega (arith, bits-near _ _ _ _ _ (at-loop .loop .inv) (at-loop-test .loop-test .taken))
 
 loop-less : tie.Need-loop-less Inv-loop μ-loop
-loop-less c = omega (arith, c .before .before .loop-test .taken)
+loop-less c = let at-loop-test = c .before .before in omega (arith, at-loop-test .loop-test .taken)
 
 loop-again : tie.Need-loop-again Inv-loop μ-loop
-loop-again c = bits-turn _ _ _ _ _ (c .before .before .before .loop .inv) (c .before .before .loop-test .taken) _ (c .before .bit-listed .ensures) (c .if1 .left)
+loop-again c =
+    let at-loop-test = c .before .before in
+    let at-loop = at-loop-test .before in
+    bits-turn _ _ _ _ _ (at-loop .loop .inv) (at-loop-test .loop-test .taken) _ (c .before .bit-listed .ensures) (c .if1 .left)
 
 returns-2 : tie.Need-returns-2 Inv-loop μ-loop
 returns-2 c = bits-end _ _ _ _ _ (c .before .loop .inv) (c .loop-test .left)
@@ -44,7 +50,7 @@ bits-listed-spec =
     μ-loop
     loop-holds
     cast-bit-listed
-    bit-listed-requires
+    (λ c κs. search needs)
     returns
     mul-bit
     loop-less

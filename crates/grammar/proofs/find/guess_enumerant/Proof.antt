@@ -8,20 +8,19 @@ use Rattle.grammar.proofs.find.guess_enumerant.Tie as tie
 returns : tie.Need-returns
 returns c = guess-nothing _
 
-guessed-requires : tie.Need-guessed-requires
-guessed-requires c κs = search needs
-
-enum-known-enumerant : tie.Need-enum-known-enumerant
-enum-known-enumerant c = search needs
-
 add-parameters : tie.Need-add-parameters
-add-parameters c = omega (arith, enumerant-near _ _ _ _ _ (c .before .before .before .before .before .before .before .pre) (c .before .before .before .before .if1 .left) (guess-right _ _ _ (c .before .enumerant .given .1) (c .before .before .before .guessed .ensures)))
-
-enum-told : tie.Need-enum-told
-enum-told c = search needs
+add-parameters c =
+    let at-guessed = c .before .before .before in
+    let at-if1 = at-guessed .before in
+    let at-start = at-if1 .before .before .before in
+    omega (arith, enumerant-near _ _ _ _ _ (at-start .pre) (at-if1 .if1 .left) (guess-right _ _ _ (c .before .enumerant .given .1) (at-guessed .guessed .ensures)))
 
 returns-2 : tie.Need-returns-2
-returns-2 c = let t = enumerant-at _ _ _ _ _ (c .before .before .before .before .before .before .before .pre) (c .before .before .before .before .if1 .left) (guess-right _ _ _ (c .before .enumerant .given .1) (c .before .before .before .guessed .ensures)) in (λ s. t .0, t .1)
+returns-2 c =
+    let at-guessed = c .before .before .before in
+    let at-if1 = at-guessed .before in
+    let at-start = at-if1 .before .before .before in
+    let t = enumerant-at _ _ _ _ _ (at-start .pre) (at-if1 .if1 .left) (guess-right _ _ _ (c .before .enumerant .given .1) (at-guessed .guessed .ensures)) in (λ s. t .0, t .1)
 
 returns-3 : tie.Need-returns-3
 returns-3 c = guess-nothing _
@@ -31,9 +30,9 @@ guess-enumerant-spec =
     tie.close
     (tie.spec
     returns
-    guessed-requires
-    enum-known-enumerant
+    (λ c κs. search needs)
+    (λ c. search needs)
     add-parameters
-    enum-told
+    (λ c. search needs)
     returns-2
     returns-3)

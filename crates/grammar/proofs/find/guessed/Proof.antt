@@ -5,17 +5,13 @@ use borrow.Author.Needs.{needs}
 use Rattle.grammar.proofs.find.guessed.Statement.{statement}
 use Rattle.grammar.proofs.find.guessed.Tie as tie
 
-guess-at-requires : tie.Need-guess-at-requires
-guess-at-requires c κs = search needs
-
-mark-count-requires : tie.Need-mark-count-requires
-mark-count-requires c κs = search needs
-
-mark-at-requires : tie.Need-mark-at-requires
-mark-at-requires c κs = search needs
-
 returns : tie.Need-returns
-returns c = λ s. look-hit _ _ _ _ (c .before .before .before .before .before .before .before .before .before .before .pre) _ _ (c .before .before .before .before .mark-at .ensures) (omega (arith, c .before .before .before .before .before .before .mark-count .ensures, c .before .before .before .before .before .before .before .before .before .before .pre .count)) (c .before .before .if2 .taken) (c .if3 .taken)
+returns c =
+    let at-if2 = c .before .before in
+    let at-mark-at = at-if2 .before .before in
+    let at-mark-count = at-mark-at .before .before in
+    let at-start = at-mark-count .before .before .before .before in
+    λ s. look-hit _ _ _ _ (at-start .pre) _ _ (at-mark-at .mark-at .ensures) (omega (arith, at-mark-count .mark-count .ensures, at-start .pre .count)) (at-if2 .if2 .taken) (c .if3 .taken)
 
 returns-2 : tie.Need-returns-2
 returns-2 c = guess-silent
@@ -30,9 +26,9 @@ pub guessed-spec : {M : Type 1} → statement M
 guessed-spec =
     tie.close
     (tie.spec
-    guess-at-requires
-    mark-count-requires
-    mark-at-requires
+    (λ c κs. search needs)
+    (λ c κs. search needs)
+    (λ c κs. search needs)
     returns
     returns-2
     returns-3

@@ -7,17 +7,16 @@ use Rattle.grammar.proofs.find.parameter_at.Tie as tie
 returns : tie.Need-returns
 returns c = parameter-end _ _ (c .if1 .taken)
 
-item-at-requires : tie.Need-item-at-requires
-item-at-requires c κs = search needs
-
-enum-known-x : tie.Need-enum-known-x
-enum-known-x c = search needs
-
 returns-2 : tie.Need-returns-2
-returns-2 c = parameter-none _ _ (c .before .before .if1 .left) _ (c .before .item-at .ensures) (c .match .keys2)
+returns-2 c =
+    let at-if1 = c .before .before in
+    parameter-none _ _ (at-if1 .if1 .left) _ (c .before .item-at .ensures) (c .match .keys2)
 
 returns-3 : tie.Need-returns-3
-returns-3 c = parameter-there _ _ (c .before .before .before .before .if1 .left) _ (c .before .before .before .item-at .ensures) _ (c .before .x .given .1)
+returns-3 c =
+    let at-item-at = c .before .before .before in
+    let at-if1 = at-item-at .before in
+    parameter-there _ _ (at-if1 .if1 .left) _ (at-item-at .item-at .ensures) _ (c .before .x .given .1)
 
 pub parameter-at-spec : {M : Type 1} → statement M
-parameter-at-spec = tie.close (tie.spec returns item-at-requires enum-known-x returns-2 returns-3)
+parameter-at-spec = tie.close (tie.spec returns (λ c κs. search needs) (λ c. search needs) returns-2 returns-3)

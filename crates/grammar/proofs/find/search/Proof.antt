@@ -15,44 +15,53 @@ Inv-loop g index kind value low₀ high₀ low high = Halving kind value (marksO
 abbrev μ-loop : tie.MeasureT-loop
 μ-loop g index kind value low₀ high₀ low high = high - low
 
-mark-count-requires : tie.Need-mark-count-requires Inv-loop μ-loop
-mark-count-requires c κs = search needs
-
 loop-holds : tie.Need-loop-holds Inv-loop μ-loop
-loop-holds c = halving-start _ _ _ _ (c .mark-count .ensures ∙ c .before .before .before .pre .count)
-
-sub-middle : tie.Need-sub-middle Inv-loop μ-loop
-sub-middle c = search needs
+loop-holds c = let at-start = c .before .before .before in halving-start _ _ _ _ (c .mark-count .ensures ∙ at-start .pre .count)
 
 add-middle : tie.Need-add-middle Inv-loop μ-loop
-add-middle c = omega (arith, c .before .loop .inv .most, c .before .before .before .before .before .pre .room)
+add-middle c =
+    let at-start = c .before .before .before .before .before in
+    omega (arith, c .before .loop .inv .most, at-start .pre .room)
 
 mark-at-requires : tie.Need-mark-at-requires Inv-loop μ-loop
-mark-at-requires c κs = (c .before .before .before .before .before .pre, omega (arith, c .before .loop .inv .most))
-
-rises-to-requires : tie.Need-rises-to-requires Inv-loop μ-loop
-rises-to-requires c κs = search needs
+mark-at-requires c κs =
+    let at-start = c .before .before .before .before .before in
+    (at-start .pre, omega (arith, c .before .loop .inv .most))
 
 add-low : tie.Need-add-low Inv-loop μ-loop
-add-low c = omega (arith, c .before .before .before .before .loop .inv .most, c .before .before .before .before .before .before .before .before .pre .room)
+add-low c =
+    let at-loop = c .before .before .before .before in
+    let at-start = at-loop .before .before .before .before in
+    omega (arith, at-loop .loop .inv .most, at-start .pre .room)
 
 loop-less : tie.Need-loop-less Inv-loop μ-loop
 loop-less c = omega arith
 
 loop-again : tie.Need-loop-again Inv-loop μ-loop
-loop-again c = search-up _ _ _ _ (c .before .before .before .before .before .before .before .before .pre) _ _ (c .before .before .mark-at .ensures) _ _ (c .before .before .before .before .loop .inv) (omega arith) _ (c .before .rises-to .ensures) (c .if1 .taken)
-
-rises-to-requires-2 : tie.Need-rises-to-requires-2 Inv-loop μ-loop
-rises-to-requires-2 c κs = search needs
+loop-again c =
+    let at-mark-at = c .before .before in
+    let at-loop = at-mark-at .before .before in
+    let at-start = at-loop .before .before .before .before in
+    search-up _ _ _ _ (at-start .pre) _ _ (at-mark-at .mark-at .ensures) _ _ (at-loop .loop .inv) (omega arith) _ (c .before .rises-to .ensures) (c .if1 .taken)
 
 loop-less-2 : tie.Need-loop-less-2 Inv-loop μ-loop
 loop-less-2 c = omega arith
 
 loop-again-2 : tie.Need-loop-again-2 Inv-loop μ-loop
-loop-again-2 c = search-down _ _ _ _ (c .before .before .before .before .before .before .before .before .before .before .pre) _ _ (c .before .before .before .before .mark-at .ensures) _ _ (c .before .before .before .before .before .before .loop .inv) (omega arith) _ (c .before .rises-to2 .ensures) (c .if2 .taken)
+loop-again-2 c =
+    let at-mark-at = c .before .before .before .before in
+    let at-loop = at-mark-at .before .before in
+    let at-start = at-loop .before .before .before .before in
+    search-down _ _ _ _ (at-start .pre) _ _ (at-mark-at .mark-at .ensures) _ _ (at-loop .loop .inv) (omega arith) _ (c .before .rises-to2 .ensures) (c .if2 .taken)
 
 returns : tie.Need-returns Inv-loop μ-loop
-returns c = search-hit _ _ _ _ (c .before .before .before .before .before .before .before .before .before .before .pre) _ _ (c .before .before .before .before .mark-at .ensures) _ _ (c .before .before .before .before .before .before .loop .inv) (omega arith) _ _ (c .before .before .before .rises-to .ensures) (c .before .rises-to2 .ensures) (c .before .before .if1 .left) (c .if2 .left)
+returns c =
+    let at-if1 = c .before .before in
+    let at-rises-to = at-if1 .before in
+    let at-mark-at = at-rises-to .before in
+    let at-loop = at-mark-at .before .before in
+    let at-start = at-loop .before .before .before .before in
+    search-hit _ _ _ _ (at-start .pre) _ _ (at-mark-at .mark-at .ensures) _ _ (at-loop .loop .inv) (omega arith) _ _ (at-rises-to .rises-to .ensures) (c .before .rises-to2 .ensures) (at-if1 .if1 .left) (c .if2 .left)
 
 returns-2 : tie.Need-returns-2 Inv-loop μ-loop
 returns-2 c = sym (halving-end _ _ _ _ _ (c .before .loop .inv) (c .loop-test .left))
@@ -63,16 +72,16 @@ search-spec =
     (tie.spec
     Inv-loop
     μ-loop
-    mark-count-requires
+    (λ c κs. search needs)
     loop-holds
-    sub-middle
+    (λ c. search needs)
     add-middle
     mark-at-requires
-    rises-to-requires
+    (λ c κs. search needs)
     add-low
     loop-less
     loop-again
-    rises-to-requires-2
+    (λ c κs. search needs)
     loop-less-2
     loop-again-2
     returns

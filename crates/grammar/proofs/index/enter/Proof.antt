@@ -8,40 +8,19 @@ use borrow.Author.Needs.{needs}
 use Rattle.grammar.proofs.index.enter.Statement.{statement}
 use Rattle.grammar.proofs.index.enter.Tie as tie
 
-enum-known-x : tie.Need-enum-known-x
-enum-known-x c = search needs
-
-cast-put : tie.Need-cast-put
-cast-put c = search needs
-
-put-requires : tie.Need-put-requires
-put-requires c κs = search needs
-
-add-result : tie.Need-add-result
-add-result c = search needs
-
-enum-known-x-2 : tie.Need-enum-known-x-2
-enum-known-x-2 c = search needs
-
-put-requires-2 : tie.Need-put-requires-2
-put-requires-2 c κs = search needs
-
-add-result-2 : tie.Need-add-result-2
-add-result-2 c = search needs
-
-same-length : tie.Need-same-length
-same-length c = search needs
-
 returns : tie.Need-returns
 unfolding placesAt
-returns c = rw (c .before .before .before .before .before .x .given .1) (refl, c .before .before .put .ensures)
-
-same-length-2 : tie.Need-same-length-2
-same-length-2 c = search needs
+returns c =
+    let at-put = c .before .before in
+    let at-x = at-put .before .before .before in
+    rw (at-x .x .given .1) (refl, at-put .put .ensures)
 
 returns-2 : tie.Need-returns-2
 unfolding placesAt
-returns-2 c = rw (c .before .before .before .before .before .x2 .given .1) (refl, c .before .before .put2 .ensures)
+returns-2 c =
+    let at-put2 = c .before .before in
+    let at-x2 = at-put2 .before .before .before in
+    rw (at-x2 .x2 .given .1) (refl, at-put2 .put2 .ensures)
 
 returns-3 : tie.Need-returns-3
 returns-3 c = rw (other-item _ _ (c .match .keys3) .0) (sym (add-zero _), sym (append-nil _))
@@ -50,15 +29,15 @@ pub enter-spec : {M : Type 1} → statement M
 enter-spec =
     tie.close
     (tie.spec
-    enum-known-x
-    cast-put
-    put-requires
-    add-result
-    enum-known-x-2
-    put-requires-2
-    add-result-2
-    same-length
+    (λ c. search needs)
+    (λ c. search needs)
+    (λ c κs. search needs)
+    (λ c. search needs)
+    (λ c. search needs)
+    (λ c κs. search needs)
+    (λ c. search needs)
+    (λ c. search needs)
     returns
-    same-length-2
+    (λ c. search needs)
     returns-2
     returns-3)

@@ -4,35 +4,25 @@ use borrow.Author.Needs.{needs}
 use Rattle.grammar.proofs.index.mark_at.Statement.{statement}
 use Rattle.grammar.proofs.index.mark_at.Tie as tie
 
-add-wide : tie.Need-add-wide
-add-wide c = search needs
-
-mul-wide : tie.Need-mul-wide
-mul-wide c = search needs
-
-shared-slice-read-wide : tie.Need-shared-slice-read-wide
-shared-slice-read-wide c = search needs
-
-wide-requires : tie.Need-wide-requires
-wide-requires c κs = search needs
-
 item-at-requires : tie.Need-item-at-requires
-item-at-requires c κs = place-inside _ _ (c .before .before .before .before .pre .0) _ (c .before .before .before .before .pre .1) _ (c .wide .ensures)
-
-mark-of-requires : tie.Need-mark-of-requires
-mark-of-requires c κs = search needs
+item-at-requires c κs =
+    let at-start = c .before .before .before .before in
+    place-inside _ _ (at-start .pre .0) _ (at-start .pre .1) _ (c .wide .ensures)
 
 returns : tie.Need-returns
-returns c = mark-read _ _ (c .before .before .before .before .before .before .pre .0) _ (c .before .before .before .before .before .before .pre .1) _ _ _ (c .before .before .wide .ensures) (c .before .item-at .ensures) (c .mark-of .ensures)
+returns c =
+    let at-wide = c .before .before in
+    let at-start = at-wide .before .before .before .before in
+    mark-read _ _ (at-start .pre .0) _ (at-start .pre .1) _ _ _ (at-wide .wide .ensures) (c .before .item-at .ensures) (c .mark-of .ensures)
 
 pub mark-at-spec : {M : Type 1} → statement M
 mark-at-spec =
     tie.close
     (tie.spec
-    add-wide
-    mul-wide
-    shared-slice-read-wide
-    wide-requires
+    (λ c. search needs)
+    (λ c. search needs)
+    (λ c. search needs)
+    (λ c κs. search needs)
     item-at-requires
-    mark-of-requires
+    (λ c κs. search needs)
     returns)

@@ -4,15 +4,6 @@ use borrow.Author.Needs.{needs}
 use Rattle.grammar.proofs.index.mark_of.Statement.{statement}
 use Rattle.grammar.proofs.index.mark_of.Tie as tie
 
-enum-known-x : tie.Need-enum-known-x
-enum-known-x c = search needs
-
-cast-t7 : tie.Need-cast-t7
-cast-t7 c = search needs
-
-enum-known-x-2 : tie.Need-enum-known-x-2
-enum-known-x-2 c = search needs
-
 returns : tie.Need-returns
 returns c = rw (c .before .x .given .1)
 
@@ -23,4 +14,4 @@ returns-3 : tie.Need-returns-3
 returns-3 c = other-item (c .before .args .x) (c .before .args .place) (c .match .keys3) .1
 
 pub mark-of-spec : {M : Type 1} → statement M
-mark-of-spec = tie.close (tie.spec enum-known-x cast-t7 enum-known-x-2 returns returns-2 returns-3)
+mark-of-spec = tie.close (tie.spec (λ c. search needs) (λ c. search needs) (λ c. search needs) returns returns-2 returns-3)

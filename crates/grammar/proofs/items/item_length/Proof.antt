@@ -9,14 +9,10 @@ use borrow.Author.Needs.{needs}
 use Rattle.grammar.proofs.items.item_length.Statement.{statement}
 use Rattle.grammar.proofs.items.item_length.Tie as tie
 
-shared-slice-read-body-length : tie.Need-shared-slice-read-body-length
-shared-slice-read-body-length c = search needs
-
-body-length-requires : tie.Need-body-length-requires
-body-length-requires c κs = search needs
-
 add-result : tie.Need-add-result
-add-result c = omega (arith, body-most (getD (c .before .before .before .args .g .now) (c .before .before .before .args .at) 0), c .body-length .ensures)
+add-result c =
+    let at-start = c .before .before .before in
+    omega (arith, body-most (getD (at-start .args .g .now) (at-start .args .at) 0), c .body-length .ensures)
 
 returns : tie.Need-returns
 unfolding lengthAt
@@ -24,4 +20,4 @@ returns c = ap (λ (n : ℕ). 1 + n) (c .body-length .ensures)
 
 pub item-length-spec : {M : Type 1} → statement M
 item-length-spec =
-    tie.close (tie.spec shared-slice-read-body-length body-length-requires add-result returns)
+    tie.close (tie.spec (λ c. search needs) (λ c κs. search needs) add-result returns)

@@ -15,35 +15,38 @@ Inv-loop g owners o₀ at₀ o at = Flattening g o at
 abbrev μ-loop : tie.MeasureT-loop
 μ-loop g owners o₀ at₀ o at = length g - at
 
-owners-of-requires : tie.Need-owners-of-requires Inv-loop μ-loop
-owners-of-requires c κs = search needs
-
 loop-holds : tie.Need-loop-holds Inv-loop μ-loop
-loop-holds c = flat-start (c .before .before .args .g .now)
-
-item-at-requires : tie.Need-item-at-requires Inv-loop μ-loop
-item-at-requires c κs = search needs
-
-flat-at-requires : tie.Need-flat-at-requires Inv-loop μ-loop
-flat-at-requires c κs = search needs
+loop-holds c = let at-start = c .before .before in flat-start (at-start .args .g .now)
 
 returns : tie.Need-returns Inv-loop μ-loop
-returns c = flat-stop (c .before .before .before .before .before .loop .inv) (c .before .before .before .before .loop-test .taken) _ (c .before .before .before .item-at .ensures) _ (c .before .flat-at .ensures _ (c .before .before .before .before .before .before .owners-of .ensures)) (not-true _ (c .if1 .taken))
-
-opened-by-requires : tie.Need-opened-by-requires Inv-loop μ-loop
-opened-by-requires c κs = search needs
-
-item-length-requires : tie.Need-item-length-requires Inv-loop μ-loop
-item-length-requires c κs = search needs
+returns c =
+    let at-item-at = c .before .before .before in
+    let at-loop-test = at-item-at .before in
+    let at-loop = at-loop-test .before in
+    let at-owners-of = at-loop .before in
+    flat-stop (at-loop .loop .inv) (at-loop-test .loop-test .taken) _ (at-item-at .item-at .ensures) _ (c .before .flat-at .ensures _ (at-owners-of .owners-of .ensures)) (not-true _ (c .if1 .taken))
 
 add-at : tie.Need-add-at Inv-loop μ-loop
-add-at c = omega (arith, c .item-length .ensures, length-most (c .before .before .before .before .before .before .before .before .before .before .args .g .now) (c .before .before .before .before .before .before .before .loop .at))
+add-at c =
+    let at-loop = c .before .before .before .before .before .before .before in
+    let at-start = at-loop .before .before .before in
+    omega (arith, c .item-length .ensures, length-most (at-start .args .g .now) (at-loop .loop .at))
 
 loop-less : tie.Need-loop-less Inv-loop μ-loop
-loop-less c = omega (arith, c .item-length .ensures, length-least (c .before .before .before .before .before .before .before .before .before .before .args .g .now) (c .before .before .before .before .before .before .before .loop .at))
+loop-less c =
+    let at-loop = c .before .before .before .before .before .before .before in
+    let at-start = at-loop .before .before .before in
+    omega (arith, c .item-length .ensures, length-least (at-start .args .g .now) (at-loop .loop .at))
 
 loop-again : tie.Need-loop-again Inv-loop μ-loop
-loop-again c = flat-turn (c .before .before .before .before .before .before .before .loop .inv) (c .before .before .before .before .before .before .loop-test .taken) _ (c .before .before .before .before .before .item-at .ensures) _ (c .before .before .before .flat-at .ensures _ (c .before .before .before .before .before .before .before .before .owners-of .ensures)) (not-false _ (c .before .before .if1 .left)) _ (c .before .opened-by .ensures) _ (c .item-length .ensures)
+loop-again c =
+    let at-if1 = c .before .before in
+    let at-flat-at = at-if1 .before in
+    let at-item-at = at-flat-at .before .before in
+    let at-loop-test = at-item-at .before in
+    let at-loop = at-loop-test .before in
+    let at-owners-of = at-loop .before in
+    flat-turn (at-loop .loop .inv) (at-loop-test .loop-test .taken) _ (at-item-at .item-at .ensures) _ (at-flat-at .flat-at .ensures _ (at-owners-of .owners-of .ensures)) (not-false _ (at-if1 .if1 .left)) _ (c .before .opened-by .ensures) _ (c .item-length .ensures)
 
 returns-2 : tie.Need-returns-2 Inv-loop μ-loop
 returns-2 c = flat-end (c .before .loop .inv) (c .loop-test .left)
@@ -54,13 +57,13 @@ all-flat-spec =
     (tie.spec
     Inv-loop
     μ-loop
-    owners-of-requires
+    (λ c κs. search needs)
     loop-holds
-    item-at-requires
-    flat-at-requires
+    (λ c κs. search needs)
+    (λ c κs. search needs)
     returns
-    opened-by-requires
-    item-length-requires
+    (λ c κs. search needs)
+    (λ c κs. search needs)
     add-at
     loop-less
     loop-again

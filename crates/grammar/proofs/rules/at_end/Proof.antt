@@ -5,24 +5,13 @@ use borrow.Author.Needs.{needs}
 use Rattle.grammar.proofs.rules.at_end.Statement.{statement}
 use Rattle.grammar.proofs.rules.at_end.Tie as tie
 
-enum-told : tie.Need-enum-told
-enum-told c = search needs
-
-enum-known-s : tie.Need-enum-known-s
-enum-known-s c = search needs
-
-row-end-requires : tie.Need-row-end-requires
-row-end-requires c κs = search needs
-
-enum-told-2 : tie.Need-enum-told-2
-enum-told-2 c = search needs
-
 returns : tie.Need-returns
 returns c b e = rw (is-start b (sym (c .enum-told .given .1) ∙ e))
 
 returns-2 : tie.Need-returns-2
 returns-2 c b e =
-    let t = is-row b (sym (c .before .before .s .given .1) ∙ e) in
+    let at-s = c .before .before in
+    let t = is-row b (sym (at-s .s .given .1) ∙ e) in
     rw (t .1, c .row-end .ensures (t .0) (t .2))
 
 returns-3 : tie.Need-returns-3
@@ -31,4 +20,4 @@ returns-3 c b e = rw (is-enumerant b (sym (c .enum-told2 .given .1) ∙ e))
 pub at-end-spec : {M : Type 1} → statement M
 at-end-spec =
     tie.close
-    (tie.spec enum-told enum-known-s row-end-requires enum-told-2 returns returns-2 returns-3)
+    (tie.spec (λ c. search needs) (λ c. search needs) (λ c κs. search needs) (λ c. search needs) returns returns-2 returns-3)

@@ -17,26 +17,25 @@ abbrev μ-loop : tie.MeasureT-loop
 loop-holds : tie.Need-loop-holds Inv-loop μ-loop
 loop-holds c = own-start (c .before .args .g .now)
 
-item-at-requires : tie.Need-item-at-requires Inv-loop μ-loop
-item-at-requires c κs = search needs
-
-mark-requires : tie.Need-mark-requires Inv-loop μ-loop
-mark-requires c κs = search needs
-
-opened-by-requires : tie.Need-opened-by-requires Inv-loop μ-loop
-opened-by-requires c κs = search needs
-
-item-length-requires : tie.Need-item-length-requires Inv-loop μ-loop
-item-length-requires c κs = search needs
-
 add-at : tie.Need-add-at Inv-loop μ-loop
-add-at c = omega (arith, c .item-length .ensures, length-most (c .before .before .before .before .before .before .before .before .args .g .now) (c .before .before .before .before .before .before .loop .at))
+add-at c =
+    let at-loop = c .before .before .before .before .before .before in
+    let at-start = at-loop .before .before in
+    omega (arith, c .item-length .ensures, length-most (at-start .args .g .now) (at-loop .loop .at))
 
 loop-less : tie.Need-loop-less Inv-loop μ-loop
-loop-less c = omega (arith, c .item-length .ensures, length-least (c .before .before .before .before .before .before .before .before .args .g .now) (c .before .before .before .before .before .before .loop .at))
+loop-less c =
+    let at-loop = c .before .before .before .before .before .before in
+    let at-start = at-loop .before .before in
+    omega (arith, c .item-length .ensures, length-least (at-start .args .g .now) (at-loop .loop .at))
 
 loop-again : tie.Need-loop-again Inv-loop μ-loop
-loop-again c = own-turn (c .before .before .before .before .before .before .loop .inv) (c .before .before .before .before .before .loop-test .taken) _ (c .before .before .before .before .item-at .ensures) _ (c .before .before .mark .ensures) _ (c .before .opened-by .ensures) _ (c .item-length .ensures)
+loop-again c =
+    let at-mark = c .before .before in
+    let at-item-at = at-mark .before .before in
+    let at-loop-test = at-item-at .before in
+    let at-loop = at-loop-test .before in
+    own-turn (at-loop .loop .inv) (at-loop-test .loop-test .taken) _ (at-item-at .item-at .ensures) _ (at-mark .mark .ensures) _ (c .before .opened-by .ensures) _ (c .item-length .ensures)
 
 returns : tie.Need-returns Inv-loop μ-loop
 returns c = own-end (c .before .loop .inv) (c .loop-test .left)
@@ -48,10 +47,10 @@ owners-of-spec =
     Inv-loop
     μ-loop
     loop-holds
-    item-at-requires
-    mark-requires
-    opened-by-requires
-    item-length-requires
+    (λ c κs. search needs)
+    (λ c κs. search needs)
+    (λ c κs. search needs)
+    (λ c κs. search needs)
     add-at
     loop-less
     loop-again

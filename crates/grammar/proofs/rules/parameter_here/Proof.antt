@@ -6,18 +6,6 @@ use borrow.Author.Needs.{needs}
 use Rattle.grammar.proofs.rules.parameter_here.Statement.{statement}
 use Rattle.grammar.proofs.rules.parameter_here.Tie as tie
 
-enum-told : tie.Need-enum-told
-enum-told c = search needs
-
-enum-told-2 : tie.Need-enum-told-2
-enum-told-2 c = search needs
-
-enum-known-s : tie.Need-enum-known-s
-enum-known-s c = search needs
-
-parameter-rule-requires : tie.Need-parameter-rule-requires
-parameter-rule-requires c κs = search needs
-
 returns : tie.Need-returns
 unfolding rule
 returns c b e = rw (is-start b (sym (c .enum-told .given .1) ∙ e))
@@ -30,16 +18,16 @@ returns-2 c b e =
 
 returns-3 : tie.Need-returns-3
 unfolding rule
-returns-3 c b e = rw (is-enumerant b (sym (c .before .before .s .given .1) ∙ e), c .parameter-rule .ensures)
+returns-3 c b e = let at-s = c .before .before in rw (is-enumerant b (sym (at-s .s .given .1) ∙ e), c .parameter-rule .ensures)
 
 pub parameter-here-spec : {M : Type 1} → statement M
 parameter-here-spec =
     tie.close
     (tie.spec
-    enum-told
-    enum-told-2
-    enum-known-s
-    parameter-rule-requires
+    (λ c. search needs)
+    (λ c. search needs)
+    (λ c. search needs)
+    (λ c κs. search needs)
     returns
     returns-2
     returns-3)

@@ -12,7 +12,9 @@ returns c before e = rw e (simp (eq-eqb _ _ (c .before .if1 .taken), count-lengt
 
 returns-2 : tie.Need-returns-2
 unfolding passedOf
-returns-2 c before e = rw e (simp (ne-eqb _ _ (c .before .before .if1 .left), eq-eqb _ _ (c .before .if2 .taken), count-length 2 (lit< tt)))
+returns-2 c before e =
+    let at-if1 = c .before .before in
+    rw e (simp (ne-eqb _ _ (at-if1 .if1 .left), eq-eqb _ _ (c .before .if2 .taken), count-length 2 (lit< tt)))
 
 returns-3 : tie.Need-returns-3
 returns-3 c before e = simp (ne-eqb _ _ (c .before .if1 .left), ne-eqb _ _ (c .if2 .left))

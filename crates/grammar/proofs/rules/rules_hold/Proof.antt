@@ -18,35 +18,36 @@ abbrev μ-loop : tie.MeasureT-loop
 loop-holds : tie.Need-loop-holds Inv-loop μ-loop
 loop-holds c = hold-start (c .before .args .g .now)
 
-item-at-requires : tie.Need-item-at-requires Inv-loop μ-loop
-item-at-requires c κs = search needs
-
-rule-at-requires : tie.Need-rule-at-requires Inv-loop μ-loop
-rule-at-requires c κs = search needs
-
 returns : tie.Need-returns Inv-loop μ-loop
-returns c = hold-stop (c .before .before .before .before .loop .inv) (c .before .before .before .loop-test .taken) _ (c .before .before .item-at .ensures) _ (c .before .rule-at .ensures) (not-true _ (c .if1 .taken))
-
-next-of-requires : tie.Need-next-of-requires Inv-loop μ-loop
-next-of-requires c κs = search needs
-
-item-length-requires : tie.Need-item-length-requires Inv-loop μ-loop
-item-length-requires c κs = search needs
+returns c =
+    let at-item-at = c .before .before in
+    let at-loop-test = at-item-at .before in
+    let at-loop = at-loop-test .before in
+    hold-stop (at-loop .loop .inv) (at-loop-test .loop-test .taken) _ (at-item-at .item-at .ensures) _ (c .before .rule-at .ensures) (not-true _ (c .if1 .taken))
 
 add-at : tie.Need-add-at Inv-loop μ-loop
-add-at c = omega (arith, c .item-length .ensures, length-most (c .before .before .before .before .before .before .before .before .args .g .now) (c .before .before .before .before .before .before .loop .at))
+add-at c =
+    let at-loop = c .before .before .before .before .before .before in
+    let at-start = at-loop .before .before in
+    omega (arith, c .item-length .ensures, length-most (at-start .args .g .now) (at-loop .loop .at))
 
 loop-less : tie.Need-loop-less Inv-loop μ-loop
-loop-less c = omega (arith, c .item-length .ensures, length-least (c .before .before .before .before .before .before .before .before .args .g .now) (c .before .before .before .before .before .before .loop .at))
+loop-less c =
+    let at-loop = c .before .before .before .before .before .before in
+    let at-start = at-loop .before .before in
+    omega (arith, c .item-length .ensures, length-least (at-start .args .g .now) (at-loop .loop .at))
 
 loop-again : tie.Need-loop-again Inv-loop μ-loop
-loop-again c = hold-turn (c .before .before .before .before .before .before .loop .inv) (c .before .before .before .before .before .loop-test .taken) _ (c .before .before .before .before .item-at .ensures) _ (c .before .before .before .rule-at .ensures) (not-false _ (c .before .before .if1 .left)) _ (c .before .next-of .ensures) _ (c .item-length .ensures)
-
-at-end-requires : tie.Need-at-end-requires Inv-loop μ-loop
-at-end-requires c κs = search needs
+loop-again c =
+    let at-if1 = c .before .before in
+    let at-rule-at = at-if1 .before in
+    let at-item-at = at-rule-at .before in
+    let at-loop-test = at-item-at .before in
+    let at-loop = at-loop-test .before in
+    hold-turn (at-loop .loop .inv) (at-loop-test .loop-test .taken) _ (at-item-at .item-at .ensures) _ (at-rule-at .rule-at .ensures) (not-false _ (at-if1 .if1 .left)) _ (c .before .next-of .ensures) _ (c .item-length .ensures)
 
 returns-2 : tie.Need-returns-2 Inv-loop μ-loop
-returns-2 c = hold-end (c .before .before .loop .inv) (c .before .loop-test .left) _ (c .at-end .ensures)
+returns-2 c = let at-loop = c .before .before in hold-end (at-loop .loop .inv) (c .before .loop-test .left) _ (c .at-end .ensures)
 
 pub rules-hold-spec : {M : Type 1} → statement M
 rules-hold-spec =
@@ -55,13 +56,13 @@ rules-hold-spec =
     Inv-loop
     μ-loop
     loop-holds
-    item-at-requires
-    rule-at-requires
+    (λ c κs. search needs)
+    (λ c κs. search needs)
     returns
-    next-of-requires
-    item-length-requires
+    (λ c κs. search needs)
+    (λ c κs. search needs)
     add-at
     loop-less
     loop-again
-    at-end-requires
+    (λ c κs. search needs)
     returns-2)

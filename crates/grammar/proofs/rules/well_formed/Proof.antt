@@ -9,15 +9,11 @@ returns : tie.Need-returns
 unfolding wellFormed wellFormedItems
 returns c = simp (lt-leb _ _ (c .if1 .taken))
 
-rules-hold-requires : tie.Need-rules-hold-requires
-rules-hold-requires c κs = search needs
-
-all-flat-requires : tie.Need-all-flat-requires
-all-flat-requires c κs = search needs
-
 returns-2 : tie.Need-returns-2
 unfolding wellFormed wellFormedItems
-returns-2 c = simp (c .before .rules-hold .ensures, c .all-flat .ensures, le-leb _ _ (c .before .before .if1 .left))
+returns-2 c =
+    let at-if1 = c .before .before in
+    simp (c .before .rules-hold .ensures, c .all-flat .ensures, le-leb _ _ (at-if1 .if1 .left))
 
 pub well-formed-spec : {M : Type 1} → statement M
-well-formed-spec = tie.close (tie.spec returns rules-hold-requires all-flat-requires returns-2)
+well-formed-spec = tie.close (tie.spec returns (λ c κs. search needs) (λ c κs. search needs) returns-2)

@@ -11,8 +11,8 @@ parse-inner-spec =
     tie.close
     (tie.spec
     (λ c κs. search needs)
-    (λ c. accept _ _ _ _ _ _ _ _ _ _ _ _ (alone-result _ _ _ _ _ (c .before .is-result .ensures) (c .if1 .taken)) (held-nothing _ _ _) (c .before .before .before .before .before .before .before .pre .1 .0) (went-nowhere _))
-    (λ c κs. (c .before .before .before .before .before .before .before .before .before .pre .0, (c .before .before .before .before .before .before .before .before .before .pre .1 .0, inner-untyped _ _ (c .before .before .before .is-result .ensures) (c .before .before .if1 .left) (c .before .before .before .before .before .before .before .before .before .pre .1 .1))))
+    (λ c. let at-start = c .before .before .before .before .before .before .before in accept _ _ _ _ _ _ _ _ _ _ _ _ (alone-result _ _ _ _ _ (c .before .is-result .ensures) (c .if1 .taken)) (held-nothing _ _ _) (at-start .pre .1 .0) (went-nowhere _))
+    (λ c κs. let at-if1 = c .before .before in let at-is-result = at-if1 .before in let at-start = at-is-result .before .before .before .before .before .before in (at-start .pre .0, (at-start .pre .1 .0, inner-untyped _ _ (at-is-result .is-result .ensures) (at-if1 .if1 .left) (at-start .pre .1 .1))))
     (λ c. search needs)
     (λ c. search needs)
-    (λ c. less-read _ _ _ _ _ _ _ _ _ _ _ (alone-operand _ _ _ _ _ (c .before .before .before .before .before .before .before .before .is-result .ensures) (c .before .before .before .before .before .before .before .if1 .left)) (c .before .before .before .before .parse-operand .ensures)))
+    (λ c. let at-parse-operand = c .before .before .before .before in let at-if1 = at-parse-operand .before .before .before in let at-is-result = at-if1 .before in less-read _ _ _ _ _ _ _ _ _ _ _ (alone-operand _ _ _ _ _ (at-is-result .is-result .ensures) (at-if1 .if1 .left)) (at-parse-operand .parse-operand .ensures)))

@@ -13,10 +13,29 @@ use Rattle.parser.proofs.embedded.parse_spec_constant_op.Statement.{sta
 use Rattle.parser.proofs.embedded.parse_spec_constant_op.Tie as tie
 
 parse-once-requires : tie.Need-parse-once-requires
-parse-once-requires c κs = let h = (sym (c .before .before .before .before .before .before .before .before .before .before .before .before .before .w2 .given .1) ∙ c .before .before .before .before .before .before .before .before .before .before .before .before .before .before .before .word .ensures) in let t = row-told _ _ _ _ (c .before .before .before .before .before .before .before .before .before .before .before .find-row .ensures .0) (c .before .before .before .before .before .before .before .before .before .found .given .1) in (c .before .before .before .before .before .before .before .before .before .before .before .before .before .before .before .before .before .before .before .before .before .pre .0, (few-pushed _ _ _ _ _ _ _ _ (c .before .before .before .before .before .before .before .before .before .before .before .before .before .before .before .before .before .before .before .before .before .pre .1) (step-word _ _ _ _ h) (omega arith) (c .before .before .before .before .push .ensures .0), place-told _ _ _ (c .before .before .before .before .before .before .before .before .before .before .before .find-row .ensures .1) (c .before .before .before .before .before .before .before .before .before .found .given .1), row-operands _ _ (c .before .before .before .before .before .before .before .before .before .before .before .before .before .before .before .before .before .before .before .before .before .pre .0) _ _ t, sym (c .before .before .before .before .before .before .before .may-embed .ensures) ∙ not-false _ (c .before .before .before .before .before .before .if1 .left)))
+parse-once-requires c κs =
+    let at-push = c .before .before .before .before in
+    let at-if1 = at-push .before .before in
+    let at-may-embed = at-if1 .before in
+    let at-found = at-may-embed .before .before in
+    let at-find-row = at-found .before .before in
+    let at-w2 = at-find-row .before .before in
+    let at-word = at-w2 .before .before in
+    let at-start = at-word .before .before .before .before .before .before in
+    let h = (sym (at-w2 .w2 .given .1) ∙ at-word .word .ensures) in let t = row-told _ _ _ _ (at-find-row .find-row .ensures .0) (at-found .found .given .1) in (at-start .pre .0, (few-pushed _ _ _ _ _ _ _ _ (at-start .pre .1) (step-word _ _ _ _ h) (omega arith) (at-push .push .ensures .0), place-told _ _ _ (at-find-row .find-row .ensures .1) (at-found .found .given .1), row-operands _ _ (at-start .pre .0) _ _ t, sym (at-may-embed .may-embed .ensures) ∙ not-false _ (at-if1 .if1 .left)))
 
 returns-4 : tie.Need-returns-4
-returns-4 c = let h = (sym (c .before .before .before .before .before .before .before .before .before .before .before .before .before .before .before .before .before .before .w2 .given .1) ∙ c .before .before .before .before .before .before .before .before .before .before .before .before .before .before .before .before .before .before .before .before .word .ensures) in seq (held-narrow _ _ _ _ _ _ _ embedded-narrow (c .before .before .before .before .before .before .before .before .before .push .ensures .0) (c .before .before .before .before .before .before .before .before .before .push .ensures .1)) _ _ _ _ _ _ (step-went _ _ _ _ (step-word _ _ _ _ h) _ (c .before .before .before .before .before .before .before .before .before .before .before .before .before .before .before .before .before .before .before .before .before .before .before .before .before .before .pre .1 .limited)) (embedded-row _ _ _ _ _ h _ (c .before .before .before .before .before .before .before .before .before .before .before .before .before .before .before .before .find-row .ensures .0) _ (c .before .before .before .before .before .before .before .before .before .before .before .before .before .before .found .given .1) _ (c .before .before .before .before .before .before .before .before .before .before .before .before .may-embed .ensures) (c .before .before .before .before .before .before .before .before .before .before .before .if1 .left)) _ (c .before .before .before .before .parse-once .ensures)
+returns-4 c =
+    let at-parse-once = c .before .before .before .before in
+    let at-push = at-parse-once .before .before .before .before .before in
+    let at-if1 = at-push .before .before in
+    let at-may-embed = at-if1 .before in
+    let at-found = at-may-embed .before .before in
+    let at-find-row = at-found .before .before in
+    let at-w2 = at-find-row .before .before in
+    let at-word = at-w2 .before .before in
+    let at-start = at-word .before .before .before .before .before .before in
+    let h = (sym (at-w2 .w2 .given .1) ∙ at-word .word .ensures) in seq (held-narrow _ _ _ _ _ _ _ embedded-narrow (at-push .push .ensures .0) (at-push .push .ensures .1)) _ _ _ _ _ _ (step-went _ _ _ _ (step-word _ _ _ _ h) _ (at-start .pre .1 .limited)) (embedded-row _ _ _ _ _ h _ (at-find-row .find-row .ensures .0) _ (at-found .found .given .1) _ (at-may-embed .may-embed .ensures) (at-if1 .if1 .left)) _ (at-parse-once .parse-once .ensures)
 
 pub parse-spec-constant-op-spec : {M : Type 1} → statement M
 parse-spec-constant-op-spec =
@@ -30,14 +49,14 @@ parse-spec-constant-op-spec =
     (λ c. search needs)
     (λ c. search needs)
     (λ c κs. search needs)
-    (λ c. deny _ _ _ _ _ _ _ _ _ _ _ _ (c .refused .ensures) (embedded-none _ _ _ _ _ (sym (c .before .before .before .before .before .w2 .given .1) ∙ c .before .before .before .before .before .before .before .word .ensures) _ (c .before .before .before .find-row .ensures .0) (c .before .enum-told .given .1)))
-    (λ c κs. (indexed-short _ _ (c .before .before .before .before .before .before .before .before .before .before .before .before .before .pre .0), place-told _ _ _ (c .before .before .before .find-row .ensures .1) (c .before .found .given .1)))
+    (λ c. let at-find-row = c .before .before .before in let at-w2 = at-find-row .before .before in let at-word = at-w2 .before .before in deny _ _ _ _ _ _ _ _ _ _ _ _ (c .refused .ensures) (embedded-none _ _ _ _ _ (sym (at-w2 .w2 .given .1) ∙ at-word .word .ensures) _ (at-find-row .find-row .ensures .0) (c .before .enum-told .given .1)))
+    (λ c κs. let at-find-row = c .before .before .before in let at-start = at-find-row .before .before .before .before .before .before .before .before .before .before in (indexed-short _ _ (at-start .pre .0), place-told _ _ _ (at-find-row .find-row .ensures .1) (c .before .found .given .1)))
     (λ c κs. search needs)
-    (λ c. deny _ _ _ _ _ _ _ _ _ _ _ _ (c .refused2 .ensures) (embedded-barred _ _ _ _ _ (sym (c .before .before .before .before .before .before .before .before .w2 .given .1) ∙ c .before .before .before .before .before .before .before .before .before .before .word .ensures) _ (c .before .before .before .before .before .before .find-row .ensures .0) _ (c .before .before .before .before .found .given .1) _ (c .before .before .may-embed .ensures) (c .before .if1 .taken)))
+    (λ c. let at-may-embed = c .before .before in let at-found = at-may-embed .before .before in let at-find-row = at-found .before .before in let at-w2 = at-find-row .before .before in let at-word = at-w2 .before .before in deny _ _ _ _ _ _ _ _ _ _ _ _ (c .refused2 .ensures) (embedded-barred _ _ _ _ _ (sym (at-w2 .w2 .given .1) ∙ at-word .word .ensures) _ (at-find-row .find-row .ensures .0) _ (at-found .found .given .1) _ (at-may-embed .may-embed .ensures) (c .before .if1 .taken)))
     (λ c. search needs)
-    (λ c κs. may-push (c .before .before .before .before .before .before .before .before .before .before .before .before .before .before .before .before .pre .1) (number-fits _))
+    (λ c κs. let at-start = c .before .before .before .before .before .before .before .before .before .before .before .before .before .before .before .before in may-push (at-start .pre .1) (number-fits _))
     parse-once-requires
-    (λ c. deny _ _ _ _ _ _ _ _ _ _ _ _ refl (embedded-bad _ _ _ _ _ (sym (c .before .w .given .1) ∙ c .before .before .before .word .ensures)))
+    (λ c. let at-word = c .before .before .before in deny _ _ _ _ _ _ _ _ _ _ _ _ refl (embedded-bad _ _ _ _ _ (sym (c .before .w .given .1) ∙ at-word .word .ensures)))
     (λ c. search needs)
     (λ c. search needs)
     returns-4)

@@ -19,4 +19,4 @@ finished-spec =
     (λ c κs. search needs)
     returns
     (λ c κs. search needs)
-    (λ c. ended-left _ _ _ _ _ (c .before .before .limit-reached .ensures) (c .before .if1 .left) (c .no-inst .ensures)))
+    (λ c. let at-limit-reached = c .before .before in ended-left _ _ _ _ _ (at-limit-reached .limit-reached .ensures) (c .before .if1 .left) (c .no-inst .ensures)))

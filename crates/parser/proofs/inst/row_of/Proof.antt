@@ -12,5 +12,5 @@ row-of-spec =
     (λ c. search needs)
     (λ c. search needs)
     (λ c κs. search needs)
-    (λ c. row-guessed _ _ _ _ (c .before .before .before .guess-row .ensures .0) (c .before .before .before .guess-row .ensures .1) (c .before .guess .given .1))
+    (λ c. let at-guess-row = c .before .before .before in row-guessed _ _ _ _ (at-guess-row .guess-row .ensures .0) (at-guess-row .guess-row .ensures .1) (c .before .guess .given .1))
     (λ c. search needs))

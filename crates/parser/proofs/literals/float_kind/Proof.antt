@@ -8,5 +8,5 @@ float-kind-spec =
     tie.close
     (tie.spec
     (λ c. float-one (c .before .args .width) (c .if1 .taken))
-    (λ c. float-two (c .before .before .args .width) (c .before .if1 .left) (c .if2 .taken))
-    (λ c. float-none (c .before .before .args .width) (c .before .if1 .left) (c .if2 .left)))
+    (λ c. let at-start = c .before .before in float-two (at-start .args .width) (c .before .if1 .left) (c .if2 .taken))
+    (λ c. let at-start = c .before .before in float-none (at-start .args .width) (c .before .if1 .left) (c .if2 .left)))

@@ -8,5 +8,5 @@ integer-kind-spec =
     tie.close
     (tie.spec
     (λ c. integer-one (c .before .args .width) (c .if1 .taken))
-    (λ c. integer-two (c .before .before .args .width) (c .before .if1 .left) (c .if2 .taken))
-    (λ c. integer-none (c .before .before .args .width) (c .before .if1 .left) (c .if2 .left)))
+    (λ c. let at-start = c .before .before in integer-two (at-start .args .width) (c .before .if1 .left) (c .if2 .taken))
+    (λ c. let at-start = c .before .before in integer-none (at-start .args .width) (c .before .if1 .left) (c .if2 .left)))

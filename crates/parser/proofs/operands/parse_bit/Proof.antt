@@ -9,8 +9,8 @@ pub parse-bit-spec : {M : Type 1} → statement M
 parse-bit-spec =
     tie.close
     (tie.spec
-    (λ c. nothing _ _ _ _ _ _ _ (c .before .before .before .before .before .before .pre .1) (set-none _ _ _ _ (c .if1 .taken)))
-    (λ c κs. (c .before .before .before .before .before .before .before .before .pre .0, c .before .before .before .before .before .before .before .before .pre .1))
+    (λ c. let at-start = c .before .before .before .before .before .before in nothing _ _ _ _ _ _ _ (at-start .pre .1) (set-none _ _ _ _ (c .if1 .taken)))
+    (λ c κs. let at-start = c .before .before .before .before .before .before .before .before in (at-start .pre .0, at-start .pre .1))
     (λ c. search needs)
     (λ c. search needs)
-    (λ c. same-read _ _ _ _ _ _ _ _ _ _ _ (same-each _ _ _ _ (set-listed _ _ _ _ (c .before .before .before .before .before .before .before .if1 .left))) (c .before .before .before .before .parse-listed .ensures)))
+    (λ c. let at-parse-listed = c .before .before .before .before in let at-if1 = at-parse-listed .before .before .before in same-read _ _ _ _ _ _ _ _ _ _ _ (same-each _ _ _ _ (set-listed _ _ _ _ (at-if1 .if1 .left))) (at-parse-listed .parse-listed .ensures)))

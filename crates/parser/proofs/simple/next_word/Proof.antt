@@ -12,4 +12,4 @@ next-word-spec =
     (λ c κs. search needs)
     (λ c. search needs)
     (λ c. search needs)
-    (λ c. next-there _ _ (c .before .before .before .pre .1) _ _ (c .word-at .ensures) (c .before .words-left .ensures)))
+    (λ c. let at-start = c .before .before .before in next-there _ _ (at-start .pre .1) _ _ (c .word-at .ensures) (c .before .words-left .ensures)))

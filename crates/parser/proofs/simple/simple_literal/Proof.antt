@@ -13,7 +13,7 @@ pub simple-literal-spec : {M : Type 1} → statement M
 simple-literal-spec =
     tie.close
     (tie.spec
-    (λ c κs. ((c .before .before .before .before .pre .0, tested-word _ (c .before .if1 .taken)), c .before .before .before .before .pre .1))
+    (λ c κs. let at-start = c .before .before .before .before in ((at-start .pre .0, tested-word _ (c .before .if1 .taken)), at-start .pre .1))
     (λ c. search needs)
-    (λ c. λ t. take-so _ _ (λ v. same-read _ _ _ _ _ _ _ _ _ _ v (literal-one _ _ _ (grammarOf []) (tested-word _ (c .before .before .before .before .if1 .taken)))) _ (c .before .before .simple-word .ensures _ _))
+    (λ c. let at-simple-word = c .before .before in let at-if1 = at-simple-word .before .before in λ t. take-so _ _ (λ v. same-read _ _ _ _ _ _ _ _ _ _ v (literal-one _ _ _ (grammarOf []) (tested-word _ (at-if1 .if1 .taken)))) _ (at-simple-word .simple-word .ensures _ _))
     (λ c. λ t. pass _))

@@ -13,6 +13,6 @@ simple-word-spec =
     (tie.spec
     (λ c κs. search needs)
     (λ c. search needs)
-    (λ c κs. may-push (c .before .before .before .before .before .before .pre .0 .0) (narrow-fits _ _ (word-narrow _ (c .before .before .before .before .before .before .pre .0 .1)) (omega arith)))
+    (λ c κs. let at-start = c .before .before .before .before .before .before in may-push (at-start .pre .0 .0) (narrow-fits _ _ (word-narrow _ (at-start .pre .0 .1)) (omega arith)))
     (λ c. search needs)
-    (λ c. λ g t. take _ _ _ (word-parsed _ _ _ _ _ _ _ _ _ _ _ (c .before .before .before .before .before .before .before .before .before .pre .0 .0) (c .before .before .before .before .before .before .before .before .before .pre .0 .1) (c .before .before .before .before .before .before .next-word .ensures) (c .before .before .push .ensures .0) (c .before .before .push .ensures .1))))
+    (λ c. let at-push = c .before .before in let at-next-word = at-push .before .before .before .before in let at-start = at-next-word .before .before .before in λ g t. take _ _ _ (word-parsed _ _ _ _ _ _ _ _ _ _ _ (at-start .pre .0 .0) (at-start .pre .0 .1) (at-next-word .next-word .ensures) (at-push .push .ensures .0) (at-push .push .ensures .1))))

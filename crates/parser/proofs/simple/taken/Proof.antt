@@ -14,4 +14,4 @@ taken-spec =
     (λ c. search needs)
     (λ c. search needs)
     (λ c. pass _)
-    (λ c. take-good _ _ _ _ (c .before .before .before .before .r .given .1) (c .before .limit .given .1)))
+    (λ c. let at-r = c .before .before .before .before in take-good _ _ _ _ (at-r .r .given .1) (c .before .limit .given .1)))

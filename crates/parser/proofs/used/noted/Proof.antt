@@ -9,6 +9,6 @@ noted-spec =
     tie.close
     (tie.spec
     (λ c. search needs)
-    (λ c. note-first _ _ _ _ (c .before .before .before .pre .1) (c .before .before .before .pre .2) (c .if1 .taken))
-    (λ c. note-second _ _ _ _ (c .before .before .before .before .before .pre .1) (c .before .before .before .before .before .pre .2) (c .if2 .taken))
-    (λ c. note-later _ _ _ _ (c .before .before .before .before .before .pre .1) (c .before .before .before .before .before .pre .2) (c .before .before .if1 .left) (c .if2 .left)))
+    (λ c. let at-start = c .before .before .before in note-first _ _ _ _ (at-start .pre .1) (at-start .pre .2) (c .if1 .taken))
+    (λ c. let at-start = c .before .before .before .before .before in note-second _ _ _ _ (at-start .pre .1) (at-start .pre .2) (c .if2 .taken))
+    (λ c. let at-if1 = c .before .before in let at-start = at-if1 .before .before .before in note-later _ _ _ _ (at-start .pre .1) (at-start .pre .2) (at-if1 .if1 .left) (c .if2 .left)))

@@ -17,11 +17,11 @@ cast-t3 c =
 
 returns-2 : tie.Need-returns-2
 unfolding idIs
-returns-2 c = selector-there _ (c .before .before .before .if1 .left) (c .before .if2 .taken)
+returns-2 c = let at-if1 = c .before .before .before in selector-there _ (at-if1 .if1 .left) (c .before .if2 .taken)
 
 returns-3 : tie.Need-returns-3
 unfolding idIs
-returns-3 c = selector-absent _ (c .before .before .if1 .left) (c .if2 .left)
+returns-3 c = let at-if1 = c .before .before in selector-absent _ (at-if1 .if1 .left) (c .if2 .left)
 
 pub selector-of-spec : {M : Type 1} → statement M
 selector-of-spec =

@@ -12,4 +12,4 @@ track-value-spec =
     (λ c. search needs)
     (λ c. λ i. value-absent _ (c .enum-told .given .1) i _)
     (λ c κs. search needs)
-    (λ c. value-known _ _ _ (c .resolve .ensures) _ (c .before .before .rtype .given .1)))
+    (λ c. let at-rtype = c .before .before in value-known _ _ _ (c .resolve .ensures) _ (at-rtype .rtype .given .1)))

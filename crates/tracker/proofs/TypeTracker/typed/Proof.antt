@@ -10,6 +10,6 @@ typed-spec =
     (tie.spec
     (λ c κs. search needs)
     (λ c κs. search needs)
-    (λ c. result-type _ _ _ (c .before .before .before .before .is-type .ensures) _ (c .before .before .before .if1 .taken) (λ i. c .track-type .ensures i _))
+    (λ c. let at-if1 = c .before .before .before in let at-is-type = at-if1 .before in result-type _ _ _ (at-is-type .is-type .ensures) _ (at-if1 .if1 .taken) (λ i. c .track-type .ensures i _))
     (λ c κs. search needs)
-    (λ c. result-value _ _ _ (c .before .before .is-type .ensures) _ (c .before .if1 .left) (c .track-value .ensures)))
+    (λ c. let at-is-type = c .before .before in result-value _ _ _ (at-is-type .is-type .ensures) _ (c .before .if1 .left) (c .track-value .ensures)))
