@@ -24,19 +24,21 @@ use Rattle.spec.specs.Load.{Book, counts, roomFault, usedAfter, stop, loadFrom}
 use Rattle.demands.proofs.Lists.{has-leb}
 use Rattle.demands.proofs.Stores.{operands-log-length}
 use Rattle.tracker.specs.Entries.{entriesOf}
-use Rattle.tracker.specs.Track.{idIs, literalOf}
+use Rattle.tracker.specs.Track.{idIs, toldOf, toldWith}
 use Rattle.tracker.proofs.Laws.{length-entries}
-use Rattle.tracker.proofs.Growth.{track-grows}
+use Rattle.tracker.proofs.Growth.{told-grows}
 use Rattle.tracker.proofs.Instruction.{track-as}
 use Rattle.parser.specs.declared.inst.Decoded.{Decoded}
 use Rattle.parser.specs.declared.inst.InstRead.{InstRead}
 use Rattle.parser.specs.declared.inst.InstRead.the-variants as inst
+use Rattle.parser.specs.declared.used.Used.{Used}
 use Rattle.parser.specs.Inst.{Decodes, DecodesOver, RowIs}
+use Rattle.parser.specs.Fresh.{unused}
 use Rattle.loader.specs.declared.parts.Progress.{Progress}
 use Rattle.loader.specs.declared.parts.Taken.{Taken}
 use Rattle.loader.specs.declared.step.Judged.{Judged}
 use Rattle.loader.specs.declared.step.Judged.the-variants.{Got, Refused}
-use Rattle.loader.specs.Steps.{usedBy, readAt, Moderate, Fair, tracked, needOf, fieldsBy, Shown, Shows, taken, judgedBy, judged}
+use Rattle.loader.specs.Steps.{usedBy, readAt, Moderate, Fair, toldBy, tracked, needOf, fieldsBy, Shown, Shows, taken, judgedBy, judged}
 
 -- an instruction with its tag
 abbrev pub placedAs : Instr → ℕ → Placed
@@ -45,27 +47,35 @@ placedAs i tag = record { instr = i; tag = tag }
 -- DECODED
 
 -- what the parser tells
-pub shows : (s g types scratch spare : List ℕ) (p : Progress) (v : InstRead)
-    → DecodesOver s (p .at) (readAt s g types p) scratch spare 0 0 (p .strings) v
+pub shows : (s g types scratch spare : List ℕ) (p : Progress) (u : Used) → u ≡ unused 0 0 (p .strings) → (v : InstRead)
+    → DecodesOver s (p .at) (readAt s g types p) scratch spare u v
     → RowIs g (entriesOf (p .types) types) s (p .at) (readAt s g types p) v → Shows s g types scratch spare p v
 unfolding Decodes RowIs Shows
-shows s g types scratch spare p (inst.Got d) h b = record { scratch₀ = h .log₀; spare₀ = h .strs₀; handed = h .decodes; row = b }
-shows s g types scratch spare p (inst.Refused y) h b = h .decodes
+shows s g types scratch spare p u e (inst.Got d) h b =
+    record { scratch₀ = h .log₀; spare₀ = h .strs₀; handed = rw e at (h .decodes); row = b }
+shows s g types scratch spare p u e (inst.Refused y) h b = h .decodes
 
 module _ {s g types scratch spare : List ℕ} {p : Progress} {d : Decoded} (shown : Shown s g types scratch spare p d) where
   -- its records' length
   pub log-size : d .log ≡ length (operandsLog (p .strings) (shown .handed .instr .operands))
+  unfolding unused
   log-size =
       let h = shown .handed in
       omega (arith, h .nlog, operands-log-length (p .strings + 0) (p .strings) (h .instr .operands))
 
   -- its strings' length
   pub strings-size : d .strings ≡ length (operandsStrings (shown .handed .instr .operands))
+  unfolding unused
   strings-size = omega (arith, shown .handed .nstrings)
+
+  -- its strings are no longer than what was read
+  pub strings-few : p .strings + d .strings ≤ p .at + 4 * d .words
+  unfolding unused
+  strings-few = omega (arith, shown .handed .few-strings)
 
   -- the entries after it are those after the instruction
   pub tracked-is : (es : List Entry) → tracked d es ≡ track (shown .handed .instr) es
-  unfolding tracked
+  unfolding tracked toldOf toldWith
   tracked-is es =
       let h = shown .handed in
       rw (← h .opcode, ← h .rtype, ← h .rid) (track-as (h .instr) (d .operands) _ _ es (h .operands) (h .literals))
@@ -92,6 +102,7 @@ module _ {s g types scratch spare : List ℕ} {p : Progress} {d : Decoded} (show
 
   -- it has no more than a module
   pub moderate : length s ≤ 67108864 → Moderate d
+  unfolding unused
   moderate short =
       let h = shown .handed in
       record {
@@ -148,7 +159,7 @@ module _ (room : Counts) (p : Progress) (d : Decoded) where
   unfolding needOf roomFault tracked
   room-spare l n e k =
       let es = entriesOf (p .types) l in
-      let grown = track-grows (d .opcode) (idIs (d .rtype)) (idIs (d .rid)) (d .operands) (literalOf (d .first)) (literalOf (d .second)) es in
+      let grown = told-grows (toldBy d) es in
       rw (
         le-ltb (room .types) n (omega (arith, e, k)),
         le-ltb (room .types) (length (tracked d es)) (omega (arith, grown .most, length-entries (p .types) l)),

@@ -23,9 +23,10 @@ use Rattle.tracker.specs.Hints.{Hinted}
 use Rattle.parser.specs.declared.inst.Decoded.{Decoded}
 use Rattle.parser.specs.declared.inst.InstRead.{InstRead}
 use Rattle.parser.specs.declared.inst.InstRead.the-variants.{Got, Refused}
-use Rattle.parser.specs.Parse.{slotsAt}
+use Rattle.parser.specs.declared.used.Used.{Used}
 use Rattle.parser.specs.Body.{bodyRead}
-use Rattle.parser.specs.Inst.{Decodes}
+use Rattle.parser.specs.Inst.{Decodes, frameOf}
+use Rattle.parser.specs.Fresh.{unused}
 use Rattle.loader.specs.declared.parts.Progress.{Progress}
 use Rattle.loader.specs.declared.parts.Taken.{Taken}
 use Rattle.loader.specs.Steps.{readAt, tracked, needOf, fieldsBy, Shown, Stored, Recorded}
@@ -59,7 +60,7 @@ module _ {s g types scratch spare : List ℕ} {p : Progress} {d : Decoded} (h : 
   -- where records and strings are short, they are in scratch and spare
   pub from-scratch : d .log ≤ length scratch → d .strings ≤ length spare → (l₀ s₀ l₁ s₁ : List ℕ)
       → l₁ ≡ sets l₀ (p .log) (take (d .log) scratch) → s₁ ≡ sets s₀ (p .strings) (take (d .strings) spare) → Stored s g types l₀ s₀ l₁ s₁ p
-  unfolding Stored
+  unfolding Stored unused
   from-scratch kl ks l₀ s₀ l₁ s₁ ql qs i r f =
       let j = same-read (readAt s g types p) (h .handed .instr) i _ r (h .handed .read) f in
       let os = h .handed .instr .operands in
@@ -74,10 +75,11 @@ module _ {s g types scratch spare : List ℕ} {p : Progress} {d : Decoded} (h : 
 
   -- else they are read again
   pub from-module : (l₀ s₀ l₁ s₁ : List ℕ) → p .log + d .log ≤ length l₀ → p .strings + d .strings ≤ length s₀ → (v : InstRead)
-      → Decodes s (p .at) (bodyRead (grammarOf g) (entriesOf (p .types) types) (p .at) (d .words) (d .opcode) (slotsAt g (d .place)) (readerAt s (p .at + 4) Unlimited)) l₀ s₀ l₁ s₁ (p .log) (p .strings) 0 v
-      → Stored s g types l₀ s₀ l₁ s₁ p
-  unfolding Stored Decodes
-  from-module l₀ s₀ l₁ s₁ fl fs (Got c) k i r f =
+      → (u : Used) → u ≡ unused (p .log) (p .strings) 0
+      → Decodes s (p .at) (bodyRead g (entriesOf (p .types) types) s (frameOf (p .at) d)) l₀ s₀ l₁ s₁ u v → Stored s g types l₀ s₀ l₁ s₁ p
+  unfolding Stored Decodes unused
+  from-module l₀ s₀ l₁ s₁ fl fs (Got c) u e told i r f =
+      let k = rw e at told in
       let j = same-read (readAt s g types p) (h .handed .instr) i _ r (h .handed .read) f in
       let o = same-read (readAt s g types p) i (k .instr) r _ f (h .row .body ∙ k .read) in
       let laid = subst (λ (n : ℕ). Laid l₀ (p .log) (operandsLog n (k .instr .operands)) l₁) (zero-add (p .strings)) (k .log-laid) in (
@@ -86,7 +88,7 @@ module _ {s g types scratch spare : List ℕ} {p : Progress} {d : Decoded} (h : 
         k .strings-laid .there (omega (arith, fs, strings-size h, ap (λ (y : Instr). length (operandsStrings (y .operands))) (o ∙ j)))
             ∙ ap (λ (y : Instr). sets s₀ (p .strings) (operandsStrings (y .operands))) o,
       )
-  from-module l₀ s₀ l₁ s₁ fl fs (Refused y) k i r f =
+  from-module l₀ s₀ l₁ s₁ fl fs (Refused y) u e k i r f =
       let w : readAt s g types p ≡ refused y (k .rest) = h .row .body ∙ k .read in
       let z : _≡_ {A = ℕ} 0 1 = cc in
       absurd (omega arith)

@@ -33,7 +33,7 @@ use Rattle.loader.specs.declared.parts.Progress.{Progress}
 use Rattle.loader.specs.declared.parts.Taken.{Taken}
 use Rattle.loader.specs.Steps.{usedBy, saidAt, Bounded, Typed, tracked, needOf, Stored, Recorded}
 use Rattle.loader.specs.Loading.{LoadsFrom}
-use Rattle.loader.proofs.Judging.{placedAs, bookOf, word-left, Admitted, Stops, log-size, strings-size, tracked-is, need-is, fields-are, placed-is}
+use Rattle.loader.proofs.Judging.{placedAs, bookOf, word-left, Admitted, Stops, log-size, strings-few, strings-size, tracked-is, need-is, fields-are, placed-is}
 use Rattle.loader.proofs.Keeping.{log-short}
 use Rattle.loader.proofs.Growing.{records-more, grow, entries-next, types-next}
 
@@ -268,7 +268,7 @@ module _ {s g : List ℕ} {room : Counts} {before now : Stores} {h₀ hs : List 
                   short = omega (arith, k .at, h .inside, here .short);
                   few = omega (arith, here .bounded .few, k .at, h .moves, one);
                   few-log = omega (arith, here .bounded .few-log, short-log, log-size (a .shown), h .words, k .at, logged);
-                  few-strings = omega (arith, h .few-strings, k .at, strung);
+                  few-strings = omega (arith, strings-few (a .shown), k .at, strung);
                 };
             room-is = here .room-is;
             ninstructions = length-append ks (pl ∷ []) ∙ omega (arith, here .ninstructions, one);

@@ -21,11 +21,13 @@ use Rattle.spec.specs.Match.{readInstr}
 use Rattle.spec.specs.Load.{counts, roomFault}
 use Rattle.tracker.specs.Entries.{entriesOf, stored}
 use Rattle.tracker.specs.Hints.{Hinted}
-use Rattle.tracker.specs.Track.{idIs, literalOf, trackOf, FirstFit}
+use Rattle.tracker.specs.declared.Told.{Told}
+use Rattle.tracker.specs.Track.{idIs, toldOf, FirstFit}
 use Rattle.parser.specs.declared.inst.Decoded.{Decoded}
 use Rattle.parser.specs.declared.inst.InstRead.{InstRead}
 use Rattle.parser.specs.declared.inst.InstRead.the-variants as inst
 use Rattle.parser.specs.Inst.{Handed, Declined, ByRow}
+use Rattle.parser.specs.Fresh.{unused}
 use Rattle.loader.specs.declared.parts.Progress.{Progress}
 use Rattle.loader.specs.declared.parts.Taken.{Taken}
 use Rattle.loader.specs.declared.parts.Ended.{Ended}
@@ -80,9 +82,21 @@ unfoldable pub Fair : InstRead → Type 0
 Fair (inst.Got d) = Moderate d
 Fair (inst.Refused y) = Unit
 
+-- what type tracking is told of it
+abbrev pub toldBy : Decoded → Told
+toldBy d =
+    record {
+      opcode = d .opcode;
+      rtype = d .rtype;
+      rid = d .rid;
+      operands = d .operands;
+      first = d .first;
+      second = d .second;
+    }
+
 -- the entries after it
 unfoldable pub tracked : Decoded → List Entry → List Entry
-tracked d es = trackOf (d .opcode) (idIs (d .rtype)) (idIs (d .rid)) (d .operands) (literalOf (d .first)) (literalOf (d .second)) es
+tracked d es = toldOf (toldBy d) es
 
 -- what is taken with it
 unfoldable pub needOf : Progress → Decoded → List Entry → Counts
@@ -106,7 +120,7 @@ fieldsBy p d tag =
 pub record Shown (s g types scratch spare : List ℕ) (p : Progress) (d : Decoded) : Type 0 where
   pub scratch₀ : List ℕ
   pub spare₀ : List ℕ
-  pub handed : Handed s (p .at) (readAt s g types p) scratch₀ spare₀ scratch spare 0 0 (p .strings) d
+  pub handed : Handed s (p .at) (readAt s g types p) scratch₀ spare₀ scratch spare (unused 0 0 (p .strings)) d
   pub row : ByRow g (entriesOf (p .types) types) s (p .at) (readAt s g types p) d
 
 -- by what was read

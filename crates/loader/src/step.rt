@@ -13,15 +13,18 @@ use crate::parts::Progress;
 use crate::parts::Taken;
 use crate::parts::fields_of;
 use parser::Decoded;
+use parser::Frame;
 use parser::InstRead;
 use parser::parse_body;
 use parser::parse_inst;
+use parser::unused;
 use records::RECORD;
 use room::room_fault;
 use spec::Cell;
 use spec::Counts;
 use spec::Refusal;
 use spec::refusals;
+use tracker::Told;
 use tracker::TypeTracker;
 
 // What becomes of an instruction before anything is kept: it goes in, or is refused.
@@ -54,20 +57,8 @@ pub fn decode(
         count: p.types,
         greatest: p.greatest,
     };
-    parse_inst(
-        s,
-        at,
-        g,
-        index,
-        types,
-        hints,
-        tracker,
-        scratch,
-        0,
-        spare,
-        0,
-        base,
-    )
+    let used = unused(0, 0, base);
+    parse_inst(s, at, g, index, types, hints, tracker, scratch, spare, used)
 }
 
 // LAYOUT, THEN ROOM
@@ -88,16 +79,15 @@ fn need_after(types: &[u32], hints: &[u16], room: Counts, p: Progress, d: Decode
         let rid = d.rid;
         let first = d.first;
         let second = d.second;
-        entries = tracker.after(
-            types,
-            hints,
-            d.opcode,
+        let told = Told {
+            opcode: d.opcode,
             rtype,
             rid,
-            d.operands,
+            operands: d.operands,
             first,
             second,
-        );
+        };
+        entries = tracker.after(types, hints, told);
     }
     Counts {
         instructions: p.instructions + 1,
@@ -200,22 +190,24 @@ pub fn keep_operands(
         count: p.types,
         greatest: p.greatest,
     };
+    let frame = Frame {
+        at,
+        words: d.words,
+        opcode: d.opcode,
+        place: d.place,
+    };
+    let used = unused(log_to, strings_to, 0);
     parse_body(
         s,
-        at,
         g,
         index,
         types,
         hints,
         tracker,
-        d.words,
-        d.opcode,
-        d.place,
+        frame,
         log,
-        log_to,
         strings,
-        strings_to,
-        0,
+        used,
     );
 }
 
@@ -244,16 +236,15 @@ pub fn keep_record(
     let rid = d.rid;
     let first = d.first;
     let second = d.second;
-    let tracked = tracker.track(
-        types,
-        hints,
-        d.opcode,
+    let told = Told {
+        opcode: d.opcode,
         rtype,
         rid,
-        d.operands,
+        operands: d.operands,
         first,
         second,
-    );
+    };
+    let tracked = tracker.track(types, hints, told);
     let state = t.state;
     Progress {
         at: p.at + 4 * (d.words as usize),

@@ -8,7 +8,7 @@ use lib.Dec.{eqb}
 use Rattle.spec.specs.Base.{implies, within}
 use Rattle.spec.specs.Kinds.{isEnum, isResult, mayBeOperand, mayBeParameter, mayEmbed, isLogged, isLong, isText}
 use Rattle.spec.proofs.Choice.{left, right, both, asked, other, cases, in-range}
-use Rattle.spec.proofs.Range.{below, below-at}
+use Rattle.spec.proofs.Range.{all, below-at}
 use Rattle.operand.specs.Parts.{isTwo, Fits}
 use Rattle.parser.specs.Parse.{isSingle, isWord, isUntyped, isInner, isLiteral}
 
@@ -63,7 +63,7 @@ literal-small k e =
 -- COMPUTED
 
 -- where a test of every kind asks another, so it does of each
-each : (P Q : ℕ → Bool) (k : ℕ) → below (λ j. implies (P j) (Q j)) 52 ≡ true → k < 52 → P k ≡ true → Q k ≡ true
+each : (P Q : ℕ → Bool) (k : ℕ) → all (λ j. implies (P j) (Q j)) 0 52 ≡ true → k < 52 → P k ≡ true → Q k ≡ true
 each P Q k e h p = asked (P k) (Q k) (below-at (λ j. implies (P j) (Q j)) 52 k e h) p
 
 -- a kind of the log whose operand is one word

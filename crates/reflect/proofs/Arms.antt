@@ -1,7 +1,7 @@
 -- A match on a number: some arms name numbers, their keys; what is left goes by tests, which leave a range.
 use Prim.Native.Nat.{ℕ, _-_, _<_, _≤_}
-use mathlib.Core.Path.{_≡_, refl}
-use mathlib.Core.Bool.{Bool, false, _||_}
+use mathlib.Core.Path.{_≡_, refl, sym, subst}
+use mathlib.Core.Bool.{Bool, true, false, _||_}
 use mathlib.Core.List.{List, [], _∷_}
 use mathlib.Core.Logic.{⊎-elim}
 use native.Mathlib.Omega.{arith}
@@ -11,7 +11,7 @@ use mir.Facts.{and-yes, or-yes}
 use mir.Val.{hasKey}
 use types.Run.{OneOf, hit}
 use Rattle.spec.specs.Base.{isIn, every}
-use Rattle.reflect.proofs.Range.{all, in-range}
+use Rattle.spec.proofs.Range.{all, each}
 
 -- the number is none of the arms' keys, the last arm first
 abbrev pub NoneOf : List (List ℕ) → ℕ → Type 0
@@ -39,10 +39,10 @@ clear arms a b l = every (λ y. ltb y a || (leb b y || among arms y)) l
 
 module _ (arms : List (List ℕ)) {a b x : ℕ} (none : NoneOf arms x) (low : a ≤ x) (high : x < b) where
   -- a number that is left passes a test that the range passes
-  pub passed : (f : ℕ → Bool) → T (pass arms a b f) → T (f x)
-  passed f t =
+  pub passed : (f : ℕ → Bool) → pass arms a b f ≡ true → T (f x)
+  passed f e =
       ⊎-elim (λ h. absurd (not-among arms x none h)) (λ h. h)
-      (or-yes (among arms x) (f x) (in-range (λ y. among arms y || f y) a b t x low high))
+      (or-yes (among arms x) (f x) (subst T (sym (each (λ y. among arms y || f y) a (b - a) e x low (omega arith))) tt))
 
   -- it lies in the range, and is no key
   not-here : T (ltb x a || (leb b x || among arms x)) → ⊥

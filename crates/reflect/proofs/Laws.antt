@@ -35,8 +35,8 @@ allClear arms a b ls = every (λ l. clear arms a b (l .opcodes)) ls
 
 module _ (arms : List (List ℕ)) {a b x : ℕ} (none : NoneOf arms x) (low : a ≤ x) (high : x < b) where
   -- an opcode of a range whose opcodes, but for the keys, are all of one kind
-  pub run-kind : {k : ℕ} → T (pass arms a b (λ y. eqb k (opcodeKind y))) → k ≡ opcodeKind x
-  run-kind {k} t = eqb→eq k (opcodeKind x) (passed arms none low high (λ y. eqb k (opcodeKind y)) t)
+  pub run-kind : {k : ℕ} → pass arms a b (λ y. eqb k (opcodeKind y)) ≡ true → k ≡ opcodeKind x
+  run-kind {k} e = eqb→eq k (opcodeKind x) (passed arms none low high (λ y. eqb k (opcodeKind y)) e)
 
   -- an opcode that no line has is of the kind after them
   past : (n : ℕ) (ls : List Line) → T (allClear arms a b ls) → kindFrom x n ls ≡ n + length ls

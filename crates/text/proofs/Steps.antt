@@ -16,7 +16,7 @@ use Rattle.text.specs.declared.Step.the-variants.{Bad, More}
 use Rattle.text.specs.Steps.{dueOf, stepTo, firstOf, stepOf}
 use Rattle.text.proofs.Laws.{rest}
 use Rattle.spec.proofs.Choice.{left, right}
-use Rattle.spec.proofs.Range.{below, below-at}
+use Rattle.spec.proofs.Range.{all, each}
 
 -- THE FIRST BYTE: each range of the code by the table, computed
 
@@ -53,11 +53,9 @@ abbrev pub gives : Step → ℕ → Bool
 gives x b = same x (stepTo (leadOf b utf8Table))
 
 -- an answer that is the table's at each first byte from a to before e is so at one of them
-pub row : (x : Step) (a e : ℕ) → below (λ k. gives x (a + k)) (e - a) ≡ true → (b : ℕ) → a ≤ b → b < e → x ≡ firstOf b
+pub row : (x : Step) (a e : ℕ) → all (gives x) a (e - a) ≡ true → (b : ℕ) → a ≤ b → b < e → x ≡ firstOf b
 unfolding firstOf
-row x a e t b h g =
-    let q : a + (b - a) ≡ b = omega arith in
-    same-eq x (firstOf b) (rw q at (below-at (λ k. gives x (a + k)) (e - a) (b - a) t (omega arith)))
+row x a e t b h g = same-eq x (firstOf b) (each (gives x) a (e - a) t b h (omega arith))
 
 -- A STEP
 

@@ -13,7 +13,8 @@ returns c =
 
 fill-index-requires : tie.Need-fill-index-requires
 fill-index-requires c κs =
-    (sym (c .before .before .well-formed .ensures) ∙ not-false _ (c .before .if1 .left), search needs)
+    let at-well-formed = c .before .before in
+    (sym (at-well-formed .well-formed .ensures) ∙ not-false _ (c .before .if1 .left), search needs)
 
 returns-2 : tie.Need-returns-2
 returns-2 c =

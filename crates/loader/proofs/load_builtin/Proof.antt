@@ -24,7 +24,7 @@ load-builtin-spec =
     (λ c κs. search needs)
     (λ c. search needs)
     (λ c. search needs)
-    (λ c κs. builtin-indexed _ _ (c .before .before .before .before .before .before .before .before .table .ensures) (c .before .before .before .before .before .before .before .prepared .ensures))
+    (λ c κs. let at-prepared = c .before .before .before .before .before .before .before in let at-table = at-prepared .before in builtin-indexed _ _ (at-table .table .ensures) (at-prepared .prepared .ensures))
     (λ c. search needs)
     (λ c. search needs)
     (λ c. search needs)
@@ -32,7 +32,7 @@ load-builtin-spec =
     returns
     (λ c. search needs)
     (λ c. search needs)
-    (λ c κs. builtin-indexed _ _ (c .before .before .before .before .before .before .before .before .table .ensures) (c .before .before .before .before .before .before .before .prepared .ensures))
+    (λ c κs. let at-prepared = c .before .before .before .before .before .before .before in let at-table = at-prepared .before in builtin-indexed _ _ (at-table .table .ensures) (at-prepared .prepared .ensures))
     (λ c. search needs)
     (λ c. search needs)
     (λ c. search needs)

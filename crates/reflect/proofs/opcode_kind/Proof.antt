@@ -1,6 +1,7 @@
 -- `reflect::opcode_kind` meets its contract. A number that has an arm of its own is of that arm's kind by computing; what is left lies in a
 -- range, and one test, computed over the range or over the lists of opcodes, gives its kind.
 -- Assumes nothing.
+use mathlib.Core.Path.{refl}
 use Prim.Native.Nat.{ℕ}
 use mathlib.Core.List.{List, [], _∷_}
 use mathlib.Core.Logic.{⊎-elim}
@@ -34,9 +35,9 @@ opcode-kind-spec =
     (λ c. kind-of (c .match .keys13))
     (λ c. kind-of (c .match .keys14))
     (λ c. kind-of (c .match .keys16))
-    (λ c. let at-match = c .before .before .before .before in run-kind own (at-match .match .rest) (c .before .if3 .left) (c .if4 .taken) tt)
-    (λ c. let at-match = c .before .before .before in run-kind own (at-match .match .rest) (c .before .if10 .left) (c .if11 .taken) tt)
-    (λ c. let at-match = c .before .before .before .before .before .before .before .before .before in run-kind own (at-match .match .rest) (c .before .if16 .left) (c .if17 .taken) tt)
+    (λ c. let at-match = c .before .before .before .before in run-kind own (at-match .match .rest) (c .before .if3 .left) (c .if4 .taken) refl)
+    (λ c. let at-match = c .before .before .before in run-kind own (at-match .match .rest) (c .before .if10 .left) (c .if11 .taken) refl)
+    (λ c. let at-match = c .before .before .before .before .before .before .before .before .before in run-kind own (at-match .match .rest) (c .before .if16 .left) (c .if17 .taken) refl)
     (λ c. let at-match = c .before .before in other-kind own {a = 0} (at-match .match .rest) (omega arith) (c .if2 .taken) tt)
     (λ c. let at-match = c .before .before .before .before .before in other-kind own (at-match .match .rest) (c .before .if4 .left) (c .if5 .taken) tt)
     (λ c. let at-match = c .before .before .before .before .before .before .before in other-kind own (at-match .match .rest) (c .before .if6 .left) (c .if7 .taken) tt)
@@ -47,11 +48,11 @@ opcode-kind-spec =
     (λ c. let at-match = c .before .before .before .before .before .before .before .before in other-kind own (at-match .match .rest) (c .before .if15 .left) (c .if16 .taken) tt)
     (λ c. let at-match = c .before .before .before .before .before .before .before .before .before in other-kind own {b = 65536} (at-match .match .rest) (c .if17 .left) (omega arith) tt)
     (λ c. kind-of (c .match .keys15))
-    (λ c. let at-match = c .before .before .before .before .before in run-kind own (at-match .match .rest) (c .before .if12 .left) (c .if13 .taken) tt)
-    (λ c. let at-match = c .before .before .before .before .before .before .before in run-kind own (at-match .match .rest) (c .before .if14 .left) (c .if15 .taken) tt)
+    (λ c. let at-match = c .before .before .before .before .before in run-kind own (at-match .match .rest) (c .before .if12 .left) (c .if13 .taken) refl)
+    (λ c. let at-match = c .before .before .before .before .before .before .before in run-kind own (at-match .match .rest) (c .before .if14 .left) (c .if15 .taken) refl)
     (λ c. ⊎-elim kind-of kind-of (c .match .keys9))
-    (λ c. let at-match = c .before .before .before .before .before .before in run-kind own (at-match .match .rest) (c .before .if5 .left) (c .if6 .taken) tt)
-    (λ c. let at-match = c .before .before .before .before .before .before .before .before in run-kind own (at-match .match .rest) (c .before .if7 .left) (c .if8 .taken) tt)
-    (λ c. let at-if1 = c .before .before .before .before .before .before .before .before in let at-match = at-if1 .before in run-kind own (at-match .match .rest) (c .if9 .left) (at-if1 .if1 .taken) tt)
+    (λ c. let at-match = c .before .before .before .before .before .before in run-kind own (at-match .match .rest) (c .before .if5 .left) (c .if6 .taken) refl)
+    (λ c. let at-match = c .before .before .before .before .before .before .before .before in run-kind own (at-match .match .rest) (c .before .if7 .left) (c .if8 .taken) refl)
+    (λ c. let at-if1 = c .before .before .before .before .before .before .before .before in let at-match = at-if1 .before in run-kind own (at-match .match .rest) (c .if9 .left) (at-if1 .if1 .taken) refl)
     (λ c. kind-of (c .match .keys7))
-    (λ c. let at-match = c .before .before .before in run-kind own (at-match .match .rest) (c .before .if2 .left) (c .if3 .taken) tt))
+    (λ c. let at-match = c .before .before .before in run-kind own (at-match .match .rest) (c .before .if2 .left) (c .if3 .taken) refl))

@@ -18,4 +18,4 @@ fields-of-spec =
     (λ c. search needs)
     (λ c. search needs)
     (λ c. search needs)
-    (λ c. fields-by _ _ _ _ _ _ (c .before .before .before .before .before .before .before .presence-of .ensures .0) (c .before .before .before .before .before .before .id-word .ensures) (c .before .before .before .before .before .id-word2 .ensures)))
+    (λ c. let at-id-word2 = c .before .before .before .before .before in let at-id-word = at-id-word2 .before in let at-presence-of = at-id-word .before in fields-by _ _ _ _ _ _ (at-presence-of .presence-of .ensures .0) (at-id-word .id-word .ensures) (at-id-word2 .id-word2 .ensures)))

@@ -21,9 +21,10 @@ abbrev μ-loop : tie.MeasureT-loop
 
 decode-requires : tie.Need-decode-requires Inv-loop μ-loop
 decode-requires c κs =
+    let at-if1 = c .before .before .before .before in
     let turn = c .before .before .before .before .before .before in
     let running = turn .loop .inv .0 in
-    (turn .before .before .before .before .before .before .before .before .before .before .pre .0, ((running .short, omega (arith, running .inside, c .before .before .before .before .if1 .taken)), (running .bounded, running .typed)))
+    (turn .before .before .before .before .before .before .before .before .before .before .pre .0, ((running .short, omega (arith, running .inside, at-if1 .if1 .taken)), (running .bounded, running .typed)))
 
 admit-requires : tie.Need-admit-requires Inv-loop μ-loop
 admit-requires c κs =
@@ -66,6 +67,7 @@ keep-record-requires c κs =
 
 loop-less : tie.Need-loop-less Inv-loop μ-loop
 loop-less c =
+    let at-keep-record = c .before .before .before .before .before .before in
     let taken = c .before .before .before .before .before .before .before .before .before .before .before .before .before .before .before .before .before .before .before .before .before .before in
     let judged = taken .before .before in
     let decoded = judged .before .before .before .before .before in
@@ -73,7 +75,7 @@ loop-less c =
     let running = turn .loop .inv .0 in
     let word = decoded .before .before .before .before .before .if1 .taken in
     let goes-in = verdict _ _ _ _ _ _ _ _ (decoded .decode .ensures) _ (judged .admit .ensures) _ (taken .verdict2 .given .1) in
-    fewer running goes-in word (c .before .before .before .before .before .before .keep-record .ensures)
+    fewer running goes-in word (at-keep-record .keep-record .ensures)
 
 loop-again : tie.Need-loop-again Inv-loop μ-loop
 loop-again c =
@@ -98,28 +100,28 @@ load-from-spec =
     (λ c κs. search needs)
     (λ c. let asked = c .before .before .before .before .before .before .before .before .before .pre in (start _ _ _ _ _ (c .room-in .ensures) (asked .1 .0 .0) (asked .1 .0 .1), (search needs, search needs)))
     (λ c. c .before .loop .inv .0 .inside)
-    (λ c. sym (c .before .before .before .before .before .loop .inv .1 .0))
-    (λ c. sym (c .before .before .before .before .before .before .loop .inv .1 .1))
+    (λ c. let at-loop = c .before .before .before .before .before in sym (at-loop .loop .inv .1 .0))
+    (λ c. let at-loop = c .before .before .before .before .before .before in sym (at-loop .loop .inv .1 .1))
     decode-requires
     admit-requires
     (λ c. search needs)
-    (λ c. same-instructions (c .before .before .before .before .before .before .before .before .before .before .before .before .before .before .before .loop .inv .0))
-    (λ c. same-log (c .before .before .before .before .before .before .before .before .before .before .before .before .before .before .before .loop .inv .0))
-    (λ c. same-strings (c .before .before .before .before .before .before .before .before .before .before .before .before .before .before .before .loop .inv .0))
-    (λ c. same-types (c .before .before .before .before .before .before .before .before .before .before .before .before .before .before .before .loop .inv .0))
-    (λ c. c .before .before .before .before .before .before .before .before .before .before .before .before .before .before .before .loop .inv .0 .same-hints)
+    (λ c. let at-loop = c .before .before .before .before .before .before .before .before .before .before .before .before .before .before .before in same-instructions (at-loop .loop .inv .0))
+    (λ c. let at-loop = c .before .before .before .before .before .before .before .before .before .before .before .before .before .before .before in same-log (at-loop .loop .inv .0))
+    (λ c. let at-loop = c .before .before .before .before .before .before .before .before .before .before .before .before .before .before .before in same-strings (at-loop .loop .inv .0))
+    (λ c. let at-loop = c .before .before .before .before .before .before .before .before .before .before .before .before .before .before .before in same-types (at-loop .loop .inv .0))
+    (λ c. let at-loop = c .before .before .before .before .before .before .before .before .before .before .before .before .before .before .before in at-loop .loop .inv .0 .same-hints)
     returns
     (λ c. search needs)
-    (λ c. sym (c .before .before .before .before .before .before .before .before .before .before .before .before .scratch2 .given))
-    (λ c. sym (c .before .before .before .before .before .before .before .before .before .before .before .before .spare2 .given))
+    (λ c. let at-scratch2 = c .before .before .before .before .before .before .before .before .before .before .before .before in sym (at-scratch2 .scratch2 .given))
+    (λ c. let at-spare2 = c .before .before .before .before .before .before .before .before .before .before .before .before in sym (at-spare2 .spare2 .given))
     keep-operands-requires
     keep-record-requires
     loop-less
     loop-again
     (λ c κs. search needs)
-    (λ c. same-instructions (c .before .before .before .loop .inv .0))
-    (λ c. same-log (c .before .before .before .loop .inv .0))
-    (λ c. same-strings (c .before .before .before .loop .inv .0))
-    (λ c. same-types (c .before .before .before .loop .inv .0))
-    (λ c. c .before .before .before .loop .inv .0 .same-hints)
-    (λ c. (ends (c .before .before .before .loop .inv .0) (c .before .if1 .left) _ (c .end-number .ensures), few-kept (c .before .before .before .loop .inv .0))))
+    (λ c. let at-loop = c .before .before .before in same-instructions (at-loop .loop .inv .0))
+    (λ c. let at-loop = c .before .before .before in same-log (at-loop .loop .inv .0))
+    (λ c. let at-loop = c .before .before .before in same-strings (at-loop .loop .inv .0))
+    (λ c. let at-loop = c .before .before .before in same-types (at-loop .loop .inv .0))
+    (λ c. let at-loop = c .before .before .before in at-loop .loop .inv .0 .same-hints)
+    (λ c. let at-loop = c .before .before .before in (ends (at-loop .loop .inv .0) (c .before .if1 .left) _ (c .end-number .ensures), few-kept (at-loop .loop .inv .0))))

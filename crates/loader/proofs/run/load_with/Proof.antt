@@ -26,9 +26,9 @@ load-with-spec =
     (λ c. with-long _ _ (c .before .if1 .taken) _ _ (c .no-instruction .ensures))
     (λ c κs. search needs)
     (λ c κs. search needs)
-    (λ c. with-headless _ _ (c .before .before .before .before .before .if1 .left) _ (c .before .before .before .before .header .ensures) (c .before .if2 .taken) _ _ (c .no-instruction2 .ensures))
+    (λ c. let at-header = c .before .before .before .before in let at-if1 = at-header .before in with-headless _ _ (at-if1 .if1 .left) _ (at-header .header .ensures) (c .before .if2 .taken) _ _ (c .no-instruction2 .ensures))
     load-from-requires
-    (λ c κs. c .before .before .before .before .before .before .before .before .before .before .load-from .ensures .1)
+    (λ c κs. let at-load-from = c .before .before .before .before .before .before .before .before .before .before in at-load-from .load-from .ensures .1)
     (λ c. search needs)
     (λ c. search needs)
     (λ c. search needs)

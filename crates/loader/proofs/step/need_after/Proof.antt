@@ -11,7 +11,8 @@ use Rattle.loader.proofs.step.need_after.Tie as tie
 returns : tie.Need-returns
 unfolding tracked
 returns c =
-    ⊎-elim (λ w. room-by _ _ _ _ _ (w .4 ∙ w .3 .ensures)) (λ w. room-spare _ _ _ _ _ (w .1) (w .0 .left)) (c .before .before .before .before .before .if1 .came)
+    let at-if1 = c .before .before .before .before .before in
+    ⊎-elim (λ w. room-by _ _ _ _ _ (w .4 ∙ w .3 .ensures)) (λ w. room-spare _ _ _ _ _ (w .1) (w .0 .left)) (at-if1 .if1 .came)
 
 pub need-after-spec : {M : Type 1} → statement M
 need-after-spec =
