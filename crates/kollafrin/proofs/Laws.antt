@@ -10,6 +10,7 @@ use Rattle.spec.specs.declared.Written.{Written}
 use Rattle.spec.specs.Load.{Stores, laidOver, roomIn, Small}
 use Rattle.spec.specs.Write.{Writing}
 use Rattle.loader.specs.Loading.{loading, Loads}
+use Rattle.assemble.specs.Writes.{Writes}
 use Rattle.demands.proofs.Bounds.{load-small}
 use Rattle.kollafrin.specs.Answers.{loadAnswer, LoadAnswers, writeAnswer, WriteAnswers, laidIn}
 
@@ -29,9 +30,10 @@ loaded-said said loads =
 
 -- of a writer
 pub written-said : {w : Writing} {out answer : List ℕ} {r : ℕ} {x : Written} → (r ≡ x .number) × (answer ≡ writeAnswer x)
-    → (x ≡ w .said) × (out ≡ w .output) → WriteAnswers w out answer r
-written-said said is =
-    record { number = said .0 ∙ ap (λ (z : Written). z .number) (is .0); words = said .1 ∙ ap writeAnswer (is .0); output = is .1 }
+    → Writes w out x → WriteAnswers w out answer r
+written-said said writes =
+    let is = writes .said in
+    record { number = said .0 ∙ ap (λ (z : Written). z .number) is; words = said .1 ∙ ap writeAnswer is; output = writes .output }
 
 -- of the table
 pub table-put : {n : ℕ} (l : List ℕ) {out t bs : List ℕ} → (n ≡ length t) × (out ≡ laidIn l t) → t ≡ bs

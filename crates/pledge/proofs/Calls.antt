@@ -21,6 +21,7 @@ use Rattle.loader.proofs.load as load-fn
 use Rattle.loader.proofs.load_builtin as load-builtin-fn
 use Rattle.assemble.proofs.write_parse_order as write-parse-fn
 use Rattle.assemble.proofs.write_module_order as write-module-fn
+use Rattle.assemble.specs.Writes as writer
 use Rattle.round_trip.proofs.round_trip as round-trip-fn
 use Rattle.kollafrin.proofs.kollafrin_load as door-load-fn
 use Rattle.kollafrin.proofs.kollafrin_load_builtin as door-load-builtin-fn
@@ -163,9 +164,8 @@ pub record Write : Type 0 where
   pub after : List ℕ
 
 -- it is as the definition of its order says: the answer; and the output
-pub record Writes (order : List ℕ → Given → List ℕ → Writing) (w : Write) : Type 0 where
-  pub said : w .answer ≡ order (w .header) (w .records) (w .before) .said
-  pub output : w .after ≡ order (w .header) (w .records) (w .before) .output
+abbrev pub Writes : (List ℕ → Given → List ℕ → Writing) → Write → Type 0
+Writes order w = writer.Writes (order (w .header) (w .records) (w .before)) (w .after) (w .answer)
 
 -- calls of `write_parse_order` and `write_module_order`, which take and answer alike
 abbrev pub WriteCall : Out _ write-parse-fn.Kinds.ps write-parse-fn.Kinds.r → Type 0

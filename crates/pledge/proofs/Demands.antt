@@ -86,7 +86,7 @@ loads (by-door-builtin c) = door-load-builtin-loads c
 
 -- `write_parse_order` answers, and leaves in the output, what the definition says of writing the records in the order read
 pub write-parse-writes : (c : WriteParseCall) → Writes writeParse (write-seen c)
-write-parse-writes c = record { said = c .told .0; output = c .told .1 }
+write-parse-writes c = c .told
 
 pub write-parse-met : {M : Type 1} → write-parse-contract.statement M
 write-parse-met = write-parse-proof.met
@@ -105,7 +105,7 @@ parse-writes (by-door-parse c) = door-write-parse-writes c
 
 -- `write_module_order` does the same for module order
 pub write-module-writes : (c : WriteModuleCall) → Writes writeModule (write-seen c)
-write-module-writes c = record { said = c .told .0; output = c .told .1 }
+write-module-writes c = c .told
 
 pub write-module-met : {M : Type 1} → write-module-contract.statement M
 write-module-met = write-module-proof.met
@@ -177,7 +177,7 @@ unfolding writeParse
 write-parse-refused c not-0 =
     let w : Write = parse-seen c in
     parse-writes c .output
-    ∙ refused-by (check false (w .records)) (parseBytes (w .header)) (w .before)
+    ∙ refused-by (check recordSize false (w .records)) (parseBytes (w .header)) (w .before)
     (λ z. not-0 (ap (λ (a : Written). a .number) (parse-writes c .said) ∙ z))
 
 pub write-module-refused : (c : ModuleWriting) → (module-seen c .answer .number ≡ 0 → ⊥)
@@ -186,7 +186,7 @@ unfolding writeModule
 write-module-refused c not-0 =
     let w : Write = module-seen c in
     module-writes c .output
-    ∙ refused-by (check true (w .records)) (moduleBytes (w .header)) (w .before)
+    ∙ refused-by (check recordSize true (w .records)) (moduleBytes (w .header)) (w .before)
     (λ z. not-0 (ap (λ (a : Written). a .number) (module-writes c .said) ∙ z))
 
 -- DEMAND 3

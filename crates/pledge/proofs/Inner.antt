@@ -28,6 +28,7 @@ use Rattle.tracker.proofs.TypeTracker.new as tracker-new-call
 use Rattle.tracker.proofs.TypeTracker.resolve as tracker-resolve-call
 use Rattle.tracker.proofs.TypeTracker.after as tracker-after-call
 use Rattle.tracker.proofs.TypeTracker.track as tracker-track-call
+use Rattle.parser.proofs.unused as unused-call
 use Rattle.records.proofs.fields_at as fields-at-call
 use Rattle.records.proofs.record_at as record-at-call
 use Rattle.records.proofs.operand_at as operand-at-call
@@ -129,9 +130,13 @@ tracker-after = λ κs a x y after other ask p q. (both p q, refl)
 -- the tracker, the types and their hints after an instruction
 pub tracker-track : Determined tracker-track-call.Kinds.ps tracker-track-call.Kinds.r tracker-track-call.Reads.Asked tracker-track-call.Reads.Learnt
 tracker-track = λ κs a x y after other ask p q. (
-  same-tracker (both (p .0) (q .0)) (both (p .1 .1 .1 .0) (q .1 .1 .1 .0)),
-  and refl (and (both (p .1 .0) (q .1 .0)) (and (both (p .1 .1 .0) (q .1 .1 .0)) refl)),
+  same-tracker (both (p .count) (q .count)) (both (p .greatest) (q .greatest)),
+  and refl (and (both (p .store) (q .store)) (and (both (p .hints-are) (q .hints-are)) refl)),
 )
+
+-- what is in use where an instruction begins
+pub unused : Determined unused-call.Kinds.ps unused-call.Kinds.r unused-call.Reads.Asked unused-call.Reads.Learnt
+unused = λ κs a x y after other ask p q. (both p q, refl)
 
 -- the words of a record
 pub fields-at : Determined fields-at-call.Kinds.ps fields-at-call.Kinds.r fields-at-call.Reads.Asked fields-at-call.Reads.Learnt

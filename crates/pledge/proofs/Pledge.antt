@@ -241,7 +241,7 @@ write-parse-order =
     record {
       free = λ κs a. tt;
       one = λ κs a x y after other p q.
-          (both (p .0) (q .0), ap (λ (o : List ℕ). (tt, (tt, (tt, (tt, (tt, (tt, (tt, (o, tt))))))))) (both (p .1) (q .1)));
+          (both (p .said) (q .said), ap (λ (o : List ℕ). (tt, (tt, (tt, (tt, (tt, (tt, (tt, (o, tt))))))))) (both (p .output) (q .output)));
     }
 
 -- a write in module order: the answer and the output after it
@@ -250,7 +250,7 @@ write-module-order =
     record {
       free = λ κs a. tt;
       one = λ κs a x y after other p q.
-          (both (p .0) (q .0), ap (λ (o : List ℕ). (tt, (tt, (tt, (tt, (tt, (tt, (tt, (o, tt))))))))) (both (p .1) (q .1)));
+          (both (p .said) (q .said), ap (λ (o : List ℕ). (tt, (tt, (tt, (tt, (tt, (tt, (tt, (o, tt))))))))) (both (p .output) (q .output)));
     }
 
 -- whether records stand, or the refusal

@@ -11,7 +11,7 @@ use lib.Seq.{take-append-seam, length-take-le, length-sets}
 use Rattle.spec.specs.declared.Counts.{Counts}
 use Rattle.spec.specs.declared.Loaded.{Loaded}
 use Rattle.spec.specs.declared.Written.{Written}
-use Rattle.spec.specs.Records.{Placed}
+use Rattle.spec.specs.Records.{Placed, recordSize}
 use Rattle.spec.specs.Load.{Outcome, load, Stores, storesOf, laidOver, roomIn, laidOn}
 use Rattle.spec.specs.Plain.{plainBy, isPlain}
 use Rattle.spec.specs.Check.{Given, Checked, bad, good, check, givenBy}
@@ -25,6 +25,7 @@ use Rattle.demands.proofs.Leaves.{load-begins}
 use Rattle.demands.proofs.ReadBack.{reads-back}
 use Rattle.demands.proofs.Rooms.{Roomy, any-room}
 use Rattle.demands.proofs.Demand3.{ComesBack, comes-back, writes, plain-is-written}
+use Rattle.assemble.specs.Writes.{Writes}
 use Rattle.round_trip.specs.Trip.{first, back, second, CameBack, Suited, RoundTrip}
 
 -- THE OUTPUT
@@ -40,7 +41,7 @@ put-within (good is) f out =
 
 pub parse-within : (h : List ℕ) (x : Given) (out : List ℕ) → writeParse h x out .said .bytes ≤ length (writeParse h x out .output)
 unfolding writeParse
-parse-within h x out = put-within (check false x) (parseBytes h) out
+parse-within h x out = put-within (check recordSize false x) (parseBytes h) out
 
 -- THE TRIP
 
@@ -153,8 +154,8 @@ module _ (g s : List ℕ) (by : AllBytes s) (t : Stores) (out : List ℕ) (u : S
 
 -- what was written fits the output
 pub answer-within : (h : List ℕ) (x : Given) (out : List ℕ) {out' : List ℕ} {w : Written}
-    → (w ≡ writeParse h x out .said) × (out' ≡ writeParse h x out .output) → w .bytes ≤ length out'
-answer-within h x out e = rw (e .0, e .1) (parse-within h x out)
+    → Writes (writeParse h x out) out' w → w .bytes ≤ length out'
+answer-within h x out e = rw (e .said, e .output) (parse-within h x out)
 
 -- so many elements are taken
 pub taken : (n : ℕ) (l : List ℕ) → n ≤ length l → n ≡ length (take n l)
@@ -165,15 +166,14 @@ pub trips : {g s out out' : List ℕ} {t t' u u' : Stores} {a b : Loaded} {w : W
     → let n : Counts = a .counts in
     let x : Writing =
     writeParse (a .header) (given (t' .instructions) (t' .log) (t' .strings) (n .instructions) (n .log) (n .strings)) out in
-    (w ≡ x .said) × (out' ≡ x .output)
-    → Loads (take (w .bytes) out') g u u' b → yes ≡ (eqb (a .number) 0 && eqb (w .number) 0 && eqb (b .number) 0)
+    Writes x out' w → Loads (take (w .bytes) out') g u u' b → yes ≡ (eqb (a .number) 0 && eqb (w .number) 0 && eqb (b .number) 0)
     → RoundTrip g s t out u yes t' out' u'
 unfolding first back second givenBy
 trips {g} {s} {out} {t = t} {u = u} {b = b} p e f y =
     let x =
     ap₂ (λ (a : Loaded) (t' : Stores). writeParse (a .header) (givenBy t' (a .counts)) out) (p .leaves .said) (p .leaves .stores) in
-    let said = e .0 ∙ ap (λ (w : Writing). w .said) x in
-    let output = e .1 ∙ ap (λ (w : Writing). w .output) x in
+    let said = e .said ∙ ap (λ (w : Writing). w .said) x in
+    let output = e .output ∙ ap (λ (w : Writing). w .output) x in
     let z = ap₂ (λ (n : ℕ) (o : List ℕ). loading (take n o) g u) (ap (λ (w : Written). w .bytes) said) output in
     closes g s (p .bytes) t out u
     (y ∙ ap₂ (λ (a : Loaded) (w : Written). eqb (a .number) 0 && eqb (w .number) 0 && eqb (b .number) 0) (p .leaves .said) said

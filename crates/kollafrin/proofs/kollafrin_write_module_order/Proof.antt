@@ -11,7 +11,7 @@ kollafrin-write-module-order-spec =
     (tie.spec
     (λ c κs. search needs)
     (λ c κs.
-    rw (c .before .before .before .write-module-order .ensures .0) (module-index _ _ _ (λ i.
+    rw (c .before .before .before .write-module-order .ensures .said) (module-index _ _ _ (λ i.
     c .before .before .before .before .before .before .before .before .before .shared-slice-known .given i .fits)))
     (λ c. search needs)
     (λ c. let at-write-module-order = c .before .before .before .before in written-said (c .say-written .ensures) (at-write-module-order .write-module-order .ensures)))

@@ -11,7 +11,7 @@ kollafrin-write-parse-order-spec =
     (tie.spec
     (λ c κs. search needs)
     (λ c κs.
-    rw (c .before .before .before .write-parse-order .ensures .0) (parse-index _ _ _ (λ i.
+    rw (c .before .before .before .write-parse-order .ensures .said) (parse-index _ _ _ (λ i.
     c .before .before .before .before .before .before .before .before .before .shared-slice-known .given i .fits)))
     (λ c. search needs)
     (λ c. let at-write-parse-order = c .before .before .before .before in written-said (c .say-written .ensures) (at-write-parse-order .write-parse-order .ensures)))

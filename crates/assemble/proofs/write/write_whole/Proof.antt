@@ -27,7 +27,7 @@ returns-2 c =
     let at-if1 = at-put-header .before .before in
     let at-put-module = at-if1 .before .before .before in
     let at-start = at-put-module .before .before .before .before .before .before in
-    whole-done (at-start .args .header) (at-start .good .0 .1 .0 .1) _ (at-start .args .out .now) (omega arith) _ _ (at-put-module .put-module .ensures) (at-if1 .if1 .left) _ (at-put-header .put-header .ensures) _ _ (at-put-module2 .put-module2 .ensures)
+    whole-done (at-start .args .header) (at-start .good .0 .1 .0 .1) _ (at-start .args .out .now) (omega (arith, at-start)) _ _ (at-put-module .put-module .ensures) (at-if1 .if1 .left) _ (at-put-header .put-header .ensures) _ _ (at-put-module2 .put-module2 .ensures)
 
 pub write-whole-spec : {M : Type 1} → statement M
 write-whole-spec =
