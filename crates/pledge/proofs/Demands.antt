@@ -13,6 +13,7 @@ use Rattle.spec.specs.declared.State.{State}
 use Rattle.spec.specs.declared.Loaded.{Loaded}
 use Rattle.spec.specs.declared.Written.{Written}
 use Rattle.spec.specs.Layout.{endNumber}
+use Rattle.spec.specs.Records.{recordSize}
 use Rattle.spec.specs.Load.{Outcome, lacksRoom, load, Stores, lent, storesOf, roomIn, laidOn}
 use Rattle.spec.specs.Plain.{plainBy, isPlain}
 use Rattle.spec.specs.Check.{check, givenBy}
