@@ -52,7 +52,7 @@ fn integer_kind(width: u32) -> u8
 }
 
 // The kind of a literal by the type of an id: one word where it is not known.
-fn literal_kind(types: &[u32], hints: &[u16], tracker: TypeTracker, id: Id) -> u8
+pub fn literal_kind(types: &[u32], hints: &[u16], tracker: TypeTracker, id: Id) -> u8
     requires { ⌜ 3 * tracker .count ≤ length (now types) ⌝ }
     requires { ⌜ Hinted (tracker .count) (now types) (now hints) (tracker .greatest) ⌝ }
     ensures { λ r. ⌜ (kindIs r ≡ literalKindOf (typeOf (idIs id) (entriesOf (tracker .count) (now (types .entry))))) × (isLiteral r ≡ true) ⌝ }

@@ -18,13 +18,14 @@ ghost use Rattle.parser.specs.Parse.{Few, Parses, Walks, SlotWalks, left
 ghost use Rattle.parser.specs.Fresh.{Fresh};
 ghost use Rattle.parser.specs.Body.{Framed, startOf, rowRead};
 ghost use Rattle.parser.specs.Simple.{There, IfTaken};
-use crate::literals::literal_for;
+use crate::literals::literal_kind;
 use crate::operands::parse_parameters;
 use crate::rows::next_place;
 use crate::rows::with_result;
 use crate::used::Frame;
 use crate::used::Parsed;
 use crate::used::Used;
+use crate::used::id_of;
 use crate::used::push;
 use crate::used::push_text;
 use crate::used::there;
@@ -183,7 +184,7 @@ fn simple_slot(
     requires { ⌜ Indexed (now g) (now index) ⌝ }
     requires { ⌜ Few (now s) d u ⌝ }
     requires { ⌜ There (now s) d ⌝ }
-    ensures { λ r. ⌜ ((types : List Entry) → kindIs literal ≡ literalFor types u kind → IfTaken (SlotWalks (now (s .entry)) d (λ x. readSlot (grammarOf (now (g .entry))) types x kind (readerOf (now (s .entry)) d)) (now (log .entry)) (now (strings .entry)) (now (log .exit)) (now (strings .exit)) u) r) ⌝ }
+    ensures { λ r. ⌜ ((types : List Entry) → ((kind ≡ 49 → ⊥) → kindIs literal ≡ literalFor types u kind) → IfTaken (SlotWalks (now (s .entry)) d (λ x. readSlot (grammarOf (now (g .entry))) types x kind (readerOf (now (s .entry)) d)) (now (log .entry)) (now (strings .entry)) (now (log .exit)) (now (strings .exit)) u) r) ⌝ }
 {
     if grammar::is_result(kind) {
         let x = next_word(d, s);
@@ -203,6 +204,20 @@ fn simple_slot(
         return simple_literal(d, s, literal, log, u);
     }
     Simple::Pass
+}
+
+// The kind of a literal by the result type, where the operand is one: a test that stands in the loop. A pair is not simple, so for it
+// anything will do.
+fn typed_kind(types: &[u32], hints: &[u16], tracker: TypeTracker, kind: u8, u: Used) -> u8
+    requires { ⌜ 3 * tracker .count ≤ length (now types) ⌝ }
+    requires { ⌜ Hinted (tracker .count) (now types) (now hints) (tracker .greatest) ⌝ }
+    ensures { λ r. ⌜ ((kind ≡ 49 → ⊥) → kindIs r ≡ literalFor (entriesOf (tracker .count) (now (types .entry))) u kind) ⌝ }
+{
+    if kind == kinds::TYPED_LITERAL {
+        let id = id_of(u.rtype);
+        return literal_kind(types, hints, tracker, id);
+    }
+    0
 }
 
 // The operands of an instruction by its row, up to its end, where all are simple.
@@ -244,7 +259,7 @@ pub fn simple_operands(
             }
             return Simple::Got(d, u);
         }
-        let literal = literal_for(types, hints, tracker, k, u);
+        let literal = typed_kind(types, hints, tracker, k, u);
         let r = simple_slot(d, s, g, index, k, literal, log, strings, u);
         let Simple::Got(e, n) = r else {
             return Simple::Pass;
