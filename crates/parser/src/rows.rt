@@ -40,13 +40,42 @@ use tracker::TypeTracker;
 pub fn with_result(u: Used, kind: u8, id: u64) -> Used
     ensures { λ r. ⌜ r ≡ withResult kind id u ⌝ }
 {
-    let mut n = u;
+    let rtype = u.rtype;
+    let rid = u.rid;
+    let operands = u.operands;
+    let kind1 = u.kind1;
+    let value1 = u.value1;
+    let kind2 = u.kind2;
+    let value2 = u.value2;
+    let log = u.log;
+    let strings = u.strings;
+    let base = u.base;
     if kind == kinds::RESULT_TYPE {
-        n.rtype = id;
-        return n;
+        return Used {
+            rtype: id,
+            rid,
+            operands,
+            kind1,
+            value1,
+            kind2,
+            value2,
+            log,
+            strings,
+            base,
+        };
     }
-    n.rid = id;
-    n
+    Used {
+        rtype,
+        rid: id,
+        operands,
+        kind1,
+        value1,
+        kind2,
+        value2,
+        log,
+        strings,
+        base,
+    }
 }
 
 // The place of the operand that comes next: ZeroOrMore stays.

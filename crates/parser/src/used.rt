@@ -112,20 +112,55 @@ fn noted(u: Used, kind: u8, value: u64, log: usize) -> Used
     requires { ⌜ (u .operands ≤ 1000000000) × Fits kind value × (log ≡ u .log + recordLength (parts kind value)) ⌝ }
     ensures { λ r. ⌜ Pushed kind value u r ⌝ }
 {
-    let mut n = u;
-    n.operands = u.operands + 1;
-    n.log = log;
+    let rtype = u.rtype;
+    let rid = u.rid;
+    let operands = u.operands + 1;
+    let kind1 = u.kind1;
+    let value1 = u.value1;
+    let kind2 = u.kind2;
+    let value2 = u.value2;
+    let strings = u.strings;
+    let base = u.base;
     if u.operands == 0 {
-        n.kind1 = kind;
-        n.value1 = value;
-        return n;
+        return Used {
+            rtype,
+            rid,
+            operands,
+            kind1: kind,
+            value1: value,
+            kind2,
+            value2,
+            log,
+            strings,
+            base,
+        };
     }
     if u.operands == 1 {
-        n.kind2 = kind;
-        n.value2 = value;
-        return n;
+        return Used {
+            rtype,
+            rid,
+            operands,
+            kind1,
+            value1,
+            kind2: kind,
+            value2: value,
+            log,
+            strings,
+            base,
+        };
     }
-    n
+    Used {
+        rtype,
+        rid,
+        operands,
+        kind1,
+        value1,
+        kind2,
+        value2,
+        log,
+        strings,
+        base,
+    }
 }
 
 // A record of a kind and a value, kept where it fits.

@@ -3,9 +3,11 @@ use Rattle.parser.proofs.SlotLaws.{type-more, id-more}
 use Rattle.parser.proofs.rows.with_result.Statement.{statement}
 use Rattle.parser.proofs.rows.with_result.Tie as tie
 
+returns : tie.Need-returns
+returns c = type-more _ _ _ (c .if1 .taken)
+
+returns-2 : tie.Need-returns-2
+returns-2 c = id-more _ _ _ (c .if1 .left)
+
 pub with-result-spec : {M : Type 1} → statement M
-with-result-spec =
-    tie.close
-    (tie.spec
-    (λ c. type-more _ _ _ (c .if1 .taken))
-    (λ c. id-more _ _ _ (c .if1 .left)))
+with-result-spec = tie.close (tie.spec returns returns-2)
