@@ -56,6 +56,10 @@ log-short g index ix es s at i r b e =
     in
     omega (arith, log-some b (i .operands), z .count)
 
+-- no bytes leave a store as it was
+pub none-kept : (l : List ℕ) (at n : ℕ) (bs : List ℕ) → n ≡ 0 → l ≡ sets l at (take n bs)
+none-kept l at n bs e = rw e
+
 module _ {s g types scratch spare : List ℕ} {p : Progress} {d : Decoded} (h : Shown s g types scratch spare p d) where
   -- where records and strings are short, they are in scratch and spare
   pub from-scratch : d .log ≤ length scratch → d .strings ≤ length spare → (l₀ s₀ l₁ s₁ : List ℕ)

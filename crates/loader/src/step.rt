@@ -182,6 +182,9 @@ pub fn keep_operands(
     if size <= scratch.len() {
         if more <= spare.len() {
             words::put_bytes(log, log_to, &scratch[..size]);
+            if more == 0 {
+                return;
+            }
             words::put_bytes(strings, strings_to, &spare[..more]);
             return;
         }
