@@ -53,6 +53,8 @@ fn load_from(
     strings: &mut [u8],
     types: &mut [u32],
     hints: &mut [u16],
+    scratch: &mut [u8],
+    spare: &mut [u8],
 ) -> Ended
     requires { ⌜ Indexed (now g) (now index) ⌝ }
     requires { ⌜ (20 ≤ length (now s)) × (length (now s) ≤ 67108864) ⌝ }
@@ -63,8 +65,6 @@ fn load_from(
     ensures { λ r. ⌜ r .progress .instructions < 67108864 ⌝ }
 {
     let room = room_in(instructions.len(), log.len(), strings.len(), types.len());
-    let mut scratch = [0u8; SCRATCH];
-    let mut spare = [0u8; SPARE];
     let mut p = Progress {
         at: HEADER,
         instructions: 0,
@@ -75,7 +75,7 @@ fn load_from(
         state: State::Outside,
     };
     while 4 <= s.len() - p.at {
-        let read = decode(s, g, index, types, hints, &mut scratch, &mut spare, p);
+        let read = decode(s, g, index, types, hints, scratch, spare, p);
         let verdict = admit(kinds, table, types, hints, room, p, read);
         match verdict {
             Judged::Refused(x) => return Ended {
@@ -83,7 +83,7 @@ fn load_from(
                 refusal: x,
             },
             Judged::Got(t) => {
-                keep_operands(s, g, index, log, strings, types, hints, &scratch, &spare, t);
+                keep_operands(s, g, index, log, strings, types, hints, scratch, spare, t);
                 p = keep_record(instructions, types, hints, t);
             }
         }
@@ -100,7 +100,7 @@ fn load_from(
     }
 }
 
-// A load by the bytes of a grammar and its index, with the tables and the hints that it works with.
+// A load by the bytes of a grammar and its index, with everything lent that it works with.
 fn load_with(
     kinds: &[u8; 256],
     table: &[[u8; 3]; 19],
@@ -112,6 +112,8 @@ fn load_with(
     strings: &mut [u8],
     types: &mut [u32],
     hints: &mut [u16],
+    scratch: &mut [u8],
+    spare: &mut [u8],
 ) -> Loaded
     requires { ⌜ Indexed (now g) (now index) ⌝ }
     requires { ⌜ (now table ≡ layoutTable) × (now kinds ≡ kindTable) ⌝ }
@@ -139,17 +141,19 @@ fn load_with(
         strings,
         types,
         hints,
+        scratch,
+        spare,
     );
     stopped(words, ended)
 }
 
 // THE STACK
 //
-// All that a load works with, but for the scratch and the spare of load_from, which are short, lies in the frame of one of the next two
-// functions, which differ in their hints alone. They are two because a frame has room for everything that its function declares,
-// whichever branch is taken: one function for both would have a short module pay for the long hints. The compiler keeps them apart from
-// their callers because each is called from two places and, with its tables, is too long to be put in line there; tools/stack sees to
-// it that this stays so.
+// All that a load works with lies in the frame of one of the next two functions, which differ in their hints alone. They are two because
+// a frame has room for everything that its function declares, whichever branch is taken: one function for both would have a short
+// module pay for the long hints. The compiler keeps them apart from their callers because each is called from two places and, with
+// its tables, is too long to be put in line there; tools/stack sees to it that this stays so. Scratch and spare are lent from here
+// too: as locals of `load_from` they would be copied from by a call, which for a few bytes takes longer than a loop.
 
 // A load of a short module: a long table of hints would take more time to clear than it saves.
 pub fn load_few(
@@ -169,6 +173,8 @@ pub fn load_few(
     let kinds = reflect::kinds();
     let table = reflect::table();
     let mut hints = [0u16; FEW_HINTS];
+    let mut scratch = [0u8; SCRATCH];
+    let mut spare = [0u8; SPARE];
     load_with(
         &kinds,
         &table,
@@ -180,6 +186,8 @@ pub fn load_few(
         strings,
         types,
         &mut hints,
+        &mut scratch,
+        &mut spare,
     )
 }
 
@@ -201,6 +209,8 @@ pub fn load_many(
     let kinds = reflect::kinds();
     let table = reflect::table();
     let mut hints = [0u16; HINTS];
+    let mut scratch = [0u8; SCRATCH];
+    let mut spare = [0u8; SPARE];
     load_with(
         &kinds,
         &table,
@@ -212,5 +222,7 @@ pub fn load_many(
         strings,
         types,
         &mut hints,
+        &mut scratch,
+        &mut spare,
     )
 }

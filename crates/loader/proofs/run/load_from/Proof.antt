@@ -4,39 +4,39 @@ use Rattle.loader.proofs.Judging.{fair, moderate, verdict}
 use Rattle.loader.proofs.Running.{Running, start, same-instructions, same-log, same-strings, same-types, few-kept, ends, halts, here, more, operands-fit, record-fits, entries-fit, fewer, goes-on}
 use lib.ListN.{length}
 use Prim.Native.Nat.{_-_}
-use mathlib.Core.Path.{_≡_, sym}
+use mathlib.Core.Path.{_≡_, refl, _∙_}
 use native.Mathlib.Omega.{arith}
 use borrow.Author.Needs.{needs}
 use Rattle.loader.proofs.run.load_from.Statement.{statement}
 use Rattle.loader.proofs.run.load_from.Tie as tie
 
 abbrev Inv-loop : tie.InvT-loop
-Inv-loop kinds table s g index instructions₀ log₀ strings₀ types₀ hints₀ room scratch₀ spare₀ p₀ instructions log strings types hints scratch spare p =
+Inv-loop kinds table s g index instructions₀ log₀ strings₀ types₀ hints₀ scratch₀ spare₀ room p₀ instructions log strings types hints scratch spare p =
     Running s g room (lent instructions₀ log₀ strings₀ types₀) (lent instructions log strings types) hints₀ hints p
-    × ((length scratch ≡ 576) × (length spare ≡ 256))
+    × ((length scratch ≡ length scratch₀) × (length spare ≡ length spare₀))
 
 abbrev μ-loop : tie.MeasureT-loop
-μ-loop kinds table s g index instructions₀ log₀ strings₀ types₀ hints₀ room scratch₀ spare₀ p₀ instructions log strings types hints scratch spare p =
+μ-loop kinds table s g index instructions₀ log₀ strings₀ types₀ hints₀ scratch₀ spare₀ room p₀ instructions log strings types hints scratch spare p =
     length s - p .at
 
 decode-requires : tie.Need-decode-requires Inv-loop μ-loop
 decode-requires c κs =
     let at-if1 = c .before .before .before .before in
-    let turn = c .before .before .before .before .before .before in
+    let turn = at-if1 .before .before in
     let running = turn .loop .inv .0 in
-    (turn .before .before .before .before .before .before .before .before .before .before .pre .0, ((running .short, omega (arith, running .inside, at-if1 .if1 .taken)), (running .bounded, running .typed)))
+    (turn .before .before .before .before .before .before .before .before .before .before .before .before .pre .0, ((running .short, omega (arith, running .inside, at-if1 .if1 .taken)), (running .bounded, running .typed)))
 
 admit-requires : tie.Need-admit-requires Inv-loop μ-loop
 admit-requires c κs =
-    let decoded = c .before .before .before .before in
+    let decoded = c .before .before .before .before .before .before in
     let turn = decoded .before .before .before .before .before .before .before in
     let running = turn .loop .inv .0 in
-    (turn .before .before .before .before .before .before .before .before .before .before .pre .1 .1, ((running .bounded, running .typed), fair _ _ _ _ _ _ _ (decoded .decode .ensures) (running .short)))
+    (turn .before .before .before .before .before .before .before .before .before .before .before .before .pre .1 .1, ((running .bounded, running .typed), fair _ _ _ _ _ _ _ (decoded .decode .ensures) (running .short)))
 
 returns : tie.Need-returns Inv-loop μ-loop
 returns c =
     let judged = c .before .before .before in
-    let decoded = judged .before .before .before .before .before in
+    let decoded = judged .before .before .before .before .before .before .before in
     let turn = decoded .before .before .before .before .before .before .before in
     let running = turn .loop .inv .0 in
     (halts running (decoded .before .before .before .before .before .if1 .taken) _ (verdict _ _ _ _ _ _ _ _ (decoded .decode .ensures) _ (judged .admit .ensures) _ (c .before .verdict .given .1)), few-kept running)
@@ -45,20 +45,19 @@ keep-operands-requires : tie.Need-keep-operands-requires Inv-loop μ-loop
 keep-operands-requires c κs =
     let taken = c .before .before .before .before .before .before .before in
     let judged = taken .before .before in
-    let decoded = judged .before .before .before .before .before in
+    let decoded = judged .before .before .before .before .before .before .before in
     let turn = decoded .before .before .before .before .before .before .before in
     let running = turn .loop .inv .0 in
     let word = decoded .before .before .before .before .before .if1 .taken in
     let goes-in = verdict _ _ _ _ _ _ _ _ (decoded .decode .ensures) _ (judged .admit .ensures) _ (taken .verdict2 .given .1) in
-    let at-start = turn .before .before .before .before .before .before .before .before .before .before in
     let stands = here running goes-in in
-    (at-start .pre .0, ((stands .short, omega (arith, stands .inside, more running goes-in word)), ((stands .bounded, stands .typed), (operands-fit running goes-in, goes-in .shown))))
+    (turn .before .before .before .before .before .before .before .before .before .before .before .before .pre .0, ((stands .short, omega (arith, stands .inside, more running goes-in word)), ((stands .bounded, stands .typed), (operands-fit running goes-in, goes-in .shown))))
 
 keep-record-requires : tie.Need-keep-record-requires Inv-loop μ-loop
 keep-record-requires c κs =
     let taken = c .before .before .before .before .before .before .before .before .before .before .before .before .before .before .before in
     let judged = taken .before .before in
-    let decoded = judged .before .before .before .before .before in
+    let decoded = judged .before .before .before .before .before .before .before in
     let turn = decoded .before .before .before .before .before .before .before in
     let running = turn .loop .inv .0 in
     let goes-in = verdict _ _ _ _ _ _ _ _ (decoded .decode .ensures) _ (judged .admit .ensures) _ (taken .verdict2 .given .1) in
@@ -67,15 +66,15 @@ keep-record-requires c κs =
 
 loop-less : tie.Need-loop-less Inv-loop μ-loop
 loop-less c =
-    let at-keep-record = c .before .before .before .before .before .before in
-    let taken = c .before .before .before .before .before .before .before .before .before .before .before .before .before .before .before .before .before .before .before .before .before .before in
+    let recorded = c .before .before .before .before .before .before in
+    let taken = recorded .before .before .before .before .before .before .before .before .before .before .before .before .before .before .before .before in
     let judged = taken .before .before in
-    let decoded = judged .before .before .before .before .before in
+    let decoded = judged .before .before .before .before .before .before .before in
     let turn = decoded .before .before .before .before .before .before .before in
     let running = turn .loop .inv .0 in
     let word = decoded .before .before .before .before .before .if1 .taken in
     let goes-in = verdict _ _ _ _ _ _ _ _ (decoded .decode .ensures) _ (judged .admit .ensures) _ (taken .verdict2 .given .1) in
-    fewer running goes-in word (at-keep-record .keep-record .ensures)
+    fewer running goes-in word (recorded .keep-record .ensures)
 
 loop-again : tie.Need-loop-again Inv-loop μ-loop
 loop-again c =
@@ -83,13 +82,16 @@ loop-again c =
     let stored = recorded .before .before .before .before .before .before .before .before in
     let taken = stored .before .before .before .before .before .before .before .before in
     let judged = taken .before .before in
-    let decoded = judged .before .before .before .before .before in
+    let decoded = judged .before .before .before .before .before .before .before in
     let turn = decoded .before .before .before .before .before .before .before in
     let running = turn .loop .inv .0 in
     let word = decoded .before .before .before .before .before .if1 .taken in
     let goes-in = verdict _ _ _ _ _ _ _ _ (decoded .decode .ensures) _ (judged .admit .ensures) _ (taken .verdict2 .given .1) in
-    let at-start = turn .before .before .before .before .before .before .before .before .before .before in
-    (goes-on running goes-in word (recorded .keep-record .ensures) _ _ _ (at-start .pre .0) (stored .keep-operands .ensures) (c .before .hints .given), (judged .before .before .before .before .scratch2 .given, judged .before .before .before .spare2 .given))
+    let at-spare = judged .before .before .before .before in
+    let at-scratch = at-spare .before .before in (
+      goes-on running goes-in word (recorded .keep-record .ensures) _ _ _ (turn .before .before .before .before .before .before .before .before .before .before .before .before .pre .0) (stored .keep-operands .ensures) (c .before .hints .given),
+      (at-scratch .scratch .given ∙ turn .loop .inv .1 .0, at-spare .spare .given ∙ turn .loop .inv .1 .1),
+    )
 
 pub load-from-spec : {M : Type 1} → statement M
 load-from-spec =
@@ -98,30 +100,30 @@ load-from-spec =
     Inv-loop
     μ-loop
     (λ c κs. search needs)
-    (λ c. let asked = c .before .before .before .before .before .before .before .before .before .pre in (start _ _ _ _ _ (c .room-in .ensures) (asked .1 .0 .0) (asked .1 .0 .1), (search needs, search needs)))
+    (λ c. let asked = c .before .before .before .before .before .before .before .before .before .before .before .pre in (start _ _ _ _ _ (c .room-in .ensures) (asked .1 .0 .0) (asked .1 .0 .1), (refl, refl)))
     (λ c. c .before .loop .inv .0 .inside)
-    (λ c. let at-loop = c .before .before .before .before .before in sym (at-loop .loop .inv .1 .0))
-    (λ c. let at-loop = c .before .before .before .before .before .before in sym (at-loop .loop .inv .1 .1))
     decode-requires
     admit-requires
     (λ c. search needs)
-    (λ c. let at-loop = c .before .before .before .before .before .before .before .before .before .before .before .before .before .before .before in same-instructions (at-loop .loop .inv .0))
-    (λ c. let at-loop = c .before .before .before .before .before .before .before .before .before .before .before .before .before .before .before in same-log (at-loop .loop .inv .0))
-    (λ c. let at-loop = c .before .before .before .before .before .before .before .before .before .before .before .before .before .before .before in same-strings (at-loop .loop .inv .0))
-    (λ c. let at-loop = c .before .before .before .before .before .before .before .before .before .before .before .before .before .before .before in same-types (at-loop .loop .inv .0))
-    (λ c. let at-loop = c .before .before .before .before .before .before .before .before .before .before .before .before .before .before .before in at-loop .loop .inv .0 .same-hints)
+    (λ c. let turn = c .before .before .before .before .before .before .before .before .before .before .before .before .before .before .before .before .before in same-instructions (turn .loop .inv .0))
+    (λ c. let turn = c .before .before .before .before .before .before .before .before .before .before .before .before .before .before .before .before .before in same-log (turn .loop .inv .0))
+    (λ c. let turn = c .before .before .before .before .before .before .before .before .before .before .before .before .before .before .before .before .before in same-strings (turn .loop .inv .0))
+    (λ c. let turn = c .before .before .before .before .before .before .before .before .before .before .before .before .before .before .before .before .before in same-types (turn .loop .inv .0))
+    (λ c. let turn = c .before .before .before .before .before .before .before .before .before .before .before .before .before .before .before .before .before in turn .loop .inv .0 .same-hints)
+    (λ c. let at-scratch = c .before .before .before .before .before .before .before .before .before in let turn = at-scratch .before .before .before .before .before .before .before .before in at-scratch .scratch .given ∙ turn .loop .inv .1 .0)
+    (λ c. let at-spare = c .before .before .before .before .before .before .before in let turn = at-spare .before .before .before .before .before .before .before .before .before .before in at-spare .spare .given ∙ turn .loop .inv .1 .1)
     returns
     (λ c. search needs)
-    (λ c. let at-scratch2 = c .before .before .before .before .before .before .before .before .before .before .before .before in sym (at-scratch2 .scratch2 .given))
-    (λ c. let at-spare2 = c .before .before .before .before .before .before .before .before .before .before .before .before in sym (at-spare2 .spare2 .given))
     keep-operands-requires
     keep-record-requires
     loop-less
     loop-again
     (λ c κs. search needs)
-    (λ c. let at-loop = c .before .before .before in same-instructions (at-loop .loop .inv .0))
-    (λ c. let at-loop = c .before .before .before in same-log (at-loop .loop .inv .0))
-    (λ c. let at-loop = c .before .before .before in same-strings (at-loop .loop .inv .0))
-    (λ c. let at-loop = c .before .before .before in same-types (at-loop .loop .inv .0))
-    (λ c. let at-loop = c .before .before .before in at-loop .loop .inv .0 .same-hints)
-    (λ c. let at-loop = c .before .before .before in (ends (at-loop .loop .inv .0) (c .before .if1 .left) _ (c .end-number .ensures), few-kept (at-loop .loop .inv .0))))
+    (λ c. let turn = c .before .before .before in same-instructions (turn .loop .inv .0))
+    (λ c. let turn = c .before .before .before in same-log (turn .loop .inv .0))
+    (λ c. let turn = c .before .before .before in same-strings (turn .loop .inv .0))
+    (λ c. let turn = c .before .before .before in same-types (turn .loop .inv .0))
+    (λ c. let turn = c .before .before .before in turn .loop .inv .0 .same-hints)
+    (λ c. let turn = c .before .before .before in turn .loop .inv .1 .0)
+    (λ c. let turn = c .before .before .before in turn .loop .inv .1 .1)
+    (λ c. let turn = c .before .before .before in (ends (turn .loop .inv .0) (c .before .if1 .left) _ (c .end-number .ensures), few-kept (turn .loop .inv .0))))
