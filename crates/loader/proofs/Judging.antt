@@ -136,7 +136,7 @@ module _ (room : Counts) (es : List Entry) (p : Progress) (v : InstRead) (d : De
   module _ (tag : ℕ) (next : State) (e : layoutOf (d .opcode) (p .state) ≡ Tagged tag next) (fault : ℕ)
       (f : fault ≡ roomFault room (needOf p d es)) where
     -- a place, and room
-    pub judged-good : fault ≡ 0 → Got (taken p d tag next) ≡ judged room es p v
+    pub judged-good : fault ≡ 0 → Got d tag next ≡ judged room es p v
     unfolding judged judgedBy
     judged-good z = rw (q, e, ← f, z)
 
@@ -210,14 +210,14 @@ Stops s g types room p y =
 module _ (s g types scratch spare : List ℕ) (room : Counts) (p : Progress) where
   -- one of the two
   abbrev pub Verdict : Judged → Type 0
-  Verdict (Got t) = Admitted s g types scratch spare room p t
+  Verdict (Got d tag next) = Admitted s g types scratch spare room p (taken p d tag next)
   Verdict (Refused y) = Stops s g types room p y
 
   module _ (d : Decoded) (shown : Shown s g types scratch spare p d) where
     -- by room
     room-verdict : (tag : ℕ) (next : State) → layoutOf (d .opcode) (p .state) ≡ Tagged tag next → (c : Bool)
         → eqb (roomFault room (needOf p d (entriesOf (p .types) types))) 0 ≡ c
-        → Verdict (if c then Got (taken p d tag next) else Refused (refusal (roomFault room (needOf p d (entriesOf (p .types) types))) (p .at) 0))
+        → Verdict (if c then Got d tag next else Refused (refusal (roomFault room (needOf p d (entriesOf (p .types) types))) (p .at) 0))
     unfolding loadFrom readerAt
     room-verdict tag next e true f = record { from = refl; shown = shown; placed = e; fits = eqb-true _ _ f }
     room-verdict tag next e false f =

@@ -137,7 +137,7 @@ taken p d tag next = record { from = p; read = d; tag = tag; state = next }
 -- it goes in with a tag and the state after it, or is refused at its place
 unfoldable pub judgedBy : Counts → Counts → Progress → Decoded → Cell → Judged
 judgedBy room need p d (Tagged tag next) =
-    if eqb (roomFault room need) 0 then Got (taken p d tag next) else Refused (refusal (roomFault room need) (p .at) 0)
+    if eqb (roomFault room need) 0 then Got d tag next else Refused (refusal (roomFault room need) (p .at) 0)
 judgedBy room need p d (Refuses n) = Refused (refusal n (p .at) 0)
 
 -- by what was read

@@ -8,6 +8,7 @@ ghost use Rattle.grammar.specs.Index.{Indexed};
 ghost use Rattle.loader.specs.Loading.{LoadsFrom, LoadsWith};
 use crate::parts::Ended;
 use crate::parts::Progress;
+use crate::parts::Taken;
 use crate::parts::end_number;
 use crate::parts::no_instruction;
 use crate::parts::stopped;
@@ -82,7 +83,13 @@ fn load_from(
                 progress: p,
                 refusal: x,
             },
-            Judged::Got(t) => {
+            Judged::Got(d, tag, state) => {
+                let t = Taken {
+                    from: p,
+                    read: d,
+                    tag,
+                    state,
+                };
                 keep_operands(s, g, index, log, strings, types, hints, scratch, spare, t);
                 p = keep_record(instructions, types, hints, t);
             }

@@ -23,13 +23,14 @@ use room::room_fault;
 use spec::Cell;
 use spec::Counts;
 use spec::Refusal;
+use spec::State;
 use spec::refusals;
 use tracker::Told;
 use tracker::TypeTracker;
 
-// What becomes of an instruction before anything is kept: it goes in, or is refused.
+// What becomes of an instruction before anything is kept: it goes in, with a tag and the state after it, or is refused.
 pub enum Judged {
-    Got(Taken),
+    Got(Decoded, u8, State),
     Refused(Refusal),
 }
 
@@ -134,13 +135,7 @@ pub fn admit(
                 Cell::Tagged(tag, next) => {
                     let fault = room_fault(room, need_after(types, hints, room, p, d));
                     if fault == refusals::ACCEPTED {
-                        let t = Taken {
-                            from: p,
-                            read: d,
-                            tag,
-                            state: next,
-                        };
-                        return Judged::Got(t);
+                        return Judged::Got(d, tag, next);
                     }
                     refused(fault, p.at)
                 }
