@@ -1,6 +1,6 @@
 -- Laws of rows of simple operands: each is read as the walk of a row reads it, or passed over.
 use Prim.Native.Nat.{ℕ, _+_, _*_, _-_, _≤_}
-use mathlib.Core.Path.{_≡_, refl, sym, _∙_}
+use mathlib.Core.Path.{_≡_, sym, _∙_}
 use mathlib.Core.Bool.{Bool, true, false}
 use mathlib.Core.List.{List}
 use mathlib.Core.Option.{some}
@@ -22,7 +22,6 @@ use Rattle.parser.specs.Parse.{wordIs, leftOf, Went, Few, Parses, kindIs
 use Rattle.parser.specs.Fresh.{withResult}
 use Rattle.parser.specs.Body.{Framed, startOf}
 use Rattle.parser.specs.Simple.{There, IfTaken}
-use Rattle.parser.proofs.KindLaws.{not-kind}
 use Rattle.parser.proofs.SlotLaws.{walks-result, walks-as}
 use Rattle.parser.proofs.RowLaws.{left-some}
 use Rattle.parser.proofs.SimpleLaws.{take, take-so}
@@ -30,16 +29,16 @@ use Rattle.parser.proofs.SimpleLaws.{take, take-so}
 -- OPERANDS
 
 module _ (s : List ℕ) (g : Grammar) (j l : ℕ) (d : Decoder) (log strs : List ℕ) (u : Used) (t : Bool) (p : t ≡ isResult j) (types : List Entry)
-    (f : (j ≡ 49 → ⊥) → kindIs l ≡ literalFor types u j) where
+    (f : kindIs l ≡ literalFor types u j) where
   -- a result
   pub reads-result : t ≡ true → Few s d u → (v : ℕ) (e : Decoder) → Word v e ≡ wordFrom s d → (i : ℕ) → wordIs i ≡ some v → (n : Used) → n ≡ withResult j i u
       → IfTaken (SlotWalks s d (λ x. readSlot g types x j (readerOf s d)) log strs log strs u) (Taken e n)
-  reads-result q m v e h i o n z = take _ e n (walks-result s g j l d log strs u t p types (f (not-kind isResult j 49 (sym p ∙ q) refl)) q m v e h i o n z)
+  reads-result q m v e h i o n z = take _ e n (walks-result s g j l d log strs u t p types f q m v e h i o n z)
 
-  -- any other operand that is no pair, by its read
-  pub reads-as : t ≡ false → (j ≡ 49 → ⊥) → (log₁ strs₁ : List ℕ) (v : Simple) (y : Read (List Operand)) → kindAlone g (kindIs l) j (readerOf s d) ≡ y
+  -- any other operand, by its read
+  pub reads-as : t ≡ false → (log₁ strs₁ : List ℕ) (v : Simple) (y : Read (List Operand)) → kindAlone g (kindIs l) j (readerOf s d) ≡ y
       → IfTaken (Parses s d 4 y log strs log₁ strs₁ u) v → IfTaken (SlotWalks s d (λ x. readSlot g types x j (readerOf s d)) log strs log₁ strs₁ u) v
-  reads-as q single log₁ strs₁ v y e h = take-so _ _ (λ a. walks-as s g j l d log strs u t p types (f single) q log₁ strs₁ a y e) v h
+  reads-as q log₁ strs₁ v y e h = take-so _ _ (λ a. walks-as s g j l d log strs u t p types f q log₁ strs₁ a y e) v h
 
 -- ROWS
 

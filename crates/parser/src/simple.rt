@@ -6,7 +6,6 @@ ghost use mathlib.Core.List.{List, _∷_, []};
 ghost use Prim.Native.Nat.{ℕ, _*_, _≤_};
 ghost use lib.ListN.{length};
 ghost use Rattle.spec.specs.Kinds.{isEnum};
-ghost use Rattle.spec.specs.Records.{Entry};
 ghost use Rattle.spec.specs.Grammar.{Grammar, grammarOf};
 ghost use Rattle.spec.specs.Match.{readEach, readOperand, readSlot};
 ghost use Rattle.decoder.specs.declared.WordRead.the-variants.{Got};
@@ -14,7 +13,7 @@ ghost use Rattle.decoder.specs.Answer.{readerOf, wordFrom};
 ghost use Rattle.grammar.specs.Index.{Indexed};
 ghost use Rattle.tracker.specs.Entries.{entriesOf};
 ghost use Rattle.tracker.specs.Hints.{Hinted};
-ghost use Rattle.parser.specs.Parse.{Few, Parses, Walks, SlotWalks, leftOf, isWord, kindIs, literalFor, literalAlone};
+ghost use Rattle.parser.specs.Parse.{Few, Parses, Walks, SlotWalks, leftOf, isWord, kindIs, literalAlone};
 ghost use Rattle.parser.specs.Fresh.{Fresh};
 ghost use Rattle.parser.specs.Body.{Framed, startOf, rowRead};
 ghost use Rattle.parser.specs.Simple.{There, IfTaken};
@@ -169,14 +168,16 @@ fn simple_value(
     taken(parse_parameters(e, s, g, index, place, log, strings, n))
 }
 
-// An operand of a row, where a literal by type is of a kind.
+// An operand of a row. Types, hints and tracker are handed down to its last line, so that only a literal asks for the kind that it is of.
 fn simple_slot(
     d: Decoder,
     s: &[u8],
     g: &[u8],
     index: &[u16],
+    types: &[u32],
+    hints: &[u16],
+    tracker: TypeTracker,
     kind: u8,
-    literal: u8,
     log: &mut [u8],
     strings: &mut [u8],
     u: Used,
@@ -184,7 +185,9 @@ fn simple_slot(
     requires { ⌜ Indexed (now g) (now index) ⌝ }
     requires { ⌜ Few (now s) d u ⌝ }
     requires { ⌜ There (now s) d ⌝ }
-    ensures { λ r. ⌜ ((types : List Entry) → ((kind ≡ 49 → ⊥) → kindIs literal ≡ literalFor types u kind) → IfTaken (SlotWalks (now (s .entry)) d (λ x. readSlot (grammarOf (now (g .entry))) types x kind (readerOf (now (s .entry)) d)) (now (log .entry)) (now (strings .entry)) (now (log .exit)) (now (strings .exit)) u) r) ⌝ }
+    requires { ⌜ 3 * tracker .count ≤ length (now types) ⌝ }
+    requires { ⌜ Hinted (tracker .count) (now types) (now hints) (tracker .greatest) ⌝ }
+    ensures { λ r. ⌜ IfTaken (SlotWalks (now (s .entry)) d (λ x. readSlot (grammarOf (now (g .entry))) (entriesOf (tracker .count) (now (types .entry))) x kind (readerOf (now (s .entry)) d)) (now (log .entry)) (now (strings .entry)) (now (log .exit)) (now (strings .exit)) u) r ⌝ }
 {
     if grammar::is_result(kind) {
         let x = next_word(d, s);
@@ -201,23 +204,11 @@ fn simple_slot(
         return simple_text(d, s, log, strings, u);
     }
     if kind == kinds::TYPED_LITERAL {
+        let id = id_of(u.rtype);
+        let literal = literal_kind(types, hints, tracker, id);
         return simple_literal(d, s, literal, log, u);
     }
     Simple::Pass
-}
-
-// The kind of a literal by the result type, where the operand is one: a test that stands in the loop. A pair is not simple, so for it
-// anything will do.
-fn typed_kind(types: &[u32], hints: &[u16], tracker: TypeTracker, kind: u8, u: Used) -> u8
-    requires { ⌜ 3 * tracker .count ≤ length (now types) ⌝ }
-    requires { ⌜ Hinted (tracker .count) (now types) (now hints) (tracker .greatest) ⌝ }
-    ensures { λ r. ⌜ ((kind ≡ 49 → ⊥) → kindIs r ≡ literalFor (entriesOf (tracker .count) (now (types .entry))) u kind) ⌝ }
-{
-    if kind == kinds::TYPED_LITERAL {
-        let id = id_of(u.rtype);
-        return literal_kind(types, hints, tracker, id);
-    }
-    0
 }
 
 // The operands of an instruction by its row, up to its end, where all are simple.
@@ -259,8 +250,7 @@ pub fn simple_operands(
             }
             return Simple::Got(d, u);
         }
-        let literal = typed_kind(types, hints, tracker, k, u);
-        let r = simple_slot(d, s, g, index, k, literal, log, strings, u);
+        let r = simple_slot(d, s, g, index, types, hints, tracker, k, log, strings, u);
         let Simple::Got(e, n) = r else {
             return Simple::Pass;
         };
