@@ -56,7 +56,7 @@ static struct lent lend(const uint8_t *module, size_t length) {
     x.module = module;
     x.length = length;
     x.words = length < 20 ? 0 : length / 4 - 5;
-    x.instructions = room(32 * x.words);
+    x.instructions = room(sizeof(uint32_t) * KOLLAFRIN_RECORD * x.words);
     x.log = room(9 * x.words);
     x.strings = room(4 * x.words);
     x.types = room(12 * x.words);
@@ -79,29 +79,29 @@ static void version(struct lent *x) { x->number = kollafrin_version(); }
 static void builtin(struct lent *x) { x->number = kollafrin_builtin(x->out, x->length + grammar_length); }
 
 static void load(struct lent *x) {
-    x->number = kollafrin_load(x->module, x->length, grammar, grammar_length, x->instructions, 8 * x->words, x->log, 9 * x->words,
+    x->number = kollafrin_load(x->module, x->length, grammar, grammar_length, x->instructions, KOLLAFRIN_RECORD * x->words, x->log, 9 * x->words,
                                x->strings, 4 * x->words, x->types, 3 * x->words, x->load);
 }
 
 static void load_builtin(struct lent *x) {
-    x->number = kollafrin_load_builtin(x->module, x->length, x->instructions, 8 * x->words, x->log, 9 * x->words, x->strings,
+    x->number = kollafrin_load_builtin(x->module, x->length, x->instructions, KOLLAFRIN_RECORD * x->words, x->log, 9 * x->words, x->strings,
                                        4 * x->words, x->types, 3 * x->words, x->load);
 }
 
 static void write_parse_order(struct lent *x) {
-    x->number = kollafrin_write_parse_order(x->load + KOLLAFRIN_LOAD_HEADER, x->instructions, 8 * x->words, x->log, 9 * x->words,
+    x->number = kollafrin_write_parse_order(x->load + KOLLAFRIN_LOAD_HEADER, x->instructions, KOLLAFRIN_RECORD * x->words, x->log, 9 * x->words,
                                             x->strings, 4 * x->words, x->load[KOLLAFRIN_LOAD_INSTRUCTIONS],
                                             x->load[KOLLAFRIN_LOAD_LOG], x->load[KOLLAFRIN_LOAD_STRINGS], x->out, x->length, x->answer);
 }
 
 static void write_module_order(struct lent *x) {
-    x->number = kollafrin_write_module_order(x->load + KOLLAFRIN_LOAD_HEADER, x->instructions, 8 * x->words, x->log, 9 * x->words,
+    x->number = kollafrin_write_module_order(x->load + KOLLAFRIN_LOAD_HEADER, x->instructions, KOLLAFRIN_RECORD * x->words, x->log, 9 * x->words,
                                              x->strings, 4 * x->words, x->load[KOLLAFRIN_LOAD_INSTRUCTIONS],
                                              x->load[KOLLAFRIN_LOAD_LOG], x->load[KOLLAFRIN_LOAD_STRINGS], x->out, x->length, x->answer);
 }
 
 static void standing(struct lent *x) {
-    x->number = kollafrin_standing(x->instructions, 8 * x->words, x->log, 9 * x->words, x->strings, 4 * x->words,
+    x->number = kollafrin_standing(x->instructions, KOLLAFRIN_RECORD * x->words, x->log, 9 * x->words, x->strings, 4 * x->words,
                                    x->load[KOLLAFRIN_LOAD_INSTRUCTIONS], x->load[KOLLAFRIN_LOAD_LOG], x->load[KOLLAFRIN_LOAD_STRINGS],
                                    x->answer);
 }
@@ -273,7 +273,7 @@ static uint64_t all_said(void) {
             sum = mixed(sum, &x.number, sizeof x.number);
             sum = mixed(sum, x.load, sizeof x.load);
             sum = mixed(sum, x.answer, sizeof x.answer);
-            sum = mixed(sum, x.instructions, 32 * x.words);
+            sum = mixed(sum, x.instructions, sizeof(uint32_t) * KOLLAFRIN_RECORD * x.words);
             sum = mixed(sum, x.log, 9 * x.words);
             sum = mixed(sum, x.strings, 4 * x.words);
             sum = mixed(sum, x.types, 12 * x.words);

@@ -14,6 +14,9 @@ use spec::Loaded;
 // How many words a type entry has.
 const ENTRY: usize = 3;
 
+// A fitting of 255 bytes has so many whole words after its header.
+const WORDS: usize = 58;
+
 // THE LOADS: where the table has the module, each shows what the table says
 
 // By the bytes of the built-in grammar.
@@ -200,10 +203,10 @@ fn agrees(
 ) -> bool
     requires { ⌜ length (now «module») ≤ 255 ⌝ }
 {
-    let mut instructions2 = [0u32; 464];
-    let mut log2 = [0u8; 522];
-    let mut strings2 = [0u8; 232];
-    let mut types2 = [0u32; 174];
+    let mut instructions2 = [0u32; records::RECORD * WORDS];
+    let mut log2 = [0u8; 9 * WORDS];
+    let mut strings2 = [0u8; 4 * WORDS];
+    let mut types2 = [0u32; ENTRY * WORDS];
     let y = prepared(
         module,
         &mut instructions2,
@@ -222,10 +225,10 @@ fn agrees(
 fn line(index: usize, module: &[u8])
     requires { ⌜ length (now «module») ≤ 255 ⌝ }
 {
-    let mut instructions = [0u32; 464];
-    let mut log = [0u8; 522];
-    let mut strings = [0u8; 232];
-    let mut types = [0u32; 174];
+    let mut instructions = [0u32; records::RECORD * WORDS];
+    let mut log = [0u8; 9 * WORDS];
+    let mut strings = [0u8; 4 * WORDS];
+    let mut types = [0u32; ENTRY * WORDS];
     let x = by_bytes(
         module,
         &mut instructions,

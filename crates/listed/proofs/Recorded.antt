@@ -12,7 +12,7 @@ use Rattle.spec.specs.declared.Counts.{Counts}
 use Rattle.spec.specs.declared.Loaded.{Loaded}
 use Rattle.spec.specs.Base.{ascii}
 use Rattle.spec.specs.Builtin.{builtin}
-use Rattle.spec.specs.Records.{Placed, presence, fieldsOf, fieldWords, fieldsAt, recordsFrom, operandsLog}
+use Rattle.spec.specs.Records.{Placed, recordSize, entrySize, presence, fieldsOf, fieldWords, fieldsAt, recordsFrom, operandsLog}
 use Rattle.spec.specs.Load.{Outcome, enough, roomOf, load, Stores, lent, laidOver, roomIn}
 use Rattle.spec.specs.Listing.{numbersLine, moduleLine, recordLines, lastLine, outcomeText, listing}
 use Rattle.spec.specs.Words.{AllBytes}
@@ -84,7 +84,7 @@ unfolding listing
 listing-long s h w = from-start (rw (lt-ltb 4096 (length s) h) w)
 
 -- the stores of a listing have the room that suffices for 1,019 words
-pub listing-room : roomIn (lent (replicate 8152 0) (replicate 9171 0) (replicate 4076 0) (replicate 3057 0)) ≡ enough 1019
+pub listing-room : roomIn (lent (replicate (recordSize * 1019) 0) (replicate (9 * 1019) 0) (replicate (4 * 1019) 0) (replicate (entrySize * 1019) 0)) ≡ enough 1019
 unfolding roomIn roomOf enough
 listing-room = refl
 
