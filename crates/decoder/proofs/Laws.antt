@@ -49,10 +49,6 @@ took-words at k m h = record {
   counted = λ n q. let z : m ≡ n = cc in (omega arith, ap (λ (i : ℕ). Words (i - k)) z);
 }
 
--- a limit of one word more loses it
-pub took-one : {d e : Decoder} (n : ℕ) → Took d e 1 → d .limit ≡ Words (suc n) → e .limit ≡ Words n
-took-one n t q = t .counted (suc n) q .1 ∙ ap Words (omega arith)
-
 -- one word after another
 took-two : {d e f : Decoder} → Took d e 1 → Took e f 1 → Took d f 2
 took-two a b = record {

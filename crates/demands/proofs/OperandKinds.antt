@@ -1,18 +1,18 @@
 -- Operand kinds: what the tests on kinds say of each other, computed over every kind that there is.
-use Prim.Native.Nat.{ℕ, zero, suc, _<_, _≤_}
+use Prim.Native.Nat.{ℕ, _<_, _≤_}
 use mathlib.Core.Path.{_≡_, refl, ap}
 use mathlib.Core.Bool.{Bool, true, false, not, _&&_, _||_}
 use mathlib.Core.List.{[], _∷_}
 use mathlib.Core.Option.{Option, none, some}
 use native.Mathlib.Omega.{arith}
-use borrow.Author.Tests.{eqb-true, ltb-true, ltb-false, not-true}
-use lib.Dec.{ltb, eqb}
+use borrow.Author.Tests.{eqb-true, not-true}
+use lib.Dec.{eqb}
 use Rattle.spec.specs.Base.{within, isIn, implies, every}
 use Rattle.spec.specs.Kinds.{isEnum, isResult, mayBeOperand, mayBeParameter, mayEmbed, isLogged, isLong, isText}
 use Rattle.spec.specs.Records.{Entry, entry}
 use Rattle.spec.specs.Match.{partsOf, literalKindOf}
 use Rattle.spec.proofs.Range.{below-at}
-use Rattle.demands.proofs.Choice.{left, right, both, asked, other, cases, either, IfSome, in-range}
+use Rattle.demands.proofs.Choice.{left, both, asked, other, cases, either, IfSome, in-range}
 
 -- KINDS
 

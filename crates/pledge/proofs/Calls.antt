@@ -1,7 +1,6 @@
 -- Calls of the functions that load and write, as their callers see them: those of the library, and those at the door, whose answers
 -- are words.
 use Prim.Native.Nat.{ℕ, _+_, _*_}
-use mathlib.Core.Path.{_≡_}
 use mathlib.Core.List.{List}
 use lib.ListN.{getD, take, drop}
 use contract.Lifetimes.{Lfts}
