@@ -1,10 +1,10 @@
 -- Laws of a load's beginning: its first refusals, and the instructions after the header.
-use Prim.Native.Nat.{ℕ, _<_, _≤_}
+use Prim.Native.Nat.{ℕ, zero, suc, _<_, _≤_}
 use mathlib.Core.Path.{_≡_, refl, ap, sym, subst, _∙_}
 use mathlib.Core.Bool.{true, false}
 use mathlib.Core.List.{List}
 use borrow.Author.Tests.{lt-ltb, le-ltb, ne-eqb}
-use lib.ListN.{length}
+use lib.ListN.{length, replicate}
 use Rattle.spec.specs.declared.HeaderRead.{HeaderRead}
 use Rattle.spec.specs.declared.Counts.{Counts}
 use Rattle.spec.specs.declared.Loaded.{Loaded}
@@ -17,6 +17,7 @@ use Rattle.spec.specs.Load.{Outcome, nothing, afterHeader, loadWith, load, Stor
 use Rattle.demands.proofs.Bytes.{SliceOfBytes, slice-bytes}
 use Rattle.demands.proofs.Starts.{header-is}
 use Rattle.grammar.specs.Index.{Indexed}
+use Rattle.tracker.specs.Hints.{Blank}
 use Rattle.loader.specs.declared.parts.Ended.{Ended}
 use Rattle.loader.specs.Steps.{saidAt}
 use Rattle.loader.specs.Loading.{loading, Leaves, Loads, LoadsWith, LoadsFrom}
@@ -25,6 +26,13 @@ use Rattle.loader.specs.Loading.{loading, Leaves, Loads, LoadsWith, Load
 leaves-nothing : (x : Outcome) (t : Stores) (a : Loaded) (n at : ℕ) → x ≡ nothing n at → a ≡ nothing n at .said → Leaves x t t a
 unfolding storesOf laidOn laidOver recordsFrom logFrom stringStore
 leaves-nothing x t a n at e q = rw e (record { said = q; stores = refl })
+
+-- hints that are all 0 are blank
+pub blank-hints : (n : ℕ) → Blank (replicate n 0)
+unfolding Blank
+blank-hints zero k = refl
+blank-hints (suc n) zero = refl
+blank-hints (suc n) (suc k) = blank-hints n k
 
 -- THE LENGTH AND THE HEADER
 

@@ -49,7 +49,7 @@ placedAs i tag = record { instr = i; tag = tag }
 -- what the parser tells
 pub shows : (s g types scratch spare : List ℕ) (p : Progress) (u : Used) → u ≡ unused 0 0 (p .strings) → (v : InstRead)
     → DecodesOver s (p .at) (readAt s g types p) scratch spare u v
-    → RowIs g (entriesOf (p .types) types) s (p .at) (readAt s g types p) v → Shows s g types scratch spare p v
+    → RowIs g (entriesOf (p .tracker .count) types) s (p .at) (readAt s g types p) v → Shows s g types scratch spare p v
 unfolding Decodes RowIs Shows
 shows s g types scratch spare p u e (inst.Got d) h b =
     record { scratch₀ = h .log₀; spare₀ = h .strs₀; handed = rw e at (h .decodes); row = b }
@@ -153,16 +153,16 @@ module _ (room : Counts) (p : Progress) (d : Decoded) where
   room-by es n e = rw e
 
   -- and by an entry more, where there is room for it
-  pub room-spare : (l : List ℕ) (n : ℕ) → n ≡ p .types + 1 → p .types + 1 ≤ room .types
+  pub room-spare : (l : List ℕ) (n : ℕ) → n ≡ p .tracker .count + 1 → p .tracker .count + 1 ≤ room .types
       → roomFault room (counts (p .instructions + 1) (p .log + d .log) (p .strings + d .strings) n)
-      ≡ roomFault room (needOf p d (entriesOf (p .types) l))
+      ≡ roomFault room (needOf p d (entriesOf (p .tracker .count) l))
   unfolding needOf roomFault tracked
   room-spare l n e k =
-      let es = entriesOf (p .types) l in
+      let es = entriesOf (p .tracker .count) l in
       let grown = told-grows (toldBy d) es in
       rw (
         le-ltb (room .types) n (omega (arith, e, k)),
-        le-ltb (room .types) (length (tracked d es)) (omega (arith, grown .most, length-entries (p .types) l)),
+        le-ltb (room .types) (length (tracked d es)) (omega (arith, grown .most, length-entries (p .tracker .count) l)),
       )
 
 -- the fields of its record, by their words
@@ -198,14 +198,14 @@ pub record Admitted (s g types scratch spare : List ℕ) (room : Counts) (p : Pr
   pub from : t .from ≡ p
   pub shown : Shown s g types scratch spare (t .from) (t .read)
   pub placed : layoutOf (t .read .opcode) (t .from .state) ≡ Tagged (t .tag) (t .state)
-  pub fits : roomFault room (needOf (t .from) (t .read) (entriesOf (t .from .types) types)) ≡ 0
+  pub fits : roomFault room (needOf (t .from) (t .read) (entriesOf (t .from .tracker .count) types)) ≡ 0
 
 -- an instruction that is refused: the load stops at it, with any header, whatever is kept
 abbrev pub Stops : List ℕ → List ℕ → List ℕ → Counts → Progress → Refusal → Type 0
 Stops s g types room p y =
     (h : List ℕ) (ks : List Placed) (n : ℕ) → 4 ≤ length s - p .at
-    → loadFrom (grammarOf g) room h (suc n) (bookOf ks (entriesOf (p .types) types) p) (readerAt s (p .at) Unlimited)
-    ≡ stop h (bookOf ks (entriesOf (p .types) types) p) (y .number) (y .place) (y .value)
+    → loadFrom (grammarOf g) room h (suc n) (bookOf ks (entriesOf (p .tracker .count) types) p) (readerAt s (p .at) Unlimited)
+    ≡ stop h (bookOf ks (entriesOf (p .tracker .count) types) p) (y .number) (y .place) (y .value)
 
 module _ (s g types scratch spare : List ℕ) (room : Counts) (p : Progress) where
   -- one of the two
@@ -216,33 +216,33 @@ module _ (s g types scratch spare : List ℕ) (room : Counts) (p : Progress) whe
   module _ (d : Decoded) (shown : Shown s g types scratch spare p d) where
     -- by room
     room-verdict : (tag : ℕ) (next : State) → layoutOf (d .opcode) (p .state) ≡ Tagged tag next → (c : Bool)
-        → eqb (roomFault room (needOf p d (entriesOf (p .types) types))) 0 ≡ c
-        → Verdict (if c then Got d tag next else Refused (refusal (roomFault room (needOf p d (entriesOf (p .types) types))) (p .at) 0))
+        → eqb (roomFault room (needOf p d (entriesOf (p .tracker .count) types))) 0 ≡ c
+        → Verdict (if c then Got d tag next else Refused (refusal (roomFault room (needOf p d (entriesOf (p .tracker .count) types))) (p .at) 0))
     unfolding loadFrom readerAt
     room-verdict tag next e true f = record { from = refl; shown = shown; placed = e; fits = eqb-true _ _ f }
     room-verdict tag next e false f =
         let i = shown .handed in
-        let es = entriesOf (p .types) types in
+        let es = entriesOf (p .tracker .count) types in
         let q = need-is shown es in
         let z : eqb (roomFault room (usedAfter (usedBy p) (i .instr) (track (i .instr) es))) 0 ≡ false = rw q at f in
         λ h ks n w. rw (word-left s (p .at) w, i .read, placed-is shown _ e, z, q, i .offset)
 
     -- by layout
     cell-verdict : (c : Cell) → layoutOf (d .opcode) (p .state) ≡ c
-        → Verdict (judgedBy room (needOf p d (entriesOf (p .types) types)) p d c)
+        → Verdict (judgedBy room (needOf p d (entriesOf (p .tracker .count) types)) p d c)
     unfolding judgedBy loadFrom readerAt
-    cell-verdict (Tagged tag next) e = room-verdict tag next e (eqb (roomFault room (needOf p d (entriesOf (p .types) types))) 0) refl
+    cell-verdict (Tagged tag next) e = room-verdict tag next e (eqb (roomFault room (needOf p d (entriesOf (p .tracker .count) types))) 0) refl
     cell-verdict (Refuses m) e =
         let i = shown .handed in
         λ h ks n w. rw (word-left s (p .at) w, i .read, placed-is shown _ e, i .offset)
 
   -- by what was read
-  read-verdict : (v : InstRead) → Shows s g types scratch spare p v → Verdict (judged room (entriesOf (p .types) types) p v)
+  read-verdict : (v : InstRead) → Shows s g types scratch spare p v → Verdict (judged room (entriesOf (p .tracker .count) types) p v)
   unfolding Shows judged loadFrom readerAt
   read-verdict (inst.Got d) x = cell-verdict d x (layoutOf (d .opcode) (p .state)) refl
   read-verdict (inst.Refused y) x = λ h ks n w. rw (word-left s (p .at) w, x .read)
 
   -- by the answer
-  pub verdict : (v : InstRead) → Shows s g types scratch spare p v → (r : Judged) → r ≡ judged room (entriesOf (p .types) types) p v
+  pub verdict : (v : InstRead) → Shows s g types scratch spare p v → (r : Judged) → r ≡ judged room (entriesOf (p .tracker .count) types) p v
       → (z : Judged) → r ≡ z → Verdict z
   verdict v x r e z q = subst Verdict (sym e ∙ q) (read-verdict v x)

@@ -19,6 +19,7 @@ use Rattle.demands.proofs.Instructions.{Frames, instr-read}
 use Rattle.grammar.specs.Index.{Indexed}
 use Rattle.operand.specs.Log.{Laid}
 use Rattle.tracker.specs.Entries.{entriesOf, stored}
+use Rattle.tracker.specs.declared.TypeTracker.{TypeTracker}
 use Rattle.tracker.specs.Hints.{Hinted}
 use Rattle.parser.specs.declared.inst.Decoded.{Decoded}
 use Rattle.parser.specs.declared.inst.InstRead.{InstRead}
@@ -56,10 +57,6 @@ log-short g index ix es s at i r b e =
     in
     omega (arith, log-some b (i .operands), z .count)
 
--- no bytes leave a store as it was
-pub none-kept : (l : List ℕ) (at n : ℕ) (bs : List ℕ) → n ≡ 0 → l ≡ sets l at (take n bs)
-none-kept l at n bs e = rw e
-
 module _ {s g types scratch spare : List ℕ} {p : Progress} {d : Decoded} (h : Shown s g types scratch spare p d) where
   -- where records and strings are short, they are in scratch and spare
   pub from-scratch : d .log ≤ length scratch → d .strings ≤ length spare → (l₀ s₀ l₁ s₁ : List ℕ)
@@ -80,7 +77,7 @@ module _ {s g types scratch spare : List ℕ} {p : Progress} {d : Decoded} (h : 
   -- else they are read again
   pub from-module : (l₀ s₀ l₁ s₁ : List ℕ) → p .log + d .log ≤ length l₀ → p .strings + d .strings ≤ length s₀ → (v : InstRead)
       → (u : Used) → u ≡ unused (p .log) (p .strings) 0
-      → Decodes s (p .at) (bodyRead g (entriesOf (p .types) types) s (frameOf (p .at) d)) l₀ s₀ l₁ s₁ u v → Stored s g types l₀ s₀ l₁ s₁ p
+      → Decodes s (p .at) (bodyRead g (entriesOf (p .tracker .count) types) s (frameOf (p .at) d)) l₀ s₀ l₁ s₁ u v → Stored s g types l₀ s₀ l₁ s₁ p
   unfolding Stored Decodes unused
   from-module l₀ s₀ l₁ s₁ fl fs (Got c) u e told i r f =
       let k = rw e at told in
@@ -100,21 +97,20 @@ module _ {s g types scratch spare : List ℕ} {p : Progress} {d : Decoded} (h : 
 -- THE RECORD AND THE ENTRY
 
 -- a load that stands behind an instruction whose record and entry are stored
-pub recorded : (i₀ t₀ i₁ t₁ h₁ : List ℕ) (t : Taken) (f : Fields) (n top : ℕ) → f ≡ fieldsBy (t .from) (t .read) (t .tag)
-    → i₁ ≡ sets i₀ (recordSize * t .from .instructions) (fieldWords f) → n ≡ length (tracked (t .read) (entriesOf (t .from .types) t₀))
-    → t₁ ≡ stored t₀ (tracked (t .read) (entriesOf (t .from .types) t₀)) → Hinted n t₁ h₁ top
+pub recorded : (i₀ t₀ i₁ t₁ h₁ : List ℕ) (t : Taken) (f : Fields) (r : TypeTracker) → f ≡ fieldsBy (t .from) (t .read) (t .tag)
+    → i₁ ≡ sets i₀ (recordSize * t .from .instructions) (fieldWords f) → r .count ≡ length (tracked (t .read) (entriesOf (t .from .tracker .count) t₀))
+    → t₁ ≡ stored t₀ (tracked (t .read) (entriesOf (t .from .tracker .count) t₀)) → Hinted r t₁ h₁
     → Recorded i₀ t₀ i₁ t₁ h₁ t
     (record {
       at = t .from .at + 4 * t .read .words;
       instructions = t .from .instructions + 1;
       log = t .from .log + t .read .log;
       strings = t .from .strings + t .read .strings;
-      types = n;
-      greatest = top;
+      tracker = r;
       state = t .state;
     })
 unfolding needOf
-recorded i₀ t₀ i₁ t₁ h₁ t f n top ef ei en et hint =
+recorded i₀ t₀ i₁ t₁ h₁ t f r ef ei en et hint =
     record {
       at = refl;
       used = ap (counts (t .from .instructions + 1) (t .from .log + t .read .log) (t .from .strings + t .read .strings)) en;

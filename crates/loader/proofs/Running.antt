@@ -28,6 +28,8 @@ use Rattle.demands.proofs.Room.{fits-covers}
 use Rattle.demands.proofs.Stores.{records-length, strings-more, log-more}
 use Rattle.grammar.specs.Index.{Indexed}
 use Rattle.tracker.specs.Entries.{entriesOf, stored}
+use Rattle.tracker.specs.Hints.{Blank}
+use Rattle.tracker.specs.declared.TypeTracker.{TypeTracker}
 use Rattle.tracker.proofs.Hinting.{hinted-none}
 use Rattle.loader.specs.declared.parts.Progress.{Progress}
 use Rattle.loader.specs.declared.parts.Taken.{Taken}
@@ -75,7 +77,7 @@ pub record Running (s g : List ℕ) (room : Counts) (before now : Stores) (h₀ 
   pub fuel : ℕ
   pub left : (h : List ℕ)
       → loadFrom (grammarOf g) (roomIn before) h (length s / 4) emptyBook (readerAt s 20 Unlimited)
-      ≡ loadFrom (grammarOf g) room h fuel (bookOf kept (entriesOf (p .types) (now .types)) p) (readerAt s (p .at) Unlimited)
+      ≡ loadFrom (grammarOf g) room h fuel (bookOf kept (entriesOf (p .tracker .count) (now .types)) p) (readerAt s (p .at) Unlimited)
   pub enough : length s ≤ p .at + 4 * fuel + 3
   pub inside : p .at ≤ length s
   pub short : length s ≤ 67108864
@@ -87,18 +89,19 @@ pub record Running (s g : List ℕ) (room : Counts) (before now : Stores) (h₀ 
   pub instructions-are : now .instructions ≡ sets (before .instructions) 0 (recordsFrom 0 kept)
   pub log-is : now .log ≡ sets (before .log) 0 (logFrom 0 kept)
   pub strings-are : now .strings ≡ sets (before .strings) 0 (stringStore kept)
-  pub types-are : now .types ≡ stored (before .types) (entriesOf (p .types) (now .types))
+  pub types-are : now .types ≡ stored (before .types) (entriesOf (p .tracker .count) (now .types))
   pub typed : Typed (now .types) hs p
   pub same-hints : length hs ≡ length h₀
 
 -- at the start nothing is kept
 pub start : (s g : List ℕ) (room : Counts) (before : Stores) (h₀ : List ℕ)
     → room ≡ roomOf (length (before .instructions)) (length (before .log)) (length (before .strings)) (length (before .types)) → 20 ≤ length s → length s ≤ 67108864
-    → Running s g room before before h₀ h₀
-    (record { at = 20; instructions = 0; log = 0; strings = 0; types = 0; greatest = 0; state = Outside })
+    → (t : TypeTracker) (m : ℕ) → t ≡ record { count = 0; greatest = 0; marks = m } → m + 2048 ≤ length h₀ → Blank h₀
+    → Running s g room before before h₀ h₀ (record { at = 20; instructions = 0; log = 0; strings = 0; tracker = t; state = Outside })
 unfolding roomIn entriesOf recordsFrom logFrom stringStore stored laidOver
-start s g room before h₀ e few short =
-    record {
+start s g room before h₀ e few short t m q fits blank =
+    rw q
+    (record {
       kept = [];
       fuel = length s / 4;
       left = λ h. ap (λ (u : Counts). loadFrom (grammarOf g) u h (length s / 4) emptyBook (readerAt s 20 Unlimited)) (sym e);
@@ -114,9 +117,9 @@ start s g room before h₀ e few short =
       log-is = refl;
       strings-are = refl;
       types-are = refl;
-      typed = record { inside = omega arith; hinted = hinted-none (before .types) h₀ 0 };
+      typed = record { inside = omega arith; hinted = hinted-none (before .types) h₀ 0 m fits blank };
       same-hints = refl;
-    }
+    })
 
 module _ {s g : List ℕ} {room : Counts} {before now : Stores} {h₀ hs : List ℕ} {p : Progress} (r : Running s g room before now h₀ hs p) where
   -- no store has changed its length
@@ -131,7 +134,7 @@ module _ {s g : List ℕ} {room : Counts} {before now : Stores} {h₀ hs : List 
 
   pub same-types : length (now .types) ≡ length (before .types)
   unfolding stored laidOver
-  same-types = ap length (r .types-are) ∙ length-sets (before .types) 0 (joined entryWords (entriesOf (p .types) (now .types)))
+  same-types = ap length (r .types-are) ∙ length-sets (before .types) 0 (joined entryWords (entriesOf (p .tracker .count) (now .types)))
 
   -- few instructions are kept
   pub few-kept : p .instructions < 67108864
@@ -143,7 +146,7 @@ module _ {s g : List ℕ} {room : Counts} {before now : Stores} {h₀ hs : List 
   stopped : (y : Refusal)
       → ((h : List ℕ)
       → loadFrom (grammarOf g) (roomIn before) h (length s / 4) emptyBook (readerAt s 20 Unlimited)
-      ≡ stop h (bookOf (r .kept) (entriesOf (p .types) (now .types)) p) (y .number) (y .place) (y .value))
+      ≡ stop h (bookOf (r .kept) (entriesOf (p .tracker .count) (now .types)) p) (y .number) (y .place) (y .value))
       → LoadsFrom g s before now (record { progress = p; refusal = y })
   unfolding LoadsFrom saidAt storesOf laidOn laidOver stored
   stopped y e h =
@@ -160,7 +163,7 @@ module _ {s g : List ℕ} {room : Counts} {before now : Stores} {h₀ hs : List 
   pub ends : length s - p .at < 4 → (n : ℕ) → n ≡ endNumber (p .state)
       → LoadsFrom g s before now (record { progress = p; refusal = refusal n (p .at) 0 })
   ends none n e =
-      let b = bookOf (r .kept) (entriesOf (p .types) (now .types)) p in
+      let b = bookOf (r .kept) (entriesOf (p .tracker .count) (now .types)) p in
       stopped (refusal n (p .at) 0)
       (λ h.
       r .left h ∙ load-ends (grammarOf g) room h s (p .at) (r .fuel) b none ∙ ap (λ (m : ℕ). stop h b m (p .at) 0) (sym e))
@@ -169,11 +172,11 @@ module _ {s g : List ℕ} {room : Counts} {before now : Stores} {h₀ hs : List 
     -- what is left, where there is fuel
     left-more : (h : List ℕ)
         → loadFrom (grammarOf g) (roomIn before) h (length s / 4) emptyBook (readerAt s 20 Unlimited)
-        ≡ loadFrom (grammarOf g) room h (suc (r .fuel - 1)) (bookOf (r .kept) (entriesOf (p .types) (now .types)) p) (readerAt s (p .at) Unlimited)
+        ≡ loadFrom (grammarOf g) room h (suc (r .fuel - 1)) (bookOf (r .kept) (entriesOf (p .tracker .count) (now .types)) p) (readerAt s (p .at) Unlimited)
     left-more h =
         let some : r .fuel ≡ suc (r .fuel - 1) = omega (arith, r .enough) in
         r .left h
-        ∙ ap (λ (n : ℕ). loadFrom (grammarOf g) room h n (bookOf (r .kept) (entriesOf (p .types) (now .types)) p) (readerAt s (p .at) Unlimited))
+        ∙ ap (λ (n : ℕ). loadFrom (grammarOf g) room h n (bookOf (r .kept) (entriesOf (p .tracker .count) (now .types)) p) (readerAt s (p .at) Unlimited))
         some
 
     -- the load stops at an instruction
@@ -189,7 +192,7 @@ module _ {s g : List ℕ} {room : Counts} {before now : Stores} {h₀ hs : List 
   here = subst (Running s g room before now h₀ hs) (sym (a .from)) was
 
   -- each store covers what is needed
-  covered : Covers room (needOf (t .from) (t .read) (entriesOf (t .from .types) (now .types)))
+  covered : Covers room (needOf (t .from) (t .read) (entriesOf (t .from .tracker .count) (now .types)))
   covered = fits-covers _ _ (a .fits)
 
   -- log and strings have room
@@ -206,7 +209,7 @@ module _ {s g : List ℕ} {room : Counts} {before now : Stores} {h₀ hs : List 
   record-fits = omega (arith, covered .instructions, ap (λ (c : Counts). c .instructions) (here .room-is), same-instructions here)
 
   -- and the type entries
-  pub entries-fit : entrySize * length (tracked (t .read) (entriesOf (t .from .types) (now .types))) ≤ length (now .types)
+  pub entries-fit : entrySize * length (tracked (t .read) (entriesOf (t .from .tracker .count) (now .types))) ≤ length (now .types)
   unfolding roomIn roomOf needOf
   entries-fit = omega (arith, covered .types, ap (λ (c : Counts). c .types) (here .room-is), same-types here)
 
@@ -231,17 +234,17 @@ module _ {s g : List ℕ} {room : Counts} {before now : Stores} {h₀ hs : List 
           let i = h .instr in
           let ks = here .kept in
           let pl = placedAs i (t .tag) in
-          let es = entriesOf (f .types) (now .types) in
+          let es = entriesOf (f .tracker .count) (now .types) in
           let laid = st i _ (h .read) in
           let one = ap (λ (c : Counts). c .instructions) (k .used) in
           let logged = ap (λ (c : Counts). c .log) (k .used) in
           let strung = ap (λ (c : Counts). c .strings) (k .used) in
           let typed = ap (λ (c : Counts). c .types) (k .used) in
           let types-are : t₁ ≡ stored (now .types) (track i es) = k .types-are ∙ ap (stored (now .types)) (tracked-is (a .shown) es) in
-          let count : length (track i es) ≡ q .types = ap length (sym (tracked-is (a .shown) es)) ∙ sym typed in
+          let count : length (track i es) ≡ q .tracker .count = ap length (sym (tracked-is (a .shown) es)) ∙ sym typed in
           let size : length t₁ ≡ length (now .types) = ap length (k .types-are) ∙ length-sets (now .types) 0 (joined entryWords (tracked d es)) in
-          let fit : entrySize * q .types ≤ length (before .types) = omega (arith, entries-fit, typed, same-types here) in
-          let en = entries-next (before .types) (now .types) t₁ (f .types) (q .types) i (same-types here) (here .types-are) types-are count fit in
+          let fit : entrySize * q .tracker .count ≤ length (before .types) = omega (arith, entries-fit, typed, same-types here) in
+          let en = entries-next (before .types) (now .types) t₁ (f .tracker .count) (q .tracker .count) i (same-types here) (here .types-are) types-are count fit in
           let strs : 0 + length (stringStore ks) ≡ f .strings = zero-add (length (stringStore ks)) ∙ here .nstrings in
           let logs : logFrom 0 (ks ++ (pl ∷ [])) ≡ logFrom 0 ks ++ operandsLog (f .strings) (i .operands) =
           log-more 0 ks pl ∙ ap (λ (n : ℕ). logFrom 0 ks ++ operandsLog n (i .operands)) strs
@@ -289,7 +292,7 @@ module _ {s g : List ℕ} {room : Counts} {before now : Stores} {h₀ hs : List 
             strings-are =
                 grow (before .strings) (now .strings) w₁ (stringStore ks) (operandsStrings (i .operands)) _ (f .strings) (here .strings-are) (here .nstrings) (laid .1)
                 (strings-more ks pl);
-            types-are = types-next (before .types) (now .types) t₁ (f .types) (q .types) i (same-types here) (here .types-are) types-are count fit;
+            types-are = types-next (before .types) (now .types) t₁ (f .tracker .count) (q .tracker .count) i (same-types here) (here .types-are) types-are count fit;
             typed = record { inside = omega (arith, entries-fit, typed, size); hinted = k .hinted };
             same-hints = same ∙ here .same-hints;
           }

@@ -38,7 +38,7 @@ use Rattle.loader.specs.declared.step.Judged.the-variants.{Got, Refused}
 
 -- what is kept
 abbrev pub usedBy : Progress → Counts
-usedBy p = counts (p .instructions) (p .log) (p .strings) (p .types)
+usedBy p = counts (p .instructions) (p .log) (p .strings) (p .tracker .count)
 
 -- the answer of a load that stopped at the instruction after those kept
 unfoldable pub saidAt : List ℕ → Ended → Loaded
@@ -54,7 +54,7 @@ saidAt h e =
 
 -- the next instruction, by the types known
 abbrev pub readAt : List ℕ → List ℕ → List ℕ → Progress → Read Instr
-readAt s g types p = readInstr (grammarOf g) (entriesOf (p .types) types) (readerAt s (p .at) Unlimited)
+readAt s g types p = readInstr (grammarOf g) (entriesOf (p .tracker .count) types) (readerAt s (p .at) Unlimited)
 
 -- the load stands in a module, and what is kept is in proportion to what was read
 pub record Bounded (p : Progress) : Type 0 where
@@ -65,8 +65,8 @@ pub record Bounded (p : Progress) : Type 0 where
 
 -- the entries lie in the store, and the hints are theirs
 pub record Typed (types hints : List ℕ) (p : Progress) : Type 0 where
-  pub inside : entrySize * p .types ≤ length types
-  pub hinted : Hinted (p .types) types hints (p .greatest)
+  pub inside : entrySize * p .tracker .count ≤ length types
+  pub hinted : Hinted (p .tracker) types hints
 
 -- A DECODED INSTRUCTION
 
@@ -121,7 +121,7 @@ pub record Shown (s g types scratch spare : List ℕ) (p : Progress) (d : Decode
   pub scratch₀ : List ℕ
   pub spare₀ : List ℕ
   pub handed : Handed s (p .at) (readAt s g types p) scratch₀ spare₀ scratch spare (unused 0 0 (p .strings)) d
-  pub row : ByRow g (entriesOf (p .types) types) s (p .at) (readAt s g types p) d
+  pub row : ByRow g (entriesOf (p .tracker .count) types) s (p .at) (readAt s g types p) d
 
 -- by what was read
 unfoldable pub Shows : List ℕ → List ℕ → List ℕ → List ℕ → List ℕ → Progress → InstRead → Type 0
@@ -157,8 +157,8 @@ Stored s g types l₀ s₀ l₁ s₁ p =
 -- behind it
 pub record Recorded (i₀ t₀ i₁ t₁ h₁ : List ℕ) (t : Taken) (r : Progress) : Type 0 where
   pub at : r .at ≡ t .from .at + 4 * t .read .words
-  pub used : usedBy r ≡ needOf (t .from) (t .read) (entriesOf (t .from .types) t₀)
+  pub used : usedBy r ≡ needOf (t .from) (t .read) (entriesOf (t .from .tracker .count) t₀)
   pub state : r .state ≡ t .state
   pub instructions-are : i₁ ≡ sets i₀ (recordSize * t .from .instructions) (fieldWords (fieldsBy (t .from) (t .read) (t .tag)))
-  pub types-are : t₁ ≡ stored t₀ (tracked (t .read) (entriesOf (t .from .types) t₀))
-  pub hinted : Hinted (r .types) t₁ h₁ (r .greatest)
+  pub types-are : t₁ ≡ stored t₀ (tracked (t .read) (entriesOf (t .from .tracker .count) t₀))
+  pub hinted : Hinted (r .tracker) t₁ h₁

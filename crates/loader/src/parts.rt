@@ -15,16 +15,15 @@ use spec::Refusal;
 use spec::State;
 use spec::refusals;
 use tracker::Id;
+use tracker::TypeTracker;
 
-// Where a load stands: the place of the next instruction, what is kept so far, an id above which none has a type, and the state of the
-// layout.
+// Where a load stands: the place of the next instruction, what is kept so far, and the state of the layout.
 pub struct Progress {
     pub at: usize,
     pub instructions: usize,
     pub log: usize,
     pub strings: usize,
-    pub types: usize,
-    pub greatest: u32,
+    pub tracker: TypeTracker,
     pub state: State,
 }
 
@@ -84,7 +83,7 @@ pub fn stopped(header: [u32; 5], e: Ended) -> Loaded
         instructions: p.instructions,
         log: p.log,
         strings: p.strings,
-        types: p.types,
+        types: p.tracker.count,
     };
     Loaded {
         number: x.number,

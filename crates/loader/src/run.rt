@@ -5,6 +5,7 @@ ghost use lib.ListN.{length};
 ghost use Rattle.spec.specs.Load.{lent};
 ghost use Rattle.reflect.specs.Column.{layoutTable, kindTable};
 ghost use Rattle.grammar.specs.Index.{Indexed};
+ghost use Rattle.tracker.specs.Hints.{Blank};
 ghost use Rattle.loader.specs.Loading.{LoadsFrom, LoadsWith};
 use crate::parts::Ended;
 use crate::parts::Progress;
@@ -22,11 +23,12 @@ use spec::Loaded;
 use spec::Refusal;
 use spec::State;
 use spec::refusals;
+use tracker::TypeTracker;
 
-// How many ids have a hint of where their type is, and how many in a short module.
+// How many hints there are of where the type of an id is, and how many for a short module.
 const HINTS: usize = 32768;
 
-const FEW_HINTS: usize = 2048;
+const FEW_HINTS: usize = 2560;
 
 // A module of so many bytes or less is short.
 pub const SHORT: usize = 16384;
@@ -34,8 +36,10 @@ pub const SHORT: usize = 16384;
 // A module has so many bytes at most.
 const LONGEST: usize = 67108864;
 
-// A header has so many bytes.
+// A header has so many bytes, and the bound of the ids stands there.
 const HEADER: usize = 20;
+
+const BOUND: usize = 12;
 
 // So long may the records of an instruction be that is read once, and so long its strings.
 const SCRATCH: usize = 576;
@@ -60,19 +64,21 @@ fn load_from(
     requires { ⌜ Indexed (now g) (now index) ⌝ }
     requires { ⌜ (20 ≤ length (now s)) × (length (now s) ≤ 67108864) ⌝ }
     requires { ⌜ (now table ≡ layoutTable) × (now kinds ≡ kindTable) ⌝ }
+    requires { ⌜ (2048 ≤ length (now hints)) × Blank (now hints) ⌝ }
     ensures { λ r. ⌜ LoadsFrom (now (g .entry)) (now (s .entry))
         (lent (now (instructions .entry)) (now (log .entry)) (now (strings .entry)) (now (types .entry)))
         (lent (now (instructions .exit)) (now (log .exit)) (now (strings .exit)) (now (types .exit))) r ⌝ }
     ensures { λ r. ⌜ r .progress .instructions < 67108864 ⌝ }
 {
     let room = room_in(instructions.len(), log.len(), strings.len(), types.len());
+    let bound = words::word_at(s, BOUND);
+    let tracker = TypeTracker::new(bound, hints.len());
     let mut p = Progress {
         at: HEADER,
         instructions: 0,
         log: 0,
         strings: 0,
-        types: 0,
-        greatest: 0,
+        tracker,
         state: State::Outside,
     };
     while 4 <= s.len() - p.at {
@@ -124,6 +130,7 @@ fn load_with(
 ) -> Loaded
     requires { ⌜ Indexed (now g) (now index) ⌝ }
     requires { ⌜ (now table ≡ layoutTable) × (now kinds ≡ kindTable) ⌝ }
+    requires { ⌜ (2048 ≤ length (now hints)) × Blank (now hints) ⌝ }
     ensures { λ r. ⌜ LoadsWith (now (g .entry)) (now (s .entry))
         (lent (now (instructions .entry)) (now (log .entry)) (now (strings .entry)) (now (types .entry)))
         (lent (now (instructions .exit)) (now (log .exit)) (now (strings .exit)) (now (types .exit))) r ⌝ }

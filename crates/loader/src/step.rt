@@ -26,7 +26,6 @@ use spec::Refusal;
 use spec::State;
 use spec::refusals;
 use tracker::Told;
-use tracker::TypeTracker;
 
 // What becomes of an instruction before anything is kept: it goes in, with a tag and the state after it, or is refused.
 pub enum Judged {
@@ -54,10 +53,7 @@ pub fn decode(
 {
     let at = p.at;
     let base = p.strings;
-    let tracker = TypeTracker {
-        count: p.types,
-        greatest: p.greatest,
-    };
+    let tracker = p.tracker;
     let used = unused(0, 0, base);
     parse_inst(s, at, g, index, types, hints, tracker, scratch, spare, used)
 }
@@ -68,14 +64,11 @@ pub fn decode(
 fn need_after(types: &[u32], hints: &[u16], room: Counts, p: Progress, d: Decoded) -> Counts
     requires { ⌜ Bounded p × Typed (now types) (now hints) p ⌝ }
     requires { ⌜ Moderate d ⌝ }
-    ensures { λ r. ⌜ roomFault room r ≡ roomFault room (needOf p d (entriesOf (p .types) (now (types .entry)))) ⌝ }
+    ensures { λ r. ⌜ roomFault room r ≡ roomFault room (needOf p d (entriesOf (p .tracker .count) (now (types .entry)))) ⌝ }
 {
-    let mut entries = p.types + 1;
+    let mut entries = p.tracker.count + 1;
     if room.types < entries {
-        let tracker = TypeTracker {
-            count: p.types,
-            greatest: p.greatest,
-        };
+        let tracker = p.tracker;
         let rtype = d.rtype;
         let rid = d.rid;
         let first = d.first;
@@ -123,7 +116,7 @@ pub fn admit(
     requires { ⌜ (now table ≡ layoutTable) × (now kinds ≡ kindTable) ⌝ }
     requires { ⌜ Bounded p × Typed (now types) (now hints) p ⌝ }
     requires { ⌜ Fair read ⌝ }
-    ensures { λ r. ⌜ r ≡ judged room (entriesOf (p .types) (now (types .entry))) p read ⌝ }
+    ensures { λ r. ⌜ r ≡ judged room (entriesOf (p .tracker .count) (now (types .entry))) p read ⌝ }
 {
     match read {
         InstRead::Refused(x) => Judged::Refused(x),
@@ -177,17 +170,11 @@ pub fn keep_operands(
     if size <= scratch.len() {
         if more <= spare.len() {
             words::put_bytes(log, log_to, &scratch[..size]);
-            if more == 0 {
-                return;
-            }
             words::put_bytes(strings, strings_to, &spare[..more]);
             return;
         }
     }
-    let tracker = TypeTracker {
-        count: p.types,
-        greatest: p.greatest,
-    };
+    let tracker = p.tracker;
     let frame = Frame {
         at,
         words: d.words,
@@ -219,17 +206,14 @@ pub fn keep_record(
     requires { ⌜ Bounded (t .from) × Typed (now types) (now hints) (t .from) ⌝ }
     requires { ⌜ Moderate (t .read) ⌝ }
     requires { ⌜ recordSize * t .from .instructions + recordSize ≤ length (now instructions) ⌝ }
-    requires { ⌜ entrySize * length (tracked (t .read) (entriesOf (t .from .types) (now types))) ≤ length (now types) ⌝ }
+    requires { ⌜ entrySize * length (tracked (t .read) (entriesOf (t .from .tracker .count) (now types))) ≤ length (now types) ⌝ }
     ensures { λ r. ⌜ Recorded (now (instructions .entry)) (now (types .entry)) (now (instructions .exit)) (now (types .exit)) (now (hints .exit)) t r ⌝ }
 {
     let p = t.from;
     let d = t.read;
     let fields = fields_of(p, d, t.tag);
     records::put_fields(instructions, RECORD * p.instructions, fields);
-    let tracker = TypeTracker {
-        count: p.types,
-        greatest: p.greatest,
-    };
+    let tracker = p.tracker;
     let rtype = d.rtype;
     let rid = d.rid;
     let first = d.first;
@@ -249,8 +233,7 @@ pub fn keep_record(
         instructions: p.instructions + 1,
         log: p.log + d.log,
         strings: p.strings + d.strings,
-        types: tracked.count,
-        greatest: tracked.greatest,
+        tracker: tracked,
         state,
     }
 }

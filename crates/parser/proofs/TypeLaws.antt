@@ -3,14 +3,13 @@ use Prim.Native.Nat.{ℕ}
 use mathlib.Core.Path.{_≡_, refl, ap, sym, _∙_}
 use mathlib.Core.Bool.{Bool, true, false, _||_}
 use mathlib.Core.List.{List, [], _∷_}
-use mathlib.Core.Option.{Option}
+use mathlib.Core.Option.{Option, none, some}
 use borrow.Author.Tests.{eq-eqb, ne-eqb}
 use lib.Dec.{eqb}
 use Rattle.spec.specs.declared.Refusal.{Refusal}
 use Rattle.spec.specs.Base.{isIn}
 use Rattle.spec.specs.Kinds.{isLong}
-use Rattle.spec.specs.Records.{Operand, narrow, wide, Entry}
-use Rattle.spec.specs.Types.{entryOf}
+use Rattle.spec.specs.Records.{Operand, narrow, wide, Entry, entry}
 use Rattle.spec.specs.Reader.{Reader, Read, got, refused, after, give, refusal, readWord, readLong, readerAt}
 use Rattle.spec.specs.Grammar.{Grammar}
 use Rattle.spec.specs.Match.{readOne, readEach, literalKind, literalKindOf, typeOf, readLiteralAs}
@@ -18,12 +17,9 @@ use Rattle.decoder.specs.declared.Decoder.{Decoder}
 use Rattle.decoder.specs.declared.LongRead.the-variants.{Got as Long, Refused as NoLong}
 use Rattle.decoder.specs.Answer.{readerOf, longFrom}
 use Rattle.decoder.proofs.Laws.{long-got, long-refused}
-use Rattle.tracker.specs.declared.Id.{Id}
-use Rattle.tracker.specs.declared.Id.the-variants.{Absent, Is}
 use Rattle.tracker.specs.declared.Resolved.{Resolved}
 use Rattle.tracker.specs.declared.Resolved.the-variants.{«Type», Unknown}
-use Rattle.tracker.specs.Entries.{resolvedIs}
-use Rattle.tracker.specs.Track.{idIs}
+use Rattle.tracker.specs.Entries.{resolvedBy, knownOf}
 use Rattle.parser.specs.declared.used.Used.{Used}
 use Rattle.parser.specs.Parse.{wordIs, selectorOf, prefix, isWord, kindIs, isLiteral, literalFor, literalAlone, pairAlone}
 use Rattle.parser.proofs.KindLaws.{not-kind, word-short, word-no-enum, word-no-text}
@@ -74,32 +70,41 @@ unfolding kindIs isLiteral
 integer-none w h e =
     let z : isIn w (8 ∷ 16 ∷ 32 ∷ []) ≡ false = in-three (eqb w 8) (eqb w 16) (eqb w 32) ∙ h in (simp (z, ne-eqb w 64 e), refl)
 
--- no id: one word
-pub kind-absent : (types : List Entry) (id : Id) → id ≡ Absent → (kindIs 34 ≡ literalKindOf (typeOf (idIs id) types)) × (isLiteral 34 ≡ true)
-unfolding idIs kindIs isLiteral
-kind-absent types id e = (rw e, refl)
+-- the kind by what is known of an id: one word where that is nothing
+abbrev kindBy : Resolved → Option ℕ
+kindBy («Type» w s) = literalKind w s
+kindBy Unknown = some 34
 
-module _ (types : List Entry) (id : Id) (i : ℕ) (e : id ≡ Is i) (r : Resolved) (h : resolvedIs i r ≡ entryOf i types) where
-  -- an id whose type is not known: one word
-  pub kind-unknown : r ≡ Unknown → (kindIs 34 ≡ literalKindOf (typeOf (idIs id) types)) × (isLiteral 34 ≡ true)
-  unfolding idIs kindIs isLiteral resolvedIs
-  kind-unknown q = (rw e (ap literalKindOf (sym (ap (resolvedIs i) q) ∙ h)), refl)
+-- it is the kind by the entry
+kind-by : (x : Option Entry) → kindBy (resolvedBy x) ≡ literalKindOf x
+unfolding resolvedBy
+kind-by none = refl
+kind-by (some (entry id w s)) = refl
 
-  type-is : (w s : ℕ) → r ≡ «Type» w s → literalKind w s ≡ literalKindOf (typeOf (idIs id) types)
-  unfolding idIs resolvedIs
-  type-is w s q = rw e (ap literalKindOf (sym (ap (resolvedIs i) q) ∙ h))
+module _ (r : Resolved) where
+  -- what is known of an id decides its kind
+  kind-known : (k : ℕ) → kindIs k ≡ kindBy r → (i : Option ℕ) (es : List Entry) → r ≡ knownOf i es → kindIs k ≡ literalKindOf (typeOf i es)
+  unfolding knownOf
+  kind-known k p i es q = p ∙ ap kindBy q ∙ kind-by (typeOf i es)
 
-  -- a float's
-  pub kind-float : (w s k : ℕ) → r ≡ «Type» w s → s ≡ 3 → (kindIs k ≡ literalKind w 3) × (isLiteral k ≡ true)
-      → (kindIs k ≡ literalKindOf (typeOf (idIs id) types)) × (isLiteral k ≡ true)
-  kind-float w s k q z p = (p .0 ∙ ap (literalKind w) (sym z) ∙ type-is w s q, p .1)
+  -- nothing: one word
+  pub kind-unknown : r ≡ Unknown
+      → ((i : Option ℕ) (es : List Entry) → r ≡ knownOf i es → kindIs 34 ≡ literalKindOf (typeOf i es)) × (isLiteral 34 ≡ true)
+  unfolding kindIs isLiteral
+  kind-unknown e = (kind-known 34 (sym (ap kindBy e)), refl)
 
-  -- an integer's
-  pub kind-integer : (w s k : ℕ) → r ≡ «Type» w s → (s ≡ 3 → ⊥) → (kindIs k ≡ literalKind w 1) × (isLiteral k ≡ true)
-      → (kindIs k ≡ literalKindOf (typeOf (idIs id) types)) × (isLiteral k ≡ true)
-  kind-integer w s k q z p =
-      let same : literalKind w 1 ≡ literalKind w s = simp (ne-eqb s 3 z) in
-      (p .0 ∙ same ∙ type-is w s q, p .1)
+  module _ (w s k : ℕ) (e : r ≡ «Type» w s) where
+    -- a float's
+    pub kind-float : s ≡ 3 → (kindIs k ≡ literalKind w 3) × (isLiteral k ≡ true)
+        → ((i : Option ℕ) (es : List Entry) → r ≡ knownOf i es → kindIs k ≡ literalKindOf (typeOf i es)) × (isLiteral k ≡ true)
+    kind-float z p = (kind-known k (p .0 ∙ ap (literalKind w) (sym z) ∙ sym (ap kindBy e)), p .1)
+
+    -- an integer's
+    pub kind-integer : (s ≡ 3 → ⊥) → (kindIs k ≡ literalKind w 1) × (isLiteral k ≡ true)
+        → ((i : Option ℕ) (es : List Entry) → r ≡ knownOf i es → kindIs k ≡ literalKindOf (typeOf i es)) × (isLiteral k ≡ true)
+    kind-integer z p =
+        let same : literalKind w 1 ≡ literalKind w s = simp (ne-eqb s 3 z) in
+        (kind-known k (p .0 ∙ same ∙ sym (ap kindBy e)), p .1)
 
 -- THE KIND FOR AN OPERAND
 

@@ -116,7 +116,7 @@ pub fn parse_body(
     requires { ⌜ Indexed (now g) (now index) ⌝ }
     requires { ⌜ Framed (now s) (now g) frame × Fresh (frame .at) used ⌝ }
     requires { ⌜ 3 * tracker .count ≤ length (now types) ⌝ }
-    requires { ⌜ Hinted (tracker .count) (now types) (now hints) (tracker .greatest) ⌝ }
+    requires { ⌜ Hinted tracker (now types) (now hints) ⌝ }
     ensures { λ r. ⌜ Decodes (now (s .entry)) (frame .at) (bodyRead (now (g .entry)) (entriesOf (tracker .count) (now (types .entry))) (now (s .entry)) frame) (now (log .entry)) (now (strings .entry)) (now (log .exit)) (now (strings .exit)) used r ⌝ }
     ensures { λ r. ⌜ ShapeIs frame r ⌝ }
 {
@@ -168,7 +168,7 @@ pub fn parse_inst(
     requires { ⌜ Indexed (now g) (now index) ⌝ }
     requires { ⌜ (length (now s) ≤ 67108864) × (at ≤ length (now s)) × Fresh at used ⌝ }
     requires { ⌜ 3 * tracker .count ≤ length (now types) ⌝ }
-    requires { ⌜ Hinted (tracker .count) (now types) (now hints) (tracker .greatest) ⌝ }
+    requires { ⌜ Hinted tracker (now types) (now hints) ⌝ }
     ensures { λ r. ⌜ DecodesOver (now (s .entry)) at (readInstr (grammarOf (now (g .entry))) (entriesOf (tracker .count) (now (types .entry))) (readerAt (now (s .entry)) at Unlimited)) (now (log .exit)) (now (strings .exit)) used r ⌝ }
     ensures { λ r. ⌜ RowIs (now (g .entry)) (entriesOf (tracker .count) (now (types .entry))) (now (s .entry)) at (readInstr (grammarOf (now (g .entry))) (entriesOf (tracker .count) (now (types .entry))) (readerAt (now (s .entry)) at Unlimited)) r ⌝ }
 {
@@ -210,6 +210,9 @@ pub fn parse_inst(
             if let Simple::Got(e, u) = simple {
                 return finished(frame, e, u);
             }
+            // Copies, which the call is handed: so the short walk's own need not lie in memory.
+            let whole = frame;
+            let from = used;
             parse_body(
                 s,
                 g,
@@ -217,10 +220,10 @@ pub fn parse_inst(
                 types,
                 hints,
                 tracker,
-                frame,
+                whole,
                 log,
                 strings,
-                used,
+                from,
             )
         }
     }

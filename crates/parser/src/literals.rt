@@ -1,14 +1,16 @@
 // Literals by the type of an id: of which kind, then read.
 ghost use mathlib.Core.Path.{_≡_};
 ghost use mathlib.Core.Bool.{true};
-ghost use Prim.Native.Nat.{_*_, _≤_};
+ghost use mathlib.Core.List.{List};
+ghost use mathlib.Core.Option.{Option};
+ghost use Prim.Native.Nat.{ℕ, _*_, _≤_};
 ghost use lib.ListN.{length};
+ghost use Rattle.spec.specs.Records.{Entry};
 ghost use Rattle.spec.specs.Match.{literalKind, literalKindOf, typeOf};
 ghost use Rattle.decoder.specs.Answer.{readerOf};
 ghost use Rattle.grammar.specs.Index.{Indexed};
-ghost use Rattle.tracker.specs.Entries.{entriesOf};
+ghost use Rattle.tracker.specs.Entries.{entriesOf, knownOf};
 ghost use Rattle.tracker.specs.Hints.{Hinted};
-ghost use Rattle.tracker.specs.Track.{idIs};
 ghost use Rattle.parser.specs.Parse.{FirstFits, Few, Parses, kindIs, isLiteral, literalFor, literalAlone, pairAlone};
 use crate::operands::read_one;
 use crate::used::Parsed;
@@ -21,7 +23,6 @@ use decoder::Decoder;
 use decoder::LongRead;
 use spec::kinds;
 use spec::refusals;
-use tracker::Id;
 use tracker::Resolved;
 use tracker::TypeTracker;
 
@@ -51,17 +52,11 @@ fn integer_kind(width: u32) -> u8
     0
 }
 
-// The kind of a literal by the type of an id: one word where it is not known.
-pub fn literal_kind(types: &[u32], hints: &[u16], tracker: TypeTracker, id: Id) -> u8
-    requires { ⌜ 3 * tracker .count ≤ length (now types) ⌝ }
-    requires { ⌜ Hinted (tracker .count) (now types) (now hints) (tracker .greatest) ⌝ }
-    ensures { λ r. ⌜ (kindIs r ≡ literalKindOf (typeOf (idIs id) (entriesOf (tracker .count) (now (types .entry))))) × (isLiteral r ≡ true) ⌝ }
+// The kind of a literal by a type: one word where it is not known.
+pub fn literal_kind(known: Resolved) -> u8
+    ensures { λ r. ⌜ ((i : Option ℕ) (es : List Entry) → known ≡ knownOf i es → kindIs r ≡ literalKindOf (typeOf i es)) × (isLiteral r ≡ true) ⌝ }
 {
-    let Id::Is(i) = id else {
-        return kinds::INT32;
-    };
-    let resolved = tracker.resolve(types, hints, i);
-    match resolved {
+    match known {
         Resolved::Unknown => kinds::INT32,
         Resolved::Type { width, sort } => {
             if sort == 3 {
@@ -75,17 +70,17 @@ pub fn literal_kind(types: &[u32], hints: &[u16], tracker: TypeTracker, id: Id) 
 // The kind of the literal that an operand of a row is read as: by the result type, by the first operand; for any other operand nothing.
 pub fn literal_for(types: &[u32], hints: &[u16], tracker: TypeTracker, kind: u8, u: Used) -> u8
     requires { ⌜ 3 * tracker .count ≤ length (now types) ⌝ }
-    requires { ⌜ Hinted (tracker .count) (now types) (now hints) (tracker .greatest) ⌝ }
+    requires { ⌜ Hinted tracker (now types) (now hints) ⌝ }
     requires { ⌜ FirstFits u ⌝ }
     ensures { λ r. ⌜ (kindIs r ≡ literalFor (entriesOf (tracker .count) (now (types .entry))) u kind) × (isLiteral r ≡ true) ⌝ }
 {
     if kind == kinds::TYPED_LITERAL {
         let id = id_of(u.rtype);
-        return literal_kind(types, hints, tracker, id);
+        return literal_kind(tracker.resolve(types, hints, id));
     }
     if kind == kinds::LITERAL_AND_ID {
         let id = selector_of(u);
-        return literal_kind(types, hints, tracker, id);
+        return literal_kind(tracker.resolve(types, hints, id));
     }
     0
 }

@@ -163,7 +163,7 @@ pub fn parse_operands(
     requires { ⌜ Indexed (now g) (now index) ⌝ }
     requires { ⌜ Framed (now s) (now g) frame × Fresh (frame .at) used ⌝ }
     requires { ⌜ 3 * tracker .count ≤ length (now types) ⌝ }
-    requires { ⌜ Hinted (tracker .count) (now types) (now hints) (tracker .greatest) ⌝ }
+    requires { ⌜ Hinted tracker (now types) (now hints) ⌝ }
     ensures { λ r. ⌜ Walks (now (s .entry)) (startOf frame) 0 (rowRead (now (g .entry)) (entriesOf (tracker .count) (now (types .entry))) (now (s .entry)) (startOf frame) (frame .place)) (now (log .entry)) (now (strings .entry)) (now (log .exit)) (now (strings .exit)) used r ⌝ }
 {
     let mut d = Decoder {

@@ -186,7 +186,7 @@ fn simple_slot(
     requires { ⌜ Few (now s) d u ⌝ }
     requires { ⌜ There (now s) d ⌝ }
     requires { ⌜ 3 * tracker .count ≤ length (now types) ⌝ }
-    requires { ⌜ Hinted (tracker .count) (now types) (now hints) (tracker .greatest) ⌝ }
+    requires { ⌜ Hinted tracker (now types) (now hints) ⌝ }
     ensures { λ r. ⌜ IfTaken (SlotWalks (now (s .entry)) d (λ x. readSlot (grammarOf (now (g .entry))) (entriesOf (tracker .count) (now (types .entry))) x kind (readerOf (now (s .entry)) d)) (now (log .entry)) (now (strings .entry)) (now (log .exit)) (now (strings .exit)) u) r ⌝ }
 {
     if grammar::is_result(kind) {
@@ -205,7 +205,7 @@ fn simple_slot(
     }
     if kind == kinds::TYPED_LITERAL {
         let id = id_of(u.rtype);
-        let literal = literal_kind(types, hints, tracker, id);
+        let literal = literal_kind(tracker.resolve(types, hints, id));
         return simple_literal(d, s, literal, log, u);
     }
     Simple::Pass
@@ -227,7 +227,7 @@ pub fn simple_operands(
     requires { ⌜ Indexed (now g) (now index) ⌝ }
     requires { ⌜ Framed (now s) (now g) frame × Fresh (frame .at) used ⌝ }
     requires { ⌜ 3 * tracker .count ≤ length (now types) ⌝ }
-    requires { ⌜ Hinted (tracker .count) (now types) (now hints) (tracker .greatest) ⌝ }
+    requires { ⌜ Hinted tracker (now types) (now hints) ⌝ }
     ensures { λ r. ⌜ IfTaken (Walks (now (s .entry)) (startOf frame) 0 (rowRead (now (g .entry)) (entriesOf (tracker .count) (now (types .entry))) (now (s .entry)) (startOf frame) (frame .place)) (now (log .entry)) (now (strings .entry)) (now (log .exit)) (now (strings .exit)) used) r ⌝ }
 {
     let mut d = Decoder {

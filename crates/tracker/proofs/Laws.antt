@@ -1,9 +1,8 @@
 -- Laws of the entries of a type store: what is stored is read back, and what a look-up and a definition come to by the place of an id.
-use Prim.Native.Nat.{ℕ, zero, suc, _+_, _*_, _≤_}
+use Prim.Native.Nat.{ℕ, zero, suc, _+_, _*_, _<_, _≤_}
 use mathlib.Core.Path.{_≡_, refl, ap, sym, subst, _∙_}
 use mathlib.Core.Bool.{Bool, true, false}
 use mathlib.Core.List.{List, [], _∷_}
-use mathlib.Core.Option.{some}
 use native.Mathlib.Omega.{arith}
 use native.Mathlib.Numerals.{add-one}
 use lib.Dec.{eqb}
@@ -17,9 +16,8 @@ use Rattle.spec.specs.Records.{Entry, entry, entryWords}
 use Rattle.spec.specs.Types.{entryOf, define}
 use Rattle.spec.specs.Load.{laidOver}
 use Rattle.spec.proofs.Store.{sets-rest}
-use Rattle.tracker.specs.declared.Resolved.{Resolved}
-use Rattle.tracker.specs.declared.Resolved.the-variants.{Unknown}
-use Rattle.tracker.specs.Entries.{entriesOf, stored, placeFrom, placeOf, typeAt, resolvedIs}
+use Rattle.tracker.specs.declared.Resolved.the-variants.{«Type», Unknown}
+use Rattle.tracker.specs.Entries.{entriesOf, stored, placeFrom, placeOf, typeAt, resolvedBy}
 
 -- THE STORE
 
@@ -125,10 +123,22 @@ module _ {i n : ℕ} {l : List ℕ} (h : 3 * n ≤ length l) (f : Found) (e : f 
   unfolding placeOf Placed
   misses q = subst (Placed 0 i n l) (sym e ∙ q) (placed (holds n l h) i 0)
 
+-- its entry is one of the entries
+pub sits-below : {i n k : ℕ} {l : List ℕ} → Sits i n k l → k < n
+sits-below (here e r) = omega arith
+sits-below (later e r) = let h = sits-below r in omega arith
+
 -- its entry is one of the store's
 pub sits-within : {i n k : ℕ} {l : List ℕ} → Sits i n k l → 3 * k + 3 ≤ length l
 sits-within (here e r) = omega arith
 sits-within (later e r) = let h = sits-within r in omega arith
+
+-- the id that an entry has
+pub own-word : {i n k : ℕ} {l : List ℕ} → Sits i n k l → getD l (3 * k) 0 ≡ i
+own-word {i} (here {a = a} e r) = eqb-true a i e
+own-word (later {k = k} {a = a} {b = b} {c = c} {l = l} e r) =
+    let q : 3 * suc k ≡ suc (suc (suc (3 * k))) = omega arith in
+    ap (λ (m : ℕ). getD (a ∷ b ∷ c ∷ l) m 0) q ∙ own-word r
 
 -- A LOOK-UP
 
@@ -139,18 +149,17 @@ word-later a b c k j l =
     ap (λ (m : ℕ). getD (a ∷ b ∷ c ∷ l) m 0) e
 
 -- the type of an id that is found
-pub entry-found : {i n k : ℕ} {l : List ℕ} → Sits i n k l → (r : Resolved) → r ≡ typeAt l k → resolvedIs i r ≡ entryOf i (entriesOf n l)
-unfolding resolvedIs entryOf entriesOf
-entry-found {i} (here {n} {a} {b} {c} {l} e m) r q = ap (resolvedIs i) q ∙ simp e (ap (λ (x : ℕ). some (entry x b c)) (sym (eqb-true a i e)))
-entry-found {i} (later {n} {k} {a} {b} {c} {l} e m) r q =
-    ap (resolvedIs i) q
-    ∙ ap (λ (w : ℕ). some (entry i w (getD (a ∷ b ∷ c ∷ l) (3 * suc k + 2) 0))) (sym (word-later a b c k 1 l))
-    ∙ ap (λ (s : ℕ). some (entry i (getD l (3 * k + 1) 0) s)) (sym (word-later a b c k 2 l))
-    ∙ simp e (entry-found m (typeAt l k) refl)
+pub entry-found : {i n k : ℕ} {l : List ℕ} → Sits i n k l → typeAt l k ≡ resolvedBy (entryOf i (entriesOf n l))
+unfolding resolvedBy entryOf entriesOf
+entry-found (here e m) = simp e
+entry-found (later {n} {k} {a} {b} {c} {l} e m) =
+    ap (λ (w : ℕ). «Type» w (getD (a ∷ b ∷ c ∷ l) (3 * suc k + 2) 0)) (sym (word-later a b c k 1 l))
+    ∙ ap (λ (s : ℕ). «Type» (getD l (3 * k + 1) 0) s) (sym (word-later a b c k 2 l))
+    ∙ simp e (entry-found m)
 
 -- an id that is not found has none
-pub entry-missed : {i n : ℕ} {l : List ℕ} → Misses i n l → resolvedIs i Unknown ≡ entryOf i (entriesOf n l)
-unfolding resolvedIs entryOf entriesOf
+pub entry-missed : {i n : ℕ} {l : List ℕ} → Misses i n l → Unknown ≡ resolvedBy (entryOf i (entriesOf n l))
+unfolding resolvedBy entryOf entriesOf
 entry-missed nowhere = refl
 entry-missed (not-here e r) = simp e (entry-missed r)
 

@@ -1,4 +1,5 @@
 pub mod Laws
+pub mod Marks
 pub mod Search
 pub mod Literal
 pub mod Results

@@ -1,6 +1,6 @@
 -- Laws of the type of a result, one for each way through the code.
 use Prim.Native.Nat.{ℕ, _*_, _<_, _≤_}
-use mathlib.Core.Path.{_≡_, ap, sym, _∙_}
+use mathlib.Core.Path.{_≡_, refl, ap, sym, _∙_}
 use mathlib.Core.Bool.{Bool, true, false}
 use mathlib.Core.List.{List}
 use mathlib.Core.Option.{Option, none, some}
@@ -9,16 +9,16 @@ use lib.Dec.{eqb}
 use lib.ListN.{length}
 use borrow.Author.Tests.{le-leb, lt-leb, eq-eqb, ne-eqb}
 use Rattle.spec.specs.Base.{if_then_else_}
-use Rattle.spec.specs.Records.{Entry}
+use Rattle.spec.specs.Records.{Entry, entry}
 use Rattle.spec.specs.Types.{isType, entryOf, define, inherit, trackValue}
 use Rattle.tracker.specs.declared.Id.{Id}
 use Rattle.tracker.specs.declared.Id.the-variants.{Absent, Is}
 use Rattle.tracker.specs.declared.Resolved.{Resolved}
 use Rattle.tracker.specs.declared.Resolved.the-variants.{«Type», Unknown}
-use Rattle.tracker.specs.Entries.{entriesOf, stored, resolvedIs}
+use Rattle.tracker.specs.Entries.{entriesOf, stored, typeAt, resolvedBy, knownOf}
 use Rattle.tracker.specs.declared.Told.{Told}
 use Rattle.tracker.specs.Track.{idIs, literalOf, intOf, floatOf, typeOf, trackOf, toldWith, toldOf, defined}
-use Rattle.tracker.proofs.Laws.{holds, length-entries, stored-own}
+use Rattle.tracker.proofs.Laws.{holds, length-entries, stored-own, Sits, Misses, entry-found, entry-missed}
 
 -- AN INTEGER TYPE
 
@@ -93,33 +93,52 @@ module _ (op count : ℕ) (a b : Option ℕ) where
   unfolding defined typeOf
   type-other e f i es = simp (ne-eqb op 21 e, ne-eqb op 22 f)
 
+-- WHAT IS KNOWN OF AN ID
+
+-- no id: nothing
+pub known-none : (x : Id) → x ≡ Absent → (es : List Entry) → Unknown ≡ knownOf (idIs x) es
+unfolding knownOf resolvedBy idIs
+known-none x e es = rw e
+
+module _ (x : Id) (i : ℕ) (e : x ≡ Is i) {n : ℕ} {l : List ℕ} where
+  -- an id that is found: what its entry says
+  pub known-found : {k : ℕ} → Sits i n k l → (r : Resolved) → r ≡ typeAt l k → r ≡ knownOf (idIs x) (entriesOf n l)
+  unfolding knownOf idIs
+  known-found m r q = rw e (q ∙ entry-found m)
+
+  -- one that is not: nothing
+  pub known-missed : Misses i n l → Unknown ≡ knownOf (idIs x) (entriesOf n l)
+  unfolding knownOf idIs
+  known-missed m = rw e (entry-missed m)
+
 -- A RESULT
 
--- a result that is no type has the entry of its result type
-pub value-known : (t : ℕ) (es : List Entry) (r : Resolved) → resolvedIs t r ≡ entryOf t es → (rtype : Id) → rtype ≡ Is t → (i : ℕ)
-    → defined i r es ≡ trackValue i (idIs rtype) es
-unfolding defined idIs resolvedIs
-value-known t es («Type» w s) f rtype e i = rw e (ap (λ (x : Option Entry). inherit i x es) f)
-value-known t es Unknown f rtype e i = rw e (ap (λ (x : Option Entry). inherit i x es) f)
+-- the type of what is known of an id, where it is there, is what a value inherits
+value-known : (t : Option ℕ) (es : List Entry) (i : ℕ) → defined i (knownOf t es) es ≡ trackValue i t es
+unfolding defined knownOf resolvedBy
+value-known none es i = refl
+value-known (some t) es i = by (entryOf t es)
+  where
+    by : (x : Option Entry) → defined i (resolvedBy x) es ≡ inherit i x es
+    by none = refl
+    by (some (entry id w s)) = refl
 
--- or none, without a result type
-pub value-absent : (rtype : Id) → rtype ≡ Absent → (i : ℕ) (es : List Entry) → defined i Unknown es ≡ trackValue i (idIs rtype) es
-unfolding defined idIs
-value-absent rtype e i es = rw e
-
-module _ (t : Told) (es : List Entry) where
-  module _ (y : Bool) (p : y ≡ isType (t .opcode)) (r : Resolved) where
+module _ (t : Told) where
+  module _ (y : Bool) (p : y ≡ isType (t .opcode)) where
     -- a result that is a type
-    pub result-type : y ≡ true → ((i : ℕ) → defined i r es ≡ typeOf (t .opcode) i (t .operands) (literalOf (t .first)) (literalOf (t .second)) es)
-        → (i : ℕ) → defined i r es ≡ toldWith t (some i) es
+    pub result-type : y ≡ true → (r known : Resolved)
+        → ((i : ℕ) (es : List Entry) → defined i r es ≡ typeOf (t .opcode) i (t .operands) (literalOf (t .first)) (literalOf (t .second)) es)
+        → (es : List Entry) → known ≡ knownOf (idIs (t .rtype)) es → (i : ℕ) → defined i r es ≡ toldWith t (some i) es
     unfolding toldWith trackOf
-    result-type q h i = simp (sym p ∙ q) (h i)
+    result-type q r known h es k i = simp (sym p ∙ q) (h i es)
 
     -- a result that is none
-    pub result-value : y ≡ false → ((i : ℕ) → defined i r es ≡ trackValue i (idIs (t .rtype)) es) → (i : ℕ) → defined i r es ≡ toldWith t (some i) es
+    pub result-value : y ≡ false → (known : Resolved) (es : List Entry) → known ≡ knownOf (idIs (t .rtype)) es → (i : ℕ)
+        → defined i known es ≡ toldWith t (some i) es
     unfolding toldWith trackOf
-    result-value q h i = simp (sym p ∙ q) (h i)
+    result-value q known es k i = rw k (simp (sym p ∙ q) (value-known (idIs (t .rtype)) es i))
 
+module _ (t : Told) (es : List Entry) where
   -- no result id: the entries stay
   pub result-absent : t .rid ≡ Absent → es ≡ toldOf t es
   unfolding toldOf toldWith trackOf idIs

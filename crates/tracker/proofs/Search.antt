@@ -1,51 +1,69 @@
--- Laws of the search for an id's entry.
-use Prim.Native.Nat.{ℕ, suc, _+_, _-_, _*_, _<_, _≤_}
-use mathlib.Core.Path.{_≡_, ap, sym, _∙_}
+-- Laws of the search for an id's entry, from both ends.
+use Prim.Native.Nat.{ℕ, _+_, _-_, _*_, _<_, _≤_}
+use mathlib.Core.Path.{_≡_, refl, ap, sym, subst, _∙_}
+use mathlib.Core.Bool.{Bool, true, false}
 use mathlib.Core.List.{List}
 use native.Mathlib.Omega.{arith}
-use native.Mathlib.Numerals.{add-one}
-use native.Mathlib.Nat.{sub-zero}
-use lib.Dec.{eqb}
-use lib.ListN.{getD, drop}
-use lib.Seq.{getD-drop, drop-drop}
-use borrow.Author.Tests.{eq-eqb, ne-eqb}
+use lib.Dec.{ltb}
+use lib.ListN.{length, getD}
+use borrow.Author.Tests.{ltb-true, ltb-false}
+use Rattle.spec.specs.declared.Found.{Found}
 use Rattle.spec.specs.declared.Found.the-variants.{At, Nothing}
-use Rattle.spec.specs.Base.{if_then_else_}
-use Rattle.tracker.specs.Entries.{entriesOf, placeFrom, placeOf}
+use Rattle.tracker.specs.Entries.{entriesOf, placeOf}
+use Rattle.tracker.specs.Hints.{Alone}
+use Rattle.tracker.proofs.Laws.{sits, sits-below, own-word}
 
--- how far a search has come: the entries before the index are passed
-pub record Seeking (l : List ℕ) (n id i : ℕ) : Type 0 where
-  pub whole : placeOf id (entriesOf n l) ≡ placeFrom i id (entriesOf (n - i) (drop (3 * i) l))
-  pub within : i ≤ n
+-- an entry that is the id's is where the id is found
+pub found-own : (n : ℕ) (l : List ℕ) → Alone n l → (id k : ℕ) → k < n → getD l (3 * k) 0 ≡ id → At k ≡ placeOf id (entriesOf n l)
+unfolding Alone
+found-own n l a id k h e = sym (a k h) ∙ ap (λ (i : ℕ). placeOf i (entriesOf n l)) e
 
--- none are at first
-pub seek-start : (l : List ℕ) (n id : ℕ) → Seeking l n id 0
-unfolding placeOf
-seek-start l n id = record { whole = ap (λ (m : ℕ). placeFrom 0 id (entriesOf m l)) (sym (sub-zero n)); within = omega arith }
+-- an id that no entry has is not found
+pub found-none : (n : ℕ) (l : List ℕ) → 3 * n ≤ length l → (id : ℕ) → ((k : ℕ) → k < n → getD l (3 * k) 0 ≡ id → ⊥)
+    → Nothing ≡ placeOf id (entriesOf n l)
+found-none n l room id none = by (placeOf id (entriesOf n l)) refl
+  where
+    by : (f : Found) → f ≡ placeOf id (entriesOf n l) → Nothing ≡ placeOf id (entriesOf n l)
+    by (At k) e = let m = sits room (At k) e k refl in absurd (none k (sits-below m) (own-word m))
+    by Nothing e = e
 
-module _ {l : List ℕ} {n id i : ℕ} (r : Seeking l n id i) where
-  -- the next entry's id decides
-  seek-next : i < n
-      → placeOf id (entriesOf n l)
-      ≡ (if eqb (getD l (3 * i) 0) id then At i else placeFrom (i + 1) id (entriesOf (n - (i + 1)) (drop (3 * (i + 1)) l)))
-  unfolding placeFrom entriesOf
-  seek-next h =
-      let p : n - i ≡ suc (n - (i + 1)) = omega arith in
-      let q : 3 * i + 0 ≡ 3 * i = omega arith in
-      let s : 3 * i + 3 ≡ 3 * (i + 1) = omega arith in
-      r .whole ∙ rw p (simp (getD-drop, drop-drop, q, s, add-one))
+-- how far a search has come: no entry before the one index is the id's, and none from the other on
+pub record Seeking (l : List ℕ) (n id i end : ℕ) : Type 0 where
+  pub before : (k : ℕ) → k < i → getD l (3 * k) 0 ≡ id → ⊥
+  pub behind : (k : ℕ) → end ≤ k → k < n → getD l (3 * k) 0 ≡ id → ⊥
+  pub within : end ≤ n
 
-  -- it is the id's
-  pub seek-hit : i < n → getD l (3 * i) 0 ≡ id → At i ≡ placeOf id (entriesOf n l)
-  seek-hit h e = sym (seek-next h ∙ simp (eq-eqb (getD l (3 * i) 0) id e))
+-- at first all are left
+pub seek-start : (l : List ℕ) (n id : ℕ) → Seeking l n id 0 n
+seek-start l n id = record { before = λ k h e. omega arith; behind = λ k h f e. omega arith; within = omega arith }
 
-  -- it is not: one entry further
-  pub seek-turn : i < n → (getD l (3 * i) 0 ≡ id → ⊥) → Seeking l n id (i + 1)
-  seek-turn h e = record { whole = seek-next h ∙ simp (ne-eqb (getD l (3 * i) 0) id e); within = omega arith }
+module _ {l : List ℕ} {n id i end : ℕ} (r : Seeking l n id i end) (h : i < end) where
+  -- neither the first nor the last of those that are left is the id's: one further from both ends
+  pub seek-turn : (getD l (3 * i) 0 ≡ id → ⊥) → (getD l (3 * (end - 1)) 0 ≡ id → ⊥) → Seeking l n id (i + 1) (end - 1)
+  seek-turn first last = record {
+    before = λ k f. before-by k f (ltb k i) refl;
+    behind = λ k f g. behind-by k f g (ltb k end) refl;
+    within = omega (arith, r .within);
+  }
+    where
+      -- the entry is one of those before, or the first
+      before-by : (k : ℕ) → k < i + 1 → (t : Bool) → ltb k i ≡ t → getD l (3 * k) 0 ≡ id → ⊥
+      before-by k f true q = r .before k (ltb-true k i q)
+      before-by k f false q =
+          let same : i ≡ k = omega (arith, ltb-false k i q) in
+          subst (λ (m : ℕ). getD l (3 * m) 0 ≡ id → ⊥) same first
 
-  -- all are passed
-  pub seek-end : n ≤ i → Nothing ≡ placeOf id (entriesOf n l)
-  unfolding placeFrom entriesOf
-  seek-end h =
-      let p : n - i ≡ 0 = omega arith in
-      sym (r .whole ∙ ap (λ (m : ℕ). placeFrom i id (entriesOf m (drop (3 * i) l))) p)
+      -- it is one of those behind, or the last
+      behind-by : (k : ℕ) → end - 1 ≤ k → k < n → (t : Bool) → ltb k end ≡ t → getD l (3 * k) 0 ≡ id → ⊥
+      behind-by k f g true q =
+          let same : end - 1 ≡ k = omega (arith, ltb-true k end q) in
+          subst (λ (m : ℕ). getD l (3 * m) 0 ≡ id → ⊥) same last
+      behind-by k f g false q = r .behind k (ltb-false k end q) g
+
+-- all are passed
+pub seek-end : {l : List ℕ} {n id i end : ℕ} → Seeking l n id i end → 3 * n ≤ length l → end ≤ i → Nothing ≡ placeOf id (entriesOf n l)
+seek-end {l} {n} {id} {i} {end} r room h = found-none n l room id (λ k f. passed k f (ltb k i) refl)
+  where
+    passed : (k : ℕ) → k < n → (t : Bool) → ltb k i ≡ t → getD l (3 * k) 0 ≡ id → ⊥
+    passed k f true q = r .before k (ltb-true k i q)
+    passed k f false q = r .behind k (omega (arith, ltb-false k i q)) f

@@ -8,6 +8,7 @@ use Rattle.spec.specs.declared.Found.{Found}
 use Rattle.spec.specs.declared.Found.the-variants.{At, Nothing}
 use Rattle.spec.specs.Base.{if_then_else_, joined}
 use Rattle.spec.specs.Records.{Entry, entry, entryWords}
+use Rattle.spec.specs.Match.{typeOf}
 use Rattle.spec.specs.Load.{laidOver}
 use Rattle.tracker.specs.declared.Resolved.{Resolved}
 use Rattle.tracker.specs.declared.Resolved.the-variants.{«Type», Unknown}
@@ -34,7 +35,11 @@ placeOf i es = placeFrom 0 i es
 abbrev pub typeAt : List ℕ → ℕ → Resolved
 typeAt ws k = «Type» (getD ws (3 * k + 1) 0) (getD ws (3 * k + 2) 0)
 
--- the entry that a look-up of an id answers
-unfoldable pub resolvedIs : ℕ → Resolved → Option Entry
-resolvedIs i («Type» w s) = some (entry i w s)
-resolvedIs i Unknown = none
+-- what a look-up says of an entry that is there or not
+unfoldable pub resolvedBy : Option Entry → Resolved
+resolvedBy (some (entry id w s)) = «Type» w s
+resolvedBy none = Unknown
+
+-- what a look-up says of an id that is there or not
+unfoldable pub knownOf : Option ℕ → List Entry → Resolved
+knownOf i es = resolvedBy (typeOf i es)

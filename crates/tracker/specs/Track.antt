@@ -74,6 +74,7 @@ defined i Unknown es = es
 pub record Tracked (t : TypeTracker) (types hints types₁ hints₁ : List ℕ) (es : List Entry) (r : TypeTracker) : Type 0 where
   pub count : r .count ≡ length es
   pub store : types₁ ≡ stored types es
-  pub hints-are : hints₁ ≡ hintsWith (t .count) (newOf (t .count) es) hints
+  pub hints-are : hints₁ ≡ hintsWith (t .marks) (t .count) (newOf (t .count) es) hints
   pub greatest : r .greatest ≡ greatestWith (newOf (t .count) es) (t .greatest)
-  pub hinted : Hinted (r .count) types₁ hints₁ (r .greatest)
+  pub marks : r .marks ≡ t .marks
+  pub hinted : Hinted r types₁ hints₁

@@ -6,19 +6,22 @@ ghost use Prim.Native.Nat.{ℕ, _+_, _*_, _<_, _≤_};
 ghost use lib.ListN.{length};
 ghost use lib.Seq.{sets};
 ghost use Rattle.spec.specs.Records.{Entry};
-ghost use Rattle.spec.specs.Types.{entryOf, define, trackValue};
+ghost use Rattle.spec.specs.Types.{define};
 ghost use Rattle.operand.specs.Parts.{Fits};
-ghost use Rattle.tracker.specs.Entries.{entriesOf, placeOf, typeAt, resolvedIs};
-ghost use Rattle.tracker.specs.Hints.{hintOf, hintFor, noted, greaterOf, Hinted};
+ghost use Rattle.tracker.specs.Entries.{entriesOf, typeAt, knownOf};
+ghost use Rattle.tracker.specs.Hints.{marksFor, greaterOf, Hinted};
 ghost use Rattle.tracker.specs.Track.{idIs, literalOf, FirstFit, intOf, floatOf, typeOf, toldWith, toldOf, defined, Tracked};
+
+mod index;
+
+use index::find;
+use index::marks_for;
+use index::note;
 use operand::Operand;
 use operand::Parts;
 use operand::operand_of;
 use spec::Found;
 use spec::opcodes;
-
-// A hint has 16 bits. This one says that the id's entry comes too late for one: it is among all.
-const LATE: u16 = 65535;
 
 // An id that is there or not: a result type or a result id.
 pub enum Id {
@@ -42,79 +45,12 @@ pub struct Told {
     pub second: Parts,
 }
 
-// How many entries there are in the store, which is lent to each call, and an id above which none has an entry.
+// How many entries there are in the store, which is lent to each call; an id above which none has an entry; and how many of the hints,
+// which are lent too, are marks.
 pub struct TypeTracker {
     pub count: usize,
     pub greatest: u32,
-}
-
-// Where an id's entry stands among the first `count`, by a look at each.
-fn scan(types: &[u32], count: usize, id: u32) -> Found
-    requires { ⌜ 3 * count ≤ length (now types) ⌝ }
-    ensures { λ r. ⌜ r ≡ placeOf id (entriesOf count (now (types .entry))) ⌝ }
-{
-    let mut i = 0;
-    while i < count {
-        if types[3 * i] == id {
-            return Found::At(i);
-        }
-        i += 1;
-    }
-    Found::Nothing
-}
-
-// The entry that the hint of an id names, where that is the id's own.
-fn tested(types: &[u32], count: usize, hints: &[u16], id: u32) -> Found
-    requires { ⌜ (3 * count ≤ length (now types)) × (id < length (now hints)) ⌝ }
-    ensures { λ r. ⌜ r ≡ hintOf count (now (types .entry)) (now (hints .entry)) id ⌝ }
-{
-    let at = id as usize;
-    let h = hints[at] as usize;
-    if h < count {
-        let own = types[3 * h];
-        if own == id {
-            return Found::At(h);
-        }
-    }
-    Found::Nothing
-}
-
-// Where an id's entry stands: an id above the greatest has none, and one that has a hint stands where that says, if it says where.
-fn find(types: &[u32], count: usize, hints: &[u16], greatest: u32, id: u32) -> Found
-    requires { ⌜ 3 * count ≤ length (now types) ⌝ }
-    requires { ⌜ Hinted count (now types) (now hints) greatest ⌝ }
-    ensures { λ r. ⌜ r ≡ placeOf id (entriesOf count (now (types .entry))) ⌝ }
-{
-    if greatest < id {
-        return Found::Nothing;
-    }
-    let at = id as usize;
-    if at < hints.len() {
-        if hints[at] != LATE {
-            return tested(types, count, hints, id);
-        }
-    }
-    scan(types, count, id)
-}
-
-// The hint that says an index.
-fn hint_for(index: usize) -> u16
-    ensures { λ r. ⌜ r ≡ hintFor index ⌝ }
-{
-    if index < 65535 {
-        return index as u16;
-    }
-    LATE
-}
-
-// Notes the index of an id's entry as its hint, where there is one for it.
-fn note(hints: &mut [u16], id: u32, index: usize)
-    ensures { λ _. ⌜ now (hints .exit) ≡ noted (now (hints .entry)) id index ⌝ }
-{
-    let at = id as usize;
-    if at < hints.len() {
-        hints[at] = hint_for(index);
-    }
+    pub marks: usize,
 }
 
 // The greater of two ids.
@@ -198,64 +134,52 @@ fn track_type(opcode: u16, count: usize, first: Parts, second: Parts) -> Resolve
     }
 }
 
+// The type that the result of an instruction has, where it is tracked, by the type of its result type.
+fn typed(told: Told, known: Resolved) -> Resolved
+    requires { ⌜ FirstFit (told .operands) (told .first) (told .second) ⌝ }
+    ensures { λ r. ⌜ ((es : List Entry) → known ≡ knownOf (idIs (told .rtype)) es → (id : ℕ) → defined id r es ≡ toldWith told (some id) es) ⌝ }
+{
+    if reflect::is_type(told.opcode) {
+        let first = told.first;
+        let second = told.second;
+        return track_type(told.opcode, told.operands, first, second);
+    }
+    known
+}
+
 impl TypeTracker {
-    // No entries.
-    pub fn new() -> TypeTracker
-        ensures { λ r. ⌜ (r .count ≡ 0) × (r .greatest ≡ 0) ⌝ }
+    // No entries, for a module whose ids lie below a bound, with so many hints.
+    pub fn new(bound: u32, hints: usize) -> TypeTracker
+        requires { ⌜ 2048 ≤ hints ⌝ }
+        ensures { λ r. ⌜ r ≡ record { count = 0; greatest = 0; marks = marksFor bound hints } ⌝ }
     {
         TypeTracker {
             count: 0,
             greatest: 0,
+            marks: marks_for(bound, hints),
         }
     }
 
-    // The type of an id.
-    pub fn resolve(self, types: &[u32], hints: &[u16], id: u32) -> Resolved
+    // The type of an id, where it is there and known.
+    pub fn resolve(self, types: &[u32], hints: &[u16], id: Id) -> Resolved
         requires { ⌜ 3 * self .count ≤ length (now types) ⌝ }
-        requires { ⌜ Hinted (self .count) (now types) (now hints) (self .greatest) ⌝ }
-        ensures { λ r. ⌜ resolvedIs id r ≡ entryOf id (entriesOf (self .count) (now (types .entry))) ⌝ }
+        requires { ⌜ Hinted self (now types) (now hints) ⌝ }
+        ensures { λ r. ⌜ r ≡ knownOf (idIs id) (entriesOf (self .count) (now (types .entry))) ⌝ }
     {
-        let found = find(types, self.count, hints, self.greatest, id);
-        let Found::At(i) = found else {
+        let Id::Is(i) = id else {
             return Resolved::Unknown;
         };
-        type_at(types, i)
-    }
-
-    // A result that is no type: it has the type of its result type, where that is known.
-    fn track_value(self, types: &[u32], hints: &[u16], rtype: Id) -> Resolved
-        requires { ⌜ 3 * self .count ≤ length (now types) ⌝ }
-        requires { ⌜ Hinted (self .count) (now types) (now hints) (self .greatest) ⌝ }
-        ensures { λ r. ⌜ ((id : ℕ) → defined id r (entriesOf (self .count) (now (types .entry)))
-            ≡ trackValue id (idIs rtype) (entriesOf (self .count) (now (types .entry)))) ⌝ }
-    {
-        let Id::Is(t) = rtype else {
+        let found = find(self, types, hints, i);
+        let Found::At(k) = found else {
             return Resolved::Unknown;
         };
-        self.resolve(types, hints, t)
-    }
-
-    // The type that the result of an instruction has, where it is tracked.
-    fn typed(self, types: &[u32], hints: &[u16], told: Told) -> Resolved
-        requires { ⌜ 3 * self .count ≤ length (now types) ⌝ }
-        requires { ⌜ Hinted (self .count) (now types) (now hints) (self .greatest) ⌝ }
-        requires { ⌜ FirstFit (told .operands) (told .first) (told .second) ⌝ }
-        ensures { λ r. ⌜ ((id : ℕ) → defined id r (entriesOf (self .count) (now (types .entry)))
-            ≡ toldWith told (some id) (entriesOf (self .count) (now (types .entry)))) ⌝ }
-    {
-        if reflect::is_type(told.opcode) {
-            let first = told.first;
-            let second = told.second;
-            return track_type(told.opcode, told.operands, first, second);
-        }
-        let rtype = told.rtype;
-        self.track_value(types, hints, rtype)
+        type_at(types, k)
     }
 
     // How many entries there are after an instruction, before anything is stored.
     pub fn after(self, types: &[u32], hints: &[u16], told: Told) -> usize
         requires { ⌜ 3 * self .count ≤ length (now types) ⌝ }
-        requires { ⌜ Hinted (self .count) (now types) (now hints) (self .greatest) ⌝ }
+        requires { ⌜ Hinted self (now types) (now hints) ⌝ }
         requires { ⌜ FirstFit (told .operands) (told .first) (told .second) ⌝ }
         ensures { λ r. ⌜ r ≡ length (toldOf told (entriesOf (self .count) (now (types .entry)))) ⌝ }
     {
@@ -264,11 +188,13 @@ impl TypeTracker {
         let Id::Is(id) = rid else {
             return entries;
         };
-        let typed = self.typed(types, hints, told);
+        let rtype = told.rtype;
+        let known = self.resolve(types, hints, rtype);
+        let typed = typed(told, known);
         let Resolved::Type { width: _, sort: _ } = typed else {
             return entries;
         };
-        let found = find(types, entries, hints, self.greatest, id);
+        let found = find(self, types, hints, id);
         let Found::At(_) = found else {
             return entries + 1;
         };
@@ -285,18 +211,16 @@ impl TypeTracker {
         sort: u32,
     ) -> TypeTracker
         requires { ⌜ 3 * self .count ≤ length (now types) ⌝ }
-        requires { ⌜ Hinted (self .count) (now types) (now hints) (self .greatest) ⌝ }
+        requires { ⌜ Hinted self (now types) (now hints) ⌝ }
         requires { ⌜ 3 * length (define id width sort (entriesOf (self .count) (now types))) ≤ length (now types) ⌝ }
         ensures { λ r. ⌜ Tracked self (now (types .entry)) (now (hints .entry)) (now (types .exit)) (now (hints .exit)) (define id width sort (entriesOf (self .count) (now (types .entry)))) r ⌝ }
     {
-        let count = self.count;
-        let greatest = self.greatest;
-        let found = find(types, count, hints, greatest, id);
+        let found = find(self, types, hints, id);
         let Found::At(i) = found else {
-            put_entry(types, count, id, width, sort);
-            note(hints, id, count);
-            self.count = count + 1;
-            self.greatest = greater(greatest, id);
+            put_entry(types, self.count, id, width, sort);
+            note(hints, self.marks, id, self.count);
+            self.greatest = greater(self.greatest, id);
+            self.count += 1;
             return self;
         };
         put_entry(types, i, id, width, sort);
@@ -305,7 +229,7 @@ impl TypeTracker {
 
     // Tracks an instruction: the entries after it, where there is room for them.
     pub fn track(self, types: &mut [u32], hints: &mut [u16], told: Told) -> TypeTracker
-        requires { ⌜ Hinted (self .count) (now types) (now hints) (self .greatest) ⌝ }
+        requires { ⌜ Hinted self (now types) (now hints) ⌝ }
         requires { ⌜ 3 * length (toldOf told (entriesOf (self .count) (now types))) ≤ length (now types) ⌝ }
         requires { ⌜ FirstFit (told .operands) (told .first) (told .second) ⌝ }
         ensures { λ r. ⌜ Tracked self (now (types .entry)) (now (hints .entry)) (now (types .exit)) (now (hints .exit)) (toldOf told (entriesOf (self .count) (now (types .entry)))) r ⌝ }
@@ -314,7 +238,9 @@ impl TypeTracker {
         let Id::Is(id) = rid else {
             return self;
         };
-        let typed = self.typed(types, hints, told);
+        let rtype = told.rtype;
+        let known = self.resolve(types, hints, rtype);
+        let typed = typed(told, known);
         let Resolved::Type { width, sort } = typed else {
             return self;
         };

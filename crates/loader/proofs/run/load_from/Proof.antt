@@ -1,5 +1,6 @@
 -- `loader::run::load_from` meets its contract: the invariant is that the load from where it stands is the load of the whole.
 use Rattle.spec.specs.Load.{lent}
+use Rattle.tracker.proofs.Hinting.{marks-leave}
 use Rattle.loader.proofs.Judging.{fair, moderate, verdict}
 use Rattle.loader.proofs.Running.{Running, start, same-instructions, same-log, same-strings, same-types, few-kept, ends, halts, here, more, operands-fit, record-fits, entries-fit, fewer, goes-on}
 use lib.ListN.{length}
@@ -11,27 +12,34 @@ use Rattle.loader.proofs.run.load_from.Statement.{statement}
 use Rattle.loader.proofs.run.load_from.Tie as tie
 
 abbrev Inv-loop : tie.InvT-loop
-Inv-loop kinds table s g index instructions₀ log₀ strings₀ types₀ hints₀ scratch₀ spare₀ room p₀ instructions log strings types hints scratch spare p =
+Inv-loop kinds table s g index instructions₀ log₀ strings₀ types₀ hints₀ scratch₀ spare₀ room bound p₀ instructions log strings types hints scratch spare p =
     Running s g room (lent instructions₀ log₀ strings₀ types₀) (lent instructions log strings types) hints₀ hints p
     × ((length scratch ≡ length scratch₀) × (length spare ≡ length spare₀))
 
 abbrev μ-loop : tie.MeasureT-loop
-μ-loop kinds table s g index instructions₀ log₀ strings₀ types₀ hints₀ scratch₀ spare₀ room p₀ instructions log strings types hints scratch spare p =
+μ-loop kinds table s g index instructions₀ log₀ strings₀ types₀ hints₀ scratch₀ spare₀ room bound p₀ instructions log strings types hints scratch spare p =
     length s - p .at
+
+loop-holds : tie.Need-loop-holds Inv-loop μ-loop
+loop-holds c =
+    let at-room-in = c .before .before in
+    let asked = at-room-in .before .before .before .before .before .before .before .before .before .before .before .pre in
+    let hints-are = asked .1 .1 .1 in
+    (start _ _ _ _ _ (at-room-in .room-in .ensures) (asked .1 .0 .0) (asked .1 .0 .1) _ _ (c .new .ensures) (marks-leave _ _ (hints-are .0)) (hints-are .1), (refl, refl))
 
 decode-requires : tie.Need-decode-requires Inv-loop μ-loop
 decode-requires c κs =
     let at-if1 = c .before .before .before .before in
     let turn = at-if1 .before .before in
     let running = turn .loop .inv .0 in
-    (turn .before .before .before .before .before .before .before .before .before .before .before .before .pre .0, ((running .short, omega (arith, running .inside, at-if1 .if1 .taken)), (running .bounded, running .typed)))
+    (turn .before .before .before .before .before .before .before .before .before .before .before .before .before .before .pre .0, ((running .short, omega (arith, running .inside, at-if1 .if1 .taken)), (running .bounded, running .typed)))
 
 admit-requires : tie.Need-admit-requires Inv-loop μ-loop
 admit-requires c κs =
     let decoded = c .before .before .before .before .before .before in
     let turn = decoded .before .before .before .before .before .before .before in
     let running = turn .loop .inv .0 in
-    (turn .before .before .before .before .before .before .before .before .before .before .before .before .pre .1 .1, ((running .bounded, running .typed), fair _ _ _ _ _ _ _ (decoded .decode .ensures) (running .short)))
+    (turn .before .before .before .before .before .before .before .before .before .before .before .before .before .before .pre .1 .1 .0, ((running .bounded, running .typed), fair _ _ _ _ _ _ _ (decoded .decode .ensures) (running .short)))
 
 returns : tie.Need-returns Inv-loop μ-loop
 returns c =
@@ -51,7 +59,7 @@ keep-operands-requires c κs =
     let word = decoded .before .before .before .before .before .if1 .taken in
     let goes-in = verdict _ _ _ _ _ _ _ _ (decoded .decode .ensures) _ (judged .admit .ensures) _ (taken .verdict2 .given .1) in
     let stands = here running goes-in in
-    (turn .before .before .before .before .before .before .before .before .before .before .before .before .pre .0, ((stands .short, omega (arith, stands .inside, more running goes-in word)), ((stands .bounded, stands .typed), (operands-fit running goes-in, goes-in .shown))))
+    (turn .before .before .before .before .before .before .before .before .before .before .before .before .before .before .pre .0, ((stands .short, omega (arith, stands .inside, more running goes-in word)), ((stands .bounded, stands .typed), (operands-fit running goes-in, goes-in .shown))))
 
 keep-record-requires : tie.Need-keep-record-requires Inv-loop μ-loop
 keep-record-requires c κs =
@@ -89,7 +97,7 @@ loop-again c =
     let goes-in = verdict _ _ _ _ _ _ _ _ (decoded .decode .ensures) _ (judged .admit .ensures) _ (taken .verdict2 .given .1) in
     let at-spare = judged .before .before .before .before in
     let at-scratch = at-spare .before .before in (
-      goes-on running goes-in word (recorded .keep-record .ensures) _ _ _ (turn .before .before .before .before .before .before .before .before .before .before .before .before .pre .0) (stored .keep-operands .ensures) (c .before .hints .given),
+      goes-on running goes-in word (recorded .keep-record .ensures) _ _ _ (turn .before .before .before .before .before .before .before .before .before .before .before .before .before .before .pre .0) (stored .keep-operands .ensures) (c .before .hints .given),
       (at-scratch .scratch .given ∙ turn .loop .inv .1 .0, at-spare .spare .given ∙ turn .loop .inv .1 .1),
     )
 
@@ -100,7 +108,9 @@ load-from-spec =
     Inv-loop
     μ-loop
     (λ c κs. search needs)
-    (λ c. let asked = c .before .before .before .before .before .before .before .before .before .before .before .pre in (start _ _ _ _ _ (c .room-in .ensures) (asked .1 .0 .0) (asked .1 .0 .1), (refl, refl)))
+    (λ c κs. let asked = c .before .before .before .before .before .before .before .before .before .before .before .pre in omega (arith, asked .1 .0 .0))
+    (λ c κs. let asked = c .before .before .before .before .before .before .before .before .before .before .before .before .pre in asked .1 .1 .1 .0)
+    loop-holds
     (λ c. c .before .loop .inv .0 .inside)
     decode-requires
     admit-requires

@@ -1,5 +1,6 @@
 -- `loader::run::load_many` meets its contract: the load, with the hints of any module.
 
+use Rattle.loader.proofs.Beginning.{blank-hints}
 use borrow.Author.Needs.{needs}
 use Rattle.loader.proofs.run.load_many.Statement.{statement}
 use Rattle.loader.proofs.run.load_many.Tie as tie
@@ -13,7 +14,7 @@ load-many-spec =
     (λ c. search needs)
     (λ c. search needs)
     (λ c. search needs)
-    (λ c κs. let at-table = c .before .before .before .before .before .before .before .before .before in let at-kinds = at-table .before in let at-start = at-kinds .before .before .before .before .before .before .before .before in (at-start .pre, (at-table .table .ensures, at-kinds .kinds .ensures)))
+    (λ c κs. let at-table = c .before .before .before .before .before .before .before .before .before in let at-kinds = at-table .before in let at-start = at-kinds .before .before .before .before .before .before .before .before in (at-start .pre, ((at-table .table .ensures, at-kinds .kinds .ensures), (search needs, blank-hints 32768))))
     (λ c. search needs)
     (λ c. search needs)
     (λ c. search needs)

@@ -9,7 +9,7 @@ use Rattle.loader.proofs.step.decode.Tie as tie
 parse-inst-requires : tie.Need-parse-inst-requires
 parse-inst-requires c κs =
     let at-unused = c .before .before in
-    let asked = at-unused .before .before .before .before .before .before .before .before .pre in
+    let asked = at-unused .before .before .before .before .before .before .before .before .before .pre in
     let stands = asked .1 .1 .0 in
     let typed = asked .1 .1 .1 in
     (asked .0, ((asked .1 .0 .0, omega (arith, asked .1 .0 .1), fresh-unused _ _ _ _ _ (at-unused .unused .ensures) (omega arith) (omega (arith, stands .few-strings))), (typed .inside, typed .hinted)))

@@ -1,6 +1,6 @@
 -- `loader::step::keep_operands` meets its contract: from scratch and spare, or read again.
 use Rattle.parser.proofs.RowLaws.{fresh-unused}
-use Rattle.loader.proofs.Keeping.{none-kept, from-scratch, from-module}
+use Rattle.loader.proofs.Keeping.{from-scratch, from-module}
 use mathlib.Core.Path.{sym}
 use lib.Seq.{length-take-le}
 use native.Mathlib.Omega.{arith}
@@ -14,25 +14,16 @@ put-bytes-requires c κs =
     let at-start = at-if1 .before .before .before .before .before .before .before .before .before .before .before .before in
     omega (arith, length-take-le (at-start .args .t .read .log) (at-start .args .scratch .now) (at-if1 .if1 .taken), at-start .pre .1 .1 .1 .0 .0)
 
-returns : tie.Need-returns
-returns c =
-    let at-put-bytes = c .before .before .before in
-    let at-if2 = at-put-bytes .before .before .before in
-    let at-if1 = at-if2 .before in
-    let at-start = at-if1 .before .before .before .before .before .before .before .before .before .before .before .before in
-    from-scratch (at-start .pre .1 .1 .1 .1) (at-if1 .if1 .taken) (at-if2 .if2 .taken) _ _ _ _ (at-put-bytes .put-bytes .ensures)
-    (none-kept _ _ _ _ (c .if3 .taken))
-
 put-bytes-requires-2 : tie.Need-put-bytes-requires-2
 put-bytes-requires-2 c κs =
-    let at-if2 = c .before .before .before .before .before .before .before .before in
+    let at-if2 = c .before .before .before .before .before .before .before in
     let at-start = at-if2 .before .before .before .before .before .before .before .before .before .before .before .before .before in
     omega (arith, length-take-le (at-start .args .t .read .strings) (at-start .args .spare .now) (at-if2 .if2 .taken), at-start .pre .1 .1 .1 .0 .1)
 
-returns-2 : tie.Need-returns-2
-returns-2 c =
+returns : tie.Need-returns
+returns c =
     let at-put-bytes2 = c .before .before in
-    let at-put-bytes = at-put-bytes2 .before .before .before .before .before .before in
+    let at-put-bytes = at-put-bytes2 .before .before .before .before .before in
     let at-if2 = at-put-bytes .before .before .before in
     let at-if1 = at-if2 .before in
     let at-start = at-if1 .before .before .before .before .before .before .before .before .before .before .before .before in
@@ -41,7 +32,7 @@ returns-2 c =
 parse-body-requires : tie.Need-parse-body-requires
 parse-body-requires c κs =
     let at-unused = c .before .before in
-    let asked = at-unused .before .before .before .before .before .before .before .before .before .before .before .before .before .pre in
+    let asked = at-unused .before .before .before .before .before .before .before .before .before .before .before .before .before .before .pre in
     let stands = asked .1 .1 .0 .0 in
     let typed = asked .1 .1 .0 .1 in
     let shown = asked .1 .1 .1 .1 in (
@@ -61,11 +52,11 @@ parse-body-requires c κs =
       ),
     )
 
-returns-3 : tie.Need-returns-3
-returns-3 c =
+returns-2 : tie.Need-returns-2
+returns-2 c =
     let at-parse-body = c .before .before .before .before in
     let at-unused = at-parse-body .before .before .before in
-    let fit = at-unused .before .before .before .before .before .before .before .before .before .before .before .before .before .pre .1 .1 .1 in
+    let fit = at-unused .before .before .before .before .before .before .before .before .before .before .before .before .before .before .pre .1 .1 .1 in
     from-module (fit .1) _ _ _ _ (fit .0 .0) (fit .0 .1) _ _ (at-unused .unused .ensures) (at-parse-body .parse-body .ensures .0)
 
 pub keep-operands-spec : {M : Type 1} → statement M
@@ -74,15 +65,13 @@ keep-operands-spec =
     (tie.spec
     (λ c. let at-if1 = c .before .before .before in sym (length-take-le _ _ (at-if1 .if1 .taken)))
     put-bytes-requires
-    (λ c. search needs)
-    returns
-    (λ c. let at-if2 = c .before .before .before .before .before .before .before .before in sym (length-take-le _ _ (at-if2 .if2 .taken)))
+    (λ c. let at-if2 = c .before .before .before .before .before .before .before in sym (length-take-le _ _ (at-if2 .if2 .taken)))
     put-bytes-requires-2
     (λ c. search needs)
     (λ c. search needs)
-    returns-2
+    returns
     (λ c κs. search needs)
     parse-body-requires
     (λ c. search needs)
     (λ c. search needs)
-    returns-3)
+    returns-2)

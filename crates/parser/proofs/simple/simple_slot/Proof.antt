@@ -53,10 +53,13 @@ returns-5 : tie.Need-returns-5
 returns-5 c =
     let at-simple-literal = c .before .before in
     let at-literal-kind = at-simple-literal .before .before in
-    let at-if5 = at-literal-kind .before .before in
+    let at-resolve = at-literal-kind .before in
+    let at-id-of = at-resolve .before in
+    let at-if5 = at-id-of .before in
+    let kind = at-literal-kind .literal-kind .ensures in
     let at-if1 = at-if5 .before .before .before .before .before in
     let at-is-result = at-if1 .before in
-    reads-as _ _ _ _ _ _ _ _ _ (at-is-result .is-result .ensures) _ (literal-result _ _ _ _ (at-if5 .if5 .taken) _ (at-literal-kind .before .id-of .ensures) (at-literal-kind .literal-kind .ensures) .0) (at-if1 .if1 .left) _ _ _ _ (kind-literal _ _ _ _ (at-if5 .if5 .taken)) (at-simple-literal .simple-literal .ensures _)
+    reads-as _ _ _ _ _ _ _ _ _ (at-is-result .is-result .ensures) _ (literal-result _ _ _ _ (at-if5 .if5 .taken) _ (at-id-of .id-of .ensures) (kind .0 _ _ (at-resolve .resolve .ensures), kind .1) .0) (at-if1 .if1 .left) _ _ _ _ (kind-literal _ _ _ _ (at-if5 .if5 .taken)) (at-simple-literal .simple-literal .ensures _)
 
 pub simple-slot-spec : {M : Type 1} → statement M
 simple-slot-spec =
@@ -79,6 +82,7 @@ simple-slot-spec =
     (λ c. search needs)
     (λ c. search needs)
     returns-4
+    (λ c κs. search needs)
     (λ c κs. search needs)
     (λ c κs. search needs)
     (λ c κs. search needs)
