@@ -1,18 +1,23 @@
 -- Laws of keeping an instruction that goes in.
-use Prim.Native.Nat.{ℕ, _+_, _*_, _≤_}
+use Prim.Native.Nat.{ℕ, suc, _+_, _-_, _*_, _<_, _≤_}
 use mathlib.Core.Path.{_≡_, refl, ap, sym, subst, _∙_}
 use mathlib.Core.List.{List}
 use native.Mathlib.Nat.{add-zero, zero-add}
 use native.Mathlib.Omega.{arith}
-use lib.ListN.{length, take, drop}
-use lib.Seq.{sets, sets-eq, take-append-seam}
+use lib.ListN.{length, getD, set, take, drop, take-append-drop}
+use borrow.Rule.Slice.PartMut.{midOf}
+use lib.Seq.{sets, sets-eq, take-append-seam, length-take-le}
 use Rattle.spec.specs.declared.Limit.the-variants.{Unlimited}
 use Rattle.spec.specs.declared.Fields.{Fields}
 use Rattle.spec.specs.Records.{Instr, Entry, operandsLog, operandsStrings, recordSize, fieldWords}
+use Rattle.spec.specs.Words.{fourAt, bytesOf}
 use Rattle.spec.specs.Reader.{Reader, Read, got, refused, readerAt}
 use Rattle.spec.specs.Grammar.{grammarOf}
 use Rattle.spec.specs.Match.{readInstr}
 use Rattle.spec.specs.Load.{counts}
+use Rattle.spec.proofs.Store.{sets-append, rest-is}
+use Rattle.words.proofs.Copying.{Copied, copy-turn}
+use Rattle.demands.proofs.Bytes.{SliceOfBytes, four-word}
 use Rattle.demands.proofs.Room.{log-some}
 use Rattle.demands.proofs.Formed.{well-formed-good}
 use Rattle.demands.proofs.Instructions.{Frames, instr-read}
@@ -36,6 +41,40 @@ use Rattle.loader.proofs.Judging.{log-size, strings-size}
 -- what is read once is the same
 same-read : (x : Read Instr) (i j : Instr) (r q : Reader) → x ≡ got i r → x ≡ got j q → j ≡ i
 same-read x i j r q e f = cc
+
+-- THE COPY OF RECORDS
+
+module _ {l₀ l s : List ℕ} {at i : ℕ} (r : Copied l₀ l s at i) where
+  -- five bytes further: one, and the four of a word
+  pub copy-five : SliceOfBytes s → i + 5 ≤ length s → (w : ℕ) → w ≡ fourAt (i + 1) s → (l₁ : List ℕ)
+      → l₁ ≡ sets (set l (at + i) (getD s i 0)) (at + i + 1) (bytesOf w) → Copied l₀ l₁ s at (i + 5)
+  copy-five bs h w e l₁ q =
+      let b : (k : ℕ) → getD s k 0 < 256 = λ k. bs k .fits in
+      let are = four-word _ _ _ _ (b (i + 1), (b (i + 1 + 1), (b (i + 1 + 2), (b (i + 1 + 3), tt)))) .1 in
+      let one = copy-turn r (omega arith) in
+      let two = copy-turn one (omega arith) in
+      let three = copy-turn two (omega arith) in
+      let four = copy-turn three (omega arith) in
+      let five = copy-turn four (omega arith) in
+      let at4 : suc (suc (suc (at + i + 1))) ≡ at + (i + 1 + 1 + 1 + 1) = omega arith in
+      let at3 : suc (suc (at + i + 1)) ≡ at + (i + 1 + 1 + 1) = omega arith in
+      let at2 : suc (at + i + 1) ≡ at + (i + 1 + 1) = omega arith in
+      let at1 : at + i + 1 ≡ at + (i + 1) = omega arith in
+      let i3 : i + 1 + 2 ≡ i + 1 + 1 + 1 = omega arith in
+      let i4 : i + 1 + 3 ≡ i + 1 + 1 + 1 + 1 = omega arith in
+      let i5 : i + 5 ≡ i + 1 + 1 + 1 + 1 + 1 = omega arith in
+      rw (q, e, are, at4, at3, at2, at1, i3, i4, i5) five
+
+  -- all of them, where the rest is stored too
+  pub copy-rest : (l₁ : List ℕ) → l₁ ≡ sets l (at + i) (midOf i (length s - i) s) → l₁ ≡ sets l₀ at s
+  copy-rest l₁ q =
+      let size : length (take i s) ≡ i = length-take-le i s (r .within) in
+      q
+      ∙ ap (λ (x : List ℕ). sets x (at + i) (midOf i (length s - i) s)) (r .stored)
+      ∙ ap (λ (bs : List ℕ). sets (sets l₀ at (take i s)) (at + i) bs) (rest-is s i)
+      ∙ ap (λ (k : ℕ). sets (sets l₀ at (take i s)) (at + k) (drop i s)) (sym size)
+      ∙ sets-append (take i s) (drop i s) l₀ at
+      ∙ ap (λ (bs : List ℕ). sets l₀ at bs) (take-append-drop i s)
 
 -- FROM SCRATCH AND SPARE
 

@@ -2,6 +2,7 @@
 ghost use mathlib.Core.Path.{_≡_};
 ghost use Prim.Native.Nat.{_+_, _*_, _≤_};
 ghost use lib.ListN.{length};
+ghost use lib.Seq.{sets};
 ghost use Rattle.spec.specs.Records.{recordSize, entrySize};
 ghost use Rattle.spec.specs.Reader.{refusal};
 ghost use Rattle.spec.specs.Load.{roomFault};
@@ -139,6 +140,21 @@ pub fn admit(
 
 // KEEPING
 
+// The records of operands, stored at a place: most have five bytes, a kind and a word.
+fn put_records(log: &mut [u8], at: usize, records: &[u8])
+    requires { ⌜ at + length (now records) ≤ length (now log) ⌝ }
+    ensures { λ _. ⌜ now (log .exit) ≡ sets (now (log .entry)) at (now (records .entry)) ⌝ }
+{
+    let mut i = 0;
+    while 5 <= records.len() - i {
+        let word = words::word_at(records, i + 1);
+        log[at + i] = records[i];
+        words::put_word(log, at + i + 1, word);
+        i += 5;
+    }
+    words::put_bytes(log, at + i, &records[i..]);
+}
+
 // Keeps the operands of an instruction that goes in: from scratch and spare, or, where they are too long for these, from the module
 // again.
 pub fn keep_operands(
@@ -169,11 +185,17 @@ pub fn keep_operands(
     let more = d.strings;
     if size <= scratch.len() {
         if more <= spare.len() {
-            words::put_bytes(log, log_to, &scratch[..size]);
+            put_records(log, log_to, &scratch[..size]);
             words::put_bytes(strings, strings_to, &spare[..more]);
             return;
         }
     }
+    // Copies, which the call is handed: so what the way above has need not lie in memory.
+    let module = s;
+    let rows = g;
+    let places = index;
+    let entries = types;
+    let guesses = hints;
     let tracker = p.tracker;
     let frame = Frame {
         at,
@@ -183,11 +205,11 @@ pub fn keep_operands(
     };
     let used = unused(log_to, strings_to, 0);
     parse_body(
-        s,
-        g,
-        index,
-        types,
-        hints,
+        module,
+        rows,
+        places,
+        entries,
+        guesses,
         tracker,
         frame,
         log,

@@ -211,15 +211,21 @@ pub fn parse_inst(
                 return finished(frame, e, u);
             }
             // Copies, which the call is handed: so the short walk's own need not lie in memory.
+            let module = s;
+            let rows = g;
+            let places = index;
+            let entries = types;
+            let guesses = hints;
+            let known = tracker;
             let whole = frame;
             let from = used;
             parse_body(
-                s,
-                g,
-                index,
-                types,
-                hints,
-                tracker,
+                module,
+                rows,
+                places,
+                entries,
+                guesses,
+                known,
                 whole,
                 log,
                 strings,

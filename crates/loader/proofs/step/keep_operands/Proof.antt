@@ -8,26 +8,26 @@ use borrow.Author.Needs.{needs}
 use Rattle.loader.proofs.step.keep_operands.Statement.{statement}
 use Rattle.loader.proofs.step.keep_operands.Tie as tie
 
-put-bytes-requires : tie.Need-put-bytes-requires
-put-bytes-requires c κs =
+put-records-requires : tie.Need-put-records-requires
+put-records-requires c κs =
     let at-if1 = c .before .before .before in
     let at-start = at-if1 .before .before .before .before .before .before .before .before .before .before .before .before in
     omega (arith, length-take-le (at-start .args .t .read .log) (at-start .args .scratch .now) (at-if1 .if1 .taken), at-start .pre .1 .1 .1 .0 .0)
 
-put-bytes-requires-2 : tie.Need-put-bytes-requires-2
-put-bytes-requires-2 c κs =
+put-bytes-requires : tie.Need-put-bytes-requires
+put-bytes-requires c κs =
     let at-if2 = c .before .before .before .before .before .before .before in
     let at-start = at-if2 .before .before .before .before .before .before .before .before .before .before .before .before .before in
     omega (arith, length-take-le (at-start .args .t .read .strings) (at-start .args .spare .now) (at-if2 .if2 .taken), at-start .pre .1 .1 .1 .0 .1)
 
 returns : tie.Need-returns
 returns c =
-    let at-put-bytes2 = c .before .before in
-    let at-put-bytes = at-put-bytes2 .before .before .before .before .before in
-    let at-if2 = at-put-bytes .before .before .before in
+    let at-put-bytes = c .before .before in
+    let at-put-records = at-put-bytes .before .before .before .before .before in
+    let at-if2 = at-put-records .before .before .before in
     let at-if1 = at-if2 .before in
     let at-start = at-if1 .before .before .before .before .before .before .before .before .before .before .before .before in
-    from-scratch (at-start .pre .1 .1 .1 .1) (at-if1 .if1 .taken) (at-if2 .if2 .taken) _ _ _ _ (at-put-bytes .put-bytes .ensures) (at-put-bytes2 .put-bytes2 .ensures)
+    from-scratch (at-start .pre .1 .1 .1 .1) (at-if1 .if1 .taken) (at-if2 .if2 .taken) _ _ _ _ (at-put-records .put-records .ensures) (at-put-bytes .put-bytes .ensures)
 
 parse-body-requires : tie.Need-parse-body-requires
 parse-body-requires c κs =
@@ -64,9 +64,9 @@ keep-operands-spec =
     tie.close
     (tie.spec
     (λ c. let at-if1 = c .before .before .before in sym (length-take-le _ _ (at-if1 .if1 .taken)))
-    put-bytes-requires
+    put-records-requires
     (λ c. let at-if2 = c .before .before .before .before .before .before .before in sym (length-take-le _ _ (at-if2 .if2 .taken)))
-    put-bytes-requires-2
+    put-bytes-requires
     (λ c. search needs)
     (λ c. search needs)
     returns
