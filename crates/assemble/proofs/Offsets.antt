@@ -61,7 +61,7 @@ module _ (ws log strings : List ℕ) (count : ℕ) (g : GoodStores ws log string
     offset-at = ap (λ (y : Fields). y .offset) e ∙ offset-is i h
 
     -- where it ends
-    offset-after : f .offset + 4 * f .words ≡ 20 + length (bytesOfAll (take (i + 1) (instrsOf ws log strings count)))
+    pub offset-after : f .offset + 4 * f .words ≡ 20 + length (bytesOfAll (take (i + 1) (instrsOf ws log strings count)))
     offset-after = omega (arith, offset-at, length-to (instrsOf ws log strings count) i, at-length (stores-at ws log strings count g i h f e))
 
     -- where the last ends

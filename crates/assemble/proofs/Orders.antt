@@ -1,24 +1,26 @@
 -- Laws of the orders: what each index adds to what is written.
-use Prim.Native.Nat.{ℕ, zero, suc, _+_, _*_, _-_, _<_, _≤_, min}
+use Prim.Native.Nat.{ℕ, zero, suc, _+_, _*_, _-_, _<_, _≤_}
 use mathlib.Core.Path.{_≡_, refl, ap, sym, _∙_}
 use mathlib.Core.Bool.{Bool, true, false}
-use mathlib.Core.List.{List, [], _∷_, _++_, append-nil, reverse, reverse-append}
+use mathlib.Core.List.{List, [], _∷_, _++_, append-nil}
 use native.Mathlib.Omega.{arith}
 use native.Mathlib.Numerals.{add-one}
 use borrow.Author.Tests.{eq-eqb, ne-eqb, le-leb, lt-leb}
+use borrow.Rule.Slice.PartMut.{midOf, putMid}
 use lib.Dec.{leb, eqb}
 use lib.ListN.{length, take, drop, take-append-drop, drop-of-length-le}
-use lib.Seq.{drop-drop, take-add, take-all}
+use lib.Seq.{sets, drop-drop, take-add}
 use Rattle.spec.specs.declared.Fields.{Fields}
 use Rattle.spec.specs.Base.{if_then_else_, only}
 use Rattle.spec.specs.Records.{Placed, instrBytes}
 use Rattle.spec.specs.Check.{placedOf}
 use Rattle.spec.specs.Write.{bytesOfAll, hasTag, sectionOf, sections, parametersIn, functions, moduleOrder}
-use Rattle.operand.specs.Log.{kept}
+use Rattle.spec.proofs.Store.{rest-back}
 use Rattle.assemble.specs.Spelled.{saidBy}
-use Rattle.assemble.specs.Placing.{GoodStores, instrsOf, oneAt, tagged, laterOf, lastTagged, functionPart, largest, Room, Wrote}
+use Rattle.assemble.specs.Placing.{GoodStores, instrsOf, oneAt, tagged, functionPart, Room, Wrote}
 use Rattle.assemble.proofs.Spell.{length-said}
 use Rattle.assemble.proofs.Stores.{At, one-is, stores-length}
+use Rattle.assemble.proofs.Place.{wrote-both}
 
 -- ONE INSTRUCTION
 
@@ -33,15 +35,15 @@ module _ {ws log strings : List ℕ} {count i : ℕ} {f : Fields} (a : At ws log
   at-length = ap length (sym at-bytes) ∙ length-said log strings f (a .sound)
 
   -- there is room for it
-  pub one-room : {keep : Bool} {out : List ℕ} {at : ℕ} → Room keep out at (oneAt (instrsOf ws log strings count) i) → keep ≡ true → at + 4 * f .words ≤ length out
-  one-room r e = omega (arith, r .room e, at-length)
+  pub one-room : {out : List ℕ} {at : ℕ} → Room out at (oneAt (instrsOf ws log strings count) i) → at + 4 * f .words ≤ length out
+  one-room r = omega (arith, r .room, at-length)
 
   -- it is written
-  pub one-wrote : (keep : Bool) (out : List ℕ) (at r : ℕ) (out' : List ℕ) → r ≡ min (at + 4 * f .words) largest
-      → out' ≡ kept keep out at (instrBytes (saidBy log strings f .instr)) → Wrote keep out at (oneAt (instrsOf ws log strings count) i) r out'
-  one-wrote keep out at r out' p e = record {
-    place = p ∙ ap (λ (n : ℕ). min (at + n) largest) (sym at-length);
-    stored = e ∙ ap (kept keep out at) at-bytes;
+  pub one-wrote : (out ys : List ℕ) (at : ℕ) → ys ≡ sets (midOf at (length out - at) out) 0 (instrBytes (saidBy log strings f .instr))
+      → Wrote out at (oneAt (instrsOf ws log strings count) i) (at + 4 * f .words) (putMid at (length out - at) out ys)
+  one-wrote out ys at e = record {
+    place = ap (λ (n : ℕ). at + n) (sym at-length);
+    stored = rest-back out (instrBytes (saidBy log strings f .instr)) ys at e ∙ ap (sets out at) at-bytes;
   }
 
 -- ALL
@@ -67,15 +69,14 @@ only-append f (x ∷ xs) ys = only-first (f x) x (only f xs) (only f ys) (only f
     only-first true x l m n e = ap (λ (z : List _). x ∷ z) e
     only-first false x l m n e = e
 
+-- those with a tag of two lists
+pub tagged-append : (t : ℕ) (is js : List Placed) → tagged t (is ++ js) ≡ tagged t is ++ tagged t js
+unfolding tagged
+tagged-append t is js = only-append (hasTag t) is js
+
 -- those with a tag at an index, and those after it
 pub tagged-more : (t : ℕ) (is : List Placed) (i : ℕ) → tagged t (drop i is) ≡ tagged t (oneAt is i) ++ tagged t (drop (i + 1) is)
-unfolding tagged
-tagged-more t is i = ap (only (hasTag t)) (all-more is i) ∙ only-append (hasTag t) (oneAt is i) (drop (i + 1) is)
-
--- none of none
-pub tagged-end : (t : ℕ) (is : List Placed) → is ≡ [] → tagged t is ≡ []
-unfolding tagged
-tagged-end t is e = ap (only (hasTag t)) e
+tagged-more t is i = ap (tagged t) (all-more is i) ∙ tagged-append t (oneAt is i) (drop (i + 1) is)
 
 module _ {ws log strings : List ℕ} {count i : ℕ} {f : Fields} (a : At ws log strings count i f) (t : ℕ) where
   -- the instruction has the tag or has not
@@ -92,88 +93,22 @@ module _ {ws log strings : List ℕ} {count i : ℕ} {f : Fields} (a : At ws log
   pub tagged-no : (f .tag ≡ t → ⊥) → tagged t (oneAt (instrsOf ws log strings count) i) ≡ []
   tagged-no n = tagged-by false (ne-eqb (f .tag) t n)
 
--- the later index is the one
-pub later-yes : (a t i k : ℕ) → a ≡ t → i ≡ laterOf (eqb a t) i k
-unfolding laterOf
-later-yes a t i k e = rw (eq-eqb a t e)
+  -- how many bytes it is, where it has
+  pub tagged-size : length (bytesOfAll (tagged t (oneAt (instrsOf ws log strings count) i))) ≡ (if eqb (f .tag) t then 4 * f .words else 0)
+  unfolding bytesOfAll
+  tagged-size = sized (eqb (f .tag) t) refl
+    where
+      -- by whether it has
+      sized : (b : Bool) → eqb (f .tag) t ≡ b → length (bytesOfAll (tagged t (oneAt (instrsOf ws log strings count) i))) ≡ (if b then 4 * f .words else 0)
+      sized true e = ap (λ (l : List Placed). length (bytesOfAll l)) (tagged-by true e) ∙ at-length a
+      sized false e = ap (λ (l : List Placed). length (bytesOfAll l)) (tagged-by false e)
 
--- or the one before
-pub later-no : (a t i k : ℕ) → (a ≡ t → ⊥) → k ≡ laterOf (eqb a t) i k
-unfolding laterOf
-later-no a t i k n = rw (ne-eqb a t n)
-
--- neither is too large
-later-few : (b : Bool) (i k n : ℕ) → i ≤ n → k ≤ n → laterOf b i k ≤ n
-unfolding laterOf
-later-few true i k n h g = h
-later-few false i k n h g = g
-
--- THE LAST WITH A TAG
-
--- the last of some and one more
-last-more : (xs ys : List Placed) (p : Placed) → ys ≡ p ∷ [] → take 1 (reverse (xs ++ ys)) ≡ ys
-last-more xs ys p e =
-    ap (λ (z : List Placed). take 1 (reverse (xs ++ z))) e ∙ ap (take 1) (reverse-append xs (p ∷ [])) ∙ sym e
-
--- those up to an index
-tagged-up : (t : ℕ) (is : List Placed) (i : ℕ) → tagged t (take (i + 1) is) ≡ tagged t (take i is) ++ tagged t (oneAt is i)
-unfolding tagged oneAt
-tagged-up t is i = ap (only (hasTag t)) (take-add i 1 is) ∙ only-append (hasTag t) (take i is) (take 1 (drop i is))
-
--- the last with a tag up to an index stands at another, or nowhere
-pub record Found (ws log strings : List ℕ) (count t i last : ℕ) : Type 0 where
-  pub is : lastTagged t (take i (instrsOf ws log strings count)) ≡ oneAt (instrsOf ws log strings count) last
-  pub within : last ≤ count
-
--- nowhere at first
-pub found-starts : (ws log strings : List ℕ) (count : ℕ) → GoodStores ws log strings count → (t : ℕ) → Found ws log strings count t 0 count
-unfolding lastTagged tagged oneAt
-found-starts ws log strings count g t = record { is = sym (ap (take 1) (all-end ws log strings count g count (omega arith))); within = omega arith }
-
-module _ {ws log strings : List ℕ} {count i : ℕ} {f : Fields} (a : At ws log strings count i f) (t k : ℕ) where
-  -- by whether it has the tag
-  found-by : (b : Bool) → eqb (f .tag) t ≡ b → lastTagged t (take i (instrsOf ws log strings count)) ≡ oneAt (instrsOf ws log strings count) k
-      → lastTagged t (take (i + 1) (instrsOf ws log strings count)) ≡ oneAt (instrsOf ws log strings count) (laterOf b i k)
-  unfolding lastTagged laterOf
-  found-by true e h =
-      let is = instrsOf ws log strings count in
-      ap (λ (z : List Placed). take 1 (reverse z)) (tagged-up t is i ∙ ap (λ (z : List Placed). tagged t (take i is) ++ z) (tagged-by a t true e))
-      ∙ last-more (tagged t (take i is)) (oneAt is i) (saidBy log strings f) (one-is a)
-  found-by false e h =
-      let is = instrsOf ws log strings count in
-      ap (λ (z : List Placed). take 1 (reverse z))
-      (tagged-up t is i ∙ ap (λ (z : List Placed). tagged t (take i is) ++ z) (tagged-by a t false e) ∙ append-nil (tagged t (take i is)))
-      ∙ h
-
-  -- one index further
-  pub found-goes-on : (r : ℕ) → r ≡ laterOf (eqb (f .tag) t) i k → i < count → Found ws log strings count t i k → Found ws log strings count t (i + 1) r
-  found-goes-on r e h g = record {
-    is = found-by (eqb (f .tag) t) refl (g .is) ∙ ap (oneAt (instrsOf ws log strings count)) (sym e);
-    within = omega (arith, e, later-few (eqb (f .tag) t) i k count (omega arith) (g .within));
-  }
-
--- all are passed
-pub found-ends : (ws log strings : List ℕ) (count : ℕ) → GoodStores ws log strings count → (t i k : ℕ) → Found ws log strings count t i k → count ≤ i
-    → oneAt (instrsOf ws log strings count) k ≡ lastTagged t (instrsOf ws log strings count)
-found-ends ws log strings count g t i k e h =
-    sym (e .is) ∙ ap (lastTagged t) (take-all i (instrsOf ws log strings count) (omega (arith, stores-length ws log strings count g)))
-
--- past the last index there is none
-pub one-none : (ws log strings : List ℕ) (count : ℕ) → GoodStores ws log strings count → (k : ℕ) → count ≤ k → oneAt (instrsOf ws log strings count) k ≡ []
+-- those with a tag up to an index
+pub tagged-up : (t : ℕ) (is : List Placed) (i : ℕ) → tagged t (take (i + 1) is) ≡ tagged t (take i is) ++ tagged t (oneAt is i)
 unfolding oneAt
-one-none ws log strings count g k h = ap (take 1) (all-end ws log strings count g k h)
+tagged-up t is i = ap (tagged t) (take-add i 1 is) ∙ tagged-append t (take i is) (take 1 (drop i is))
 
 -- THE SECTIONS
-
--- of MemoryModel the last
-pub section-last : (t : ℕ) (is : List Placed) → t ≡ 4 → sectionOf t is ≡ lastTagged t is
-unfolding sectionOf lastTagged tagged
-section-last t is e = simp (eq-eqb t 4 e)
-
--- of any other all
-pub section-all : (t : ℕ) (is : List Placed) → (t ≡ 4 → ⊥) → sectionOf t is ≡ tagged t is
-unfolding sectionOf tagged
-section-all t is n = simp (ne-eqb t 4 n)
 
 -- so many sections from a tag on
 unfoldable pub sectionsFrom : ℕ → ℕ → List Placed → List Placed
@@ -274,3 +209,13 @@ module _ {ws log strings : List ℕ} {count i : ℕ} {f : Fields} (a : At ws log
 pub module-is : (is : List Placed) → moduleOrder is ≡ sections is ++ functions is
 unfolding moduleOrder
 module-is is = refl
+
+-- there is room for both
+pub module-room : (is : List Placed) (out : List ℕ) → 20 + length (bytesOfAll (moduleOrder is)) ≤ length out → Room out 20 (sections is ++ functions is)
+module-room is out h = record { room = omega (arith, h, ap (λ (l : List Placed). length (bytesOfAll l)) (module-is is)) }
+
+-- one after the other
+pub module-put : (is : List Placed) (out out' out'' : List ℕ) (r r' : ℕ) → Wrote out 20 (sections is) r out' → Wrote out' r (functions is) r' out''
+    → out'' ≡ sets out 20 (bytesOfAll (moduleOrder is))
+module-put is out out' out'' r r' w v =
+    wrote-both (sections is) (functions is) w v .stored ∙ ap (λ (l : List Placed). sets out 20 (bytesOfAll l)) (sym (module-is is))

@@ -7,7 +7,7 @@ use native.Mathlib.Omega.{arith}
 use borrow.Author.Tests.{lt-ltb, le-ltb}
 use lib.Dec.{ltb}
 use lib.ListN.{length, take, getD, set, length-append, drop-of-length-le}
-use lib.Seq.{sets, length-sets, length-take-le, take-length, drop-cons}
+use lib.Seq.{sets, length-take-le, take-length, drop-cons}
 use Rattle.spec.specs.declared.Written.{Written}
 use Rattle.spec.specs.declared.State.the-variants.{Outside}
 use Rattle.spec.specs.Base.{if_then_else_, joined}
@@ -17,13 +17,12 @@ use Rattle.spec.specs.Load.{laidOver}
 use Rattle.spec.specs.Check.{Given, lower, missing, fieldsFault, Scan, scanFrom, scanOf, tagsFault, recordsOf, faultOf, Checked, good, check}
 use Rattle.spec.specs.Write.{bytesOfAll, parseBytes, moduleHeader, moduleOrder, moduleBytes, Writing, unwritten, writeBy, writeParse, writeModule}
 use Rattle.spec.proofs.Store.{sets-append}
-use Rattle.operand.specs.Log.{kept}
 use Rattle.records.specs.declared.Checked.{Checked as Answer}
 use Rattle.records.specs.declared.Checked.the-variants.{Good as AllGood, Bad}
 use Rattle.records.specs.Steps.{given, checkedIs}
 use Rattle.records.specs.Good.{Good}
 use Rattle.records.proofs.Good.{good-by, good-counts, check-is-good, check-is-bad}
-use Rattle.assemble.specs.Placing.{fullStores, GoodStores, instrsOf, ordered, largest, Room, Wrote, orderBytes, writtenOver, writeOrder}
+use Rattle.assemble.specs.Placing.{fullStores, GoodStores, instrsOf, ordered, orderBytes, writtenOver, writeOrder}
 use Rattle.assemble.specs.Writes.{Writes}
 
 -- THE HEADER
@@ -72,10 +71,6 @@ module-words h e =
 pub writes-as : {x y : Writing} {out : List ℕ} {w : Written} → x ≡ y → Writes x out w → Writes y out w
 writes-as {out = out} {w = w} e h = subst (λ (z : Writing). Writes z out w) e h
 
--- measuring needs no room
-pub measure-room : (out : List ℕ) (at : ℕ) (ps : List Placed) → length out < largest → Room false out at ps
-measure-room out at ps h = record { small = h; room = λ e. let z : _≡_ {A = ℕ} 0 1 = cc in absurd (omega arith) }
-
 -- one of two, by a test that holds
 pick-yes : (t : Bool) (x y : Writing) → t ≡ true → x ≡ (if t then x else y)
 pick-yes t x y e = rw e
@@ -101,7 +96,7 @@ unfolding ordered
 read-order is = refl
 
 -- in module order
-whole-order : (is : List Placed) → ordered true is ≡ moduleOrder is
+pub whole-order : (is : List Placed) → ordered true is ≡ moduleOrder is
 unfolding ordered
 whole-order is = refl
 
@@ -141,46 +136,6 @@ module _ (whole : Bool) (h : List ℕ) (five : length h ≡ 5) (is ps : List Pla
     write-done n e g =
         writes-as (over-done out (orderBytes whole h is) (omega (arith, e, g, order-length)))
         (record { said = ap (λ (k : ℕ). record { number = 0; index = 0; bytes = k }) (e ∙ sym order-length); output = end-out })
-
-module _ (h : List ℕ) (five : length h ≡ 5) (is : List Placed) (out : List ℕ) (small : length out < largest)
-    (need : ℕ) (l₁ : List ℕ) (m : Wrote false out 20 (moduleOrder is) need l₁) where
-  -- the output is as it was
-  measured-same : l₁ ≡ out
-  unfolding kept
-  measured-same = m .stored
-
-  -- more bytes were measured than the output has
-  pub whole-full : length l₁ < need → (w : Written) → w ≡ record { number = 29; index = 0; bytes = 0 }
-      → Writes (writtenOver out (orderBytes true h is)) l₁ w
-  whole-full g w e = write-full true h five is (moduleOrder is) (whole-order is) out w l₁ e measured-same (omega (arith, g, ap length measured-same, m .place))
-
-  module _ (g : need ≤ length l₁) (l₂ : List ℕ) (e : l₂ ≡ sets l₁ 0 (joined bytesOf h)) where
-    -- there is room for what was measured
-    pub whole-room : (keep : Bool) → Room keep l₂ 20 (moduleOrder is)
-    whole-room keep =
-        let q : length l₂ ≡ length out = ap length e ∙ length-sets l₁ 0 (joined bytesOf h) ∙ ap length measured-same in
-        record { small = omega arith; room = λ _. omega (arith, m .place, ap length measured-same) }
-
-    -- it is written
-    pub whole-done : (end : ℕ) (l₃ : List ℕ) → Wrote true l₂ 20 (moduleOrder is) end l₃
-        → Writes (writtenOver out (orderBytes true h is)) l₃ (record { number = 0; index = 0; bytes = end })
-    unfolding kept
-    whole-done end l₃ w =
-        write-done
-        true
-        h
-        five
-        is
-        (moduleOrder is)
-        (whole-order is)
-        out
-        l₂
-        l₃
-        (e ∙ ap (λ (z : List ℕ). sets z 0 (joined bytesOf h)) measured-same)
-        (w .stored)
-        end
-        (omega (arith, g, small, ap length measured-same, m .place, w .place))
-        (omega (arith, g, small, ap length measured-same, m .place, w .place))
 
 -- STORES CUT AT THEIR COUNTS
 

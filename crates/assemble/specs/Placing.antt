@@ -1,16 +1,16 @@
--- Instructions placed in an output: the room they need, and what was written or only measured.
-use Prim.Native.Nat.{ℕ, _+_, _<_, _≤_, min}
+-- Instructions placed in an output: the ranges that their tags stand in, the room they need, and what was written.
+use Prim.Native.Nat.{ℕ, _+_, _<_, _≤_}
 use mathlib.Core.Path.{_≡_}
-use mathlib.Core.Bool.{Bool, true, false}
-use mathlib.Core.List.{List, [], _∷_, _++_, reverse}
-use lib.Dec.{leb}
-use lib.ListN.{length, take, drop}
+use mathlib.Core.Bool.{Bool, true, false, _||_}
+use mathlib.Core.List.{List, [], _∷_, _++_}
+use lib.Dec.{leb, eqb}
+use lib.ListN.{length, take, drop, getD}
+use lib.Seq.{sets}
 use Rattle.spec.specs.Base.{if_then_else_, joined, only}
 use Rattle.spec.specs.Words.{bytesOf}
 use Rattle.spec.specs.Records.{Placed, recordSize}
 use Rattle.spec.specs.Check.{Given, scanOf, check}
-use Rattle.spec.specs.Write.{bytesOfAll, hasTag, parametersIn, moduleOrder, Writing, put, writeBy}
-use Rattle.operand.specs.Log.{kept}
+use Rattle.spec.specs.Write.{bytesOfAll, hasTag, sectionOf, parametersIn, moduleOrder, Writing, put, writeBy}
 use Rattle.records.specs.Steps.{given}
 use Rattle.records.specs.Good.{Good}
 
@@ -34,13 +34,21 @@ oneAt is i = take 1 (drop i is)
 unfoldable pub tagged : ℕ → List Placed → List Placed
 tagged t is = only (hasTag t) is
 
--- the later of two indices, where it is one that is looked for
-unfoldable pub laterOf : Bool → ℕ → ℕ → ℕ
-laterOf found i before = if found then i else before
+-- a section lies in a range of instructions: it has those with its tag from the first on, and from the end on none has it
+pub record Ranged (is : List Placed) (t first end : ℕ) : Type 0 where
+  pub opens : sectionOf t is ≡ tagged t (drop first is)
+  pub closes : tagged t (drop end is) ≡ []
+  pub order : first ≤ end
+  pub within : end ≤ length is
 
--- the last instruction with a tag
-unfoldable pub lastTagged : ℕ → List Placed → List Placed
-lastTagged t is = take 1 (reverse (tagged t is))
+-- each section does, and so do the definitions of functions, by their tags
+pub record AllRanged (is : List Placed) (first end : List ℕ) : Type 0 where
+  pub each : (t : ℕ) → t < 13 → Ranged is t (getD first t 0) (getD end t 0)
+
+-- where a range begins when one more of its tag comes: there, where it is a MemoryModel, of which only the last is written, or the
+-- first
+unfoldable pub beginsAt : ℕ → ℕ → ℕ → ℕ → ℕ
+beginsAt t i first end = if eqb t 4 || eqb end 0 then i else first
 
 -- what the functions write where an instruction comes first: a definition and its parameters, a block's instruction, or nothing
 unfoldable pub functionPart : List Placed → List Placed
@@ -55,19 +63,14 @@ unfoldable pub ordered : Bool → List Placed → List Placed
 ordered true is = moduleOrder is
 ordered false is = is
 
--- the largest place
-abbrev pub largest : ℕ
-largest = 18446744073709551615
+-- an output has room at a place for some instructions
+pub record Room (out : List ℕ) (at : ℕ) (ps : List Placed) : Type 0 where
+  pub room : at + length (bytesOfAll ps) ≤ length out
 
--- an output has room at a place for some instructions, where they are kept
-pub record Room (keep : Bool) (out : List ℕ) (at : ℕ) (ps : List Placed) : Type 0 where
-  pub small : length out < largest
-  pub room : keep ≡ true → at + length (bytesOfAll ps) ≤ length out
-
--- instructions kept at a place, or only measured: the place after them (the largest stands for all beyond it), and the output
-pub record Wrote (keep : Bool) (out : List ℕ) (at : ℕ) (ps : List Placed) (next : ℕ) (after : List ℕ) : Type 0 where
-  pub place : next ≡ min (at + length (bytesOfAll ps)) largest
-  pub stored : after ≡ kept keep out at (bytesOfAll ps)
+-- instructions written at a place: the place after them, and the output
+pub record Wrote (out : List ℕ) (at : ℕ) (ps : List Placed) (next : ℕ) (after : List ℕ) : Type 0 where
+  pub place : next ≡ at + length (bytesOfAll ps)
+  pub stored : after ≡ sets out at (bytesOfAll ps)
 
 -- a header and the instructions after it
 unfoldable pub orderBytes : Bool → List ℕ → List Placed → List ℕ

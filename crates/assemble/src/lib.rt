@@ -2,6 +2,7 @@
 mod instruction;
 mod order;
 mod stand;
+mod survey;
 mod write;
 
 pub use stand::standing;

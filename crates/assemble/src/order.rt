@@ -1,49 +1,22 @@
-// The instructions of good stores: as read, each at its offset; or in module order, each into the rest of the output, kept or only
-// measured.
+// The instructions of good stores: as read, each at its offset; or in module order, each section from the range that its tag stands in.
 ghost use mathlib.Core.Path.{_≡_};
-ghost use mathlib.Core.Bool.{true};
 ghost use mathlib.Core.List.{_++_};
-ghost use Prim.Native.Nat.{_+_, _*_, _<_, _≤_, min};
-ghost use lib.Dec.{eqb};
+ghost use Prim.Native.Nat.{_+_, _<_, _≤_};
 ghost use lib.ListN.{length, drop};
 ghost use lib.Seq.{sets};
-ghost use Rattle.spec.specs.Records.{instrBytes, recordSize, fieldsAt};
 ghost use Rattle.spec.specs.Write.{bytesOfAll, sectionOf, sections, parametersIn, functions, moduleOrder};
-ghost use Rattle.operand.specs.Log.{kept};
-ghost use Rattle.assemble.specs.Spelled.{saidBy, Sound};
-ghost use Rattle.assemble.specs.Placing.{GoodStores, instrsOf, oneAt, tagged, laterOf, lastTagged, functionPart, largest, Room, Wrote};
+ghost use Rattle.assemble.specs.Placing.{GoodStores, instrsOf, oneAt, tagged, functionPart, Ranged, AllRanged, Room, Wrote};
 use crate::instruction::put_instruction;
+use crate::survey::TAGS;
 use records::record_at;
-use spec::Fields;
 use spec::tags;
 
-// The largest place.
-const LARGEST: usize = 18446744073709551615;
+// How many bytes the header takes.
+const HEADER: usize = 20;
 
 // ONE INSTRUCTION
 
-// The place so many bytes further; the largest stands for all beyond it.
-fn further(at: usize, n: usize) -> usize
-    ensures { λ r. ⌜ r ≡ min (at + n) largest ⌝ }
-{
-    if LARGEST - at < n {
-        return LARGEST;
-    }
-    at + n
-}
-
-// The instruction of a record, kept at a place or not: the leaf that tests the flag.
-fn put_if(log: &[u8], strings: &[u8], f: Fields, out: &mut [u8], at: usize, keep: bool)
-    requires { ⌜ Sound (now log) (now strings) f ⌝ }
-    requires { ⌜ (keep ≡ true → at + 4 * f .words ≤ length (now out)) ⌝ }
-    ensures { λ _. ⌜ now (out .exit) ≡ kept keep (now (out .entry)) at (instrBytes (saidBy (now (log .entry)) (now (strings .entry)) f .instr)) ⌝ }
-{
-    if keep {
-        put_instruction(log, strings, f, &mut out[at..]);
-    }
-}
-
-// The instruction of an index.
+// The instruction of an index, at a place: the place after it.
 fn put_one(
     instructions: &[u32],
     log: &[u8],
@@ -52,16 +25,15 @@ fn put_one(
     i: usize,
     out: &mut [u8],
     at: usize,
-    keep: bool,
 ) -> usize
     requires { ⌜ GoodStores (now instructions) (now log) (now strings) count ⌝ }
     requires { ⌜ i < count ⌝ }
-    requires { ⌜ Room keep (now out) at (oneAt (instrsOf (now instructions) (now log) (now strings) count) i) ⌝ }
-    ensures { λ r. ⌜ Wrote keep (now (out .entry)) at (oneAt (instrsOf (now (instructions .entry)) (now (log .entry)) (now (strings .entry)) count) i) r (now (out .exit)) ⌝ }
+    requires { ⌜ Room (now out) at (oneAt (instrsOf (now instructions) (now log) (now strings) count) i) ⌝ }
+    ensures { λ r. ⌜ Wrote (now (out .entry)) at (oneAt (instrsOf (now (instructions .entry)) (now (log .entry)) (now (strings .entry)) count) i) r (now (out .exit)) ⌝ }
 {
     let f = record_at(instructions, i);
-    put_if(log, strings, f, out, at, keep);
-    further(at, 4 * (f.words as usize))
+    put_instruction(log, strings, f, &mut out[at..]);
+    at + 4 * (f.words as usize)
 }
 
 // PARSE ORDER
@@ -105,102 +77,43 @@ fn put_tagged(
     tag: u32,
     out: &mut [u8],
     at: usize,
-    keep: bool,
 ) -> usize
     requires { ⌜ GoodStores (now instructions) (now log) (now strings) count ⌝ }
     requires { ⌜ i < count ⌝ }
-    requires { ⌜ Room keep (now out) at (tagged tag (oneAt (instrsOf (now instructions) (now log) (now strings) count) i)) ⌝ }
-    ensures { λ r. ⌜ Wrote keep (now (out .entry)) at (tagged tag (oneAt (instrsOf (now (instructions .entry)) (now (log .entry)) (now (strings .entry)) count) i)) r (now (out .exit)) ⌝ }
+    requires { ⌜ Room (now out) at (tagged tag (oneAt (instrsOf (now instructions) (now log) (now strings) count) i)) ⌝ }
+    ensures { λ r. ⌜ Wrote (now (out .entry)) at (tagged tag (oneAt (instrsOf (now (instructions .entry)) (now (log .entry)) (now (strings .entry)) count) i)) r (now (out .exit)) ⌝ }
 {
     let f = record_at(instructions, i);
     if f.tag == tag {
-        return put_one(instructions, log, strings, count, i, out, at, keep);
+        return put_one(instructions, log, strings, count, i, out, at);
     }
     at
 }
 
-// The instructions with a tag.
-fn put_only(
-    instructions: &[u32],
-    log: &[u8],
-    strings: &[u8],
-    count: usize,
-    tag: u32,
-    out: &mut [u8],
-    start: usize,
-    keep: bool,
-) -> usize
-    requires { ⌜ GoodStores (now instructions) (now log) (now strings) count ⌝ }
-    requires { ⌜ Room keep (now out) start (tagged tag (instrsOf (now instructions) (now log) (now strings) count)) ⌝ }
-    ensures { λ r. ⌜ Wrote keep (now (out .entry)) start (tagged tag (instrsOf (now (instructions .entry)) (now (log .entry)) (now (strings .entry)) count)) r (now (out .exit)) ⌝ }
-{
-    let mut i = 0;
-    let mut at = start;
-    while i < count {
-        at = put_tagged(instructions, log, strings, count, i, tag, out, at, keep);
-        i += 1;
-    }
-    at
-}
-
-// The index, or an index before it, by whether the record has the tag.
-fn later(instructions: &[u32], i: usize, tag: u32, before: usize) -> usize
-    requires { ⌜ recordSize * i + recordSize ≤ length (now instructions) ⌝ }
-    ensures { λ r. ⌜ r ≡ laterOf (eqb (fieldsAt (drop (recordSize * i) (now (instructions .entry))) .tag) tag) i before ⌝ }
-{
-    let f = record_at(instructions, i);
-    if f.tag == tag {
-        return i;
-    }
-    before
-}
-
-// The last instruction with a tag.
-fn put_last(
-    instructions: &[u32],
-    log: &[u8],
-    strings: &[u8],
-    count: usize,
-    tag: u32,
-    out: &mut [u8],
-    at: usize,
-    keep: bool,
-) -> usize
-    requires { ⌜ GoodStores (now instructions) (now log) (now strings) count ⌝ }
-    requires { ⌜ Room keep (now out) at (lastTagged tag (instrsOf (now instructions) (now log) (now strings) count)) ⌝ }
-    ensures { λ r. ⌜ Wrote keep (now (out .entry)) at (lastTagged tag (instrsOf (now (instructions .entry)) (now (log .entry)) (now (strings .entry)) count)) r (now (out .exit)) ⌝ }
-{
-    let mut last = count;
-    let mut k = 0;
-    while k < count {
-        last = later(instructions, k, tag, last);
-        k += 1;
-    }
-    if last < count {
-        return put_one(instructions, log, strings, count, last, out, at, keep);
-    }
-    at
-}
-
-// A section: the instructions with its tag, of MemoryModel only the last.
+// A section: the instructions with its tag, from the range that they stand in.
 fn put_section(
     instructions: &[u32],
     log: &[u8],
     strings: &[u8],
     count: usize,
     tag: u32,
+    first: usize,
+    end: usize,
     out: &mut [u8],
-    at: usize,
-    keep: bool,
+    start: usize,
 ) -> usize
     requires { ⌜ GoodStores (now instructions) (now log) (now strings) count ⌝ }
-    requires { ⌜ Room keep (now out) at (sectionOf tag (instrsOf (now instructions) (now log) (now strings) count)) ⌝ }
-    ensures { λ r. ⌜ Wrote keep (now (out .entry)) at (sectionOf tag (instrsOf (now (instructions .entry)) (now (log .entry)) (now (strings .entry)) count)) r (now (out .exit)) ⌝ }
+    requires { ⌜ Ranged (instrsOf (now instructions) (now log) (now strings) count) tag first end ⌝ }
+    requires { ⌜ Room (now out) start (sectionOf tag (instrsOf (now instructions) (now log) (now strings) count)) ⌝ }
+    ensures { λ r. ⌜ Wrote (now (out .entry)) start (sectionOf tag (instrsOf (now (instructions .entry)) (now (log .entry)) (now (strings .entry)) count)) r (now (out .exit)) ⌝ }
 {
-    if tag == tags::MEMORY_MODEL {
-        return put_last(instructions, log, strings, count, tag, out, at, keep);
+    let mut i = first;
+    let mut at = start;
+    while i < end {
+        at = put_tagged(instructions, log, strings, count, i, tag, out, at);
+        i += 1;
     }
-    put_only(instructions, log, strings, count, tag, out, at, keep)
+    at
 }
 
 // Sections 1 to 11.
@@ -209,18 +122,31 @@ fn put_sections(
     log: &[u8],
     strings: &[u8],
     count: usize,
+    first: &[usize; TAGS],
+    end: &[usize; TAGS],
     out: &mut [u8],
     start: usize,
-    keep: bool,
 ) -> usize
     requires { ⌜ GoodStores (now instructions) (now log) (now strings) count ⌝ }
-    requires { ⌜ Room keep (now out) start (sections (instrsOf (now instructions) (now log) (now strings) count)) ⌝ }
-    ensures { λ r. ⌜ Wrote keep (now (out .entry)) start (sections (instrsOf (now (instructions .entry)) (now (log .entry)) (now (strings .entry)) count)) r (now (out .exit)) ⌝ }
+    requires { ⌜ AllRanged (instrsOf (now instructions) (now log) (now strings) count) (now first) (now end) ⌝ }
+    requires { ⌜ Room (now out) start (sections (instrsOf (now instructions) (now log) (now strings) count)) ⌝ }
+    ensures { λ r. ⌜ Wrote (now (out .entry)) start (sections (instrsOf (now (instructions .entry)) (now (log .entry)) (now (strings .entry)) count)) r (now (out .exit)) ⌝ }
 {
     let mut tag = 1;
     let mut at = start;
     while tag < tags::FUNCTION {
-        at = put_section(instructions, log, strings, count, tag, out, at, keep);
+        let t = tag as usize;
+        at = put_section(
+            instructions,
+            log,
+            strings,
+            count,
+            tag,
+            first[t],
+            end[t],
+            out,
+            at,
+        );
         tag += 1;
     }
     at
@@ -235,11 +161,10 @@ fn put_parameters(
     first: usize,
     out: &mut [u8],
     start: usize,
-    keep: bool,
 ) -> usize
     requires { ⌜ GoodStores (now instructions) (now log) (now strings) count ⌝ }
-    requires { ⌜ Room keep (now out) start (parametersIn (drop first (instrsOf (now instructions) (now log) (now strings) count))) ⌝ }
-    ensures { λ r. ⌜ Wrote keep (now (out .entry)) start (parametersIn (drop first (instrsOf (now (instructions .entry)) (now (log .entry)) (now (strings .entry)) count))) r (now (out .exit)) ⌝ }
+    requires { ⌜ Room (now out) start (parametersIn (drop first (instrsOf (now instructions) (now log) (now strings) count))) ⌝ }
+    ensures { λ r. ⌜ Wrote (now (out .entry)) start (parametersIn (drop first (instrsOf (now (instructions .entry)) (now (log .entry)) (now (strings .entry)) count))) r (now (out .exit)) ⌝ }
 {
     let mut i = first;
     let mut at = start;
@@ -257,7 +182,6 @@ fn put_parameters(
             tags::PARAMETER,
             out,
             at,
-            keep,
         );
         i += 1;
     }
@@ -273,15 +197,14 @@ fn put_definition(
     i: usize,
     out: &mut [u8],
     at: usize,
-    keep: bool,
 ) -> usize
     requires { ⌜ GoodStores (now instructions) (now log) (now strings) count ⌝ }
     requires { ⌜ i < count ⌝ }
-    requires { ⌜ Room keep (now out) at (oneAt (instrsOf (now instructions) (now log) (now strings) count) i ++ parametersIn (drop (i + 1) (instrsOf (now instructions) (now log) (now strings) count))) ⌝ }
-    ensures { λ r. ⌜ Wrote keep (now (out .entry)) at (oneAt (instrsOf (now (instructions .entry)) (now (log .entry)) (now (strings .entry)) count) i ++ parametersIn (drop (i + 1) (instrsOf (now (instructions .entry)) (now (log .entry)) (now (strings .entry)) count))) r (now (out .exit)) ⌝ }
+    requires { ⌜ Room (now out) at (oneAt (instrsOf (now instructions) (now log) (now strings) count) i ++ parametersIn (drop (i + 1) (instrsOf (now instructions) (now log) (now strings) count))) ⌝ }
+    ensures { λ r. ⌜ Wrote (now (out .entry)) at (oneAt (instrsOf (now (instructions .entry)) (now (log .entry)) (now (strings .entry)) count) i ++ parametersIn (drop (i + 1) (instrsOf (now (instructions .entry)) (now (log .entry)) (now (strings .entry)) count))) r (now (out .exit)) ⌝ }
 {
-    let next = put_one(instructions, log, strings, count, i, out, at, keep);
-    put_parameters(instructions, log, strings, count, i + 1, out, next, keep)
+    let next = put_one(instructions, log, strings, count, i, out, at);
+    put_parameters(instructions, log, strings, count, i + 1, out, next)
 }
 
 // What the functions have at an index: a definition with its parameters, no parameter by itself, all else as it comes.
@@ -293,60 +216,62 @@ fn put_part(
     i: usize,
     out: &mut [u8],
     at: usize,
-    keep: bool,
 ) -> usize
     requires { ⌜ GoodStores (now instructions) (now log) (now strings) count ⌝ }
     requires { ⌜ i < count ⌝ }
-    requires { ⌜ Room keep (now out) at (functionPart (drop i (instrsOf (now instructions) (now log) (now strings) count))) ⌝ }
-    ensures { λ r. ⌜ Wrote keep (now (out .entry)) at (functionPart (drop i (instrsOf (now (instructions .entry)) (now (log .entry)) (now (strings .entry)) count))) r (now (out .exit)) ⌝ }
+    requires { ⌜ Room (now out) at (functionPart (drop i (instrsOf (now instructions) (now log) (now strings) count))) ⌝ }
+    ensures { λ r. ⌜ Wrote (now (out .entry)) at (functionPart (drop i (instrsOf (now (instructions .entry)) (now (log .entry)) (now (strings .entry)) count))) r (now (out .exit)) ⌝ }
 {
     let f = record_at(instructions, i);
     if f.tag == tags::FUNCTION {
-        return put_definition(instructions, log, strings, count, i, out, at, keep);
+        return put_definition(instructions, log, strings, count, i, out, at);
     }
     if tags::LABEL <= f.tag {
-        return put_one(instructions, log, strings, count, i, out, at, keep);
+        return put_one(instructions, log, strings, count, i, out, at);
     }
     at
 }
 
-// The functions.
+// The functions, from the first definition on.
 fn put_functions(
     instructions: &[u32],
     log: &[u8],
     strings: &[u8],
     count: usize,
+    first: usize,
     out: &mut [u8],
     start: usize,
-    keep: bool,
 ) -> usize
     requires { ⌜ GoodStores (now instructions) (now log) (now strings) count ⌝ }
-    requires { ⌜ Room keep (now out) start (functions (instrsOf (now instructions) (now log) (now strings) count)) ⌝ }
-    ensures { λ r. ⌜ Wrote keep (now (out .entry)) start (functions (instrsOf (now (instructions .entry)) (now (log .entry)) (now (strings .entry)) count)) r (now (out .exit)) ⌝ }
+    requires { ⌜ functions (instrsOf (now instructions) (now log) (now strings) count) ≡ functions (drop first (instrsOf (now instructions) (now log) (now strings) count)) ⌝ }
+    requires { ⌜ Room (now out) start (functions (instrsOf (now instructions) (now log) (now strings) count)) ⌝ }
+    ensures { λ r. ⌜ Wrote (now (out .entry)) start (functions (instrsOf (now (instructions .entry)) (now (log .entry)) (now (strings .entry)) count)) r (now (out .exit)) ⌝ }
 {
-    let mut i = 0;
+    let mut i = first;
     let mut at = start;
     while i < count {
-        at = put_part(instructions, log, strings, count, i, out, at, keep);
+        at = put_part(instructions, log, strings, count, i, out, at);
         i += 1;
     }
     at
 }
 
-// Sections, then functions.
+// Sections, then functions, behind the header.
 pub fn put_module(
     instructions: &[u32],
     log: &[u8],
     strings: &[u8],
     count: usize,
+    first: &[usize; TAGS],
+    end: &[usize; TAGS],
     out: &mut [u8],
-    at: usize,
-    keep: bool,
-) -> usize
+)
     requires { ⌜ GoodStores (now instructions) (now log) (now strings) count ⌝ }
-    requires { ⌜ Room keep (now out) at (moduleOrder (instrsOf (now instructions) (now log) (now strings) count)) ⌝ }
-    ensures { λ r. ⌜ Wrote keep (now (out .entry)) at (moduleOrder (instrsOf (now (instructions .entry)) (now (log .entry)) (now (strings .entry)) count)) r (now (out .exit)) ⌝ }
+    requires { ⌜ AllRanged (instrsOf (now instructions) (now log) (now strings) count) (now first) (now end) ⌝ }
+    requires { ⌜ 20 + length (bytesOfAll (moduleOrder (instrsOf (now instructions) (now log) (now strings) count))) ≤ length (now out) ⌝ }
+    ensures { λ _. ⌜ now (out .exit) ≡ sets (now (out .entry)) 20 (bytesOfAll (moduleOrder (instrsOf (now (instructions .entry)) (now (log .entry)) (now (strings .entry)) count))) ⌝ }
 {
-    let next = put_sections(instructions, log, strings, count, out, at, keep);
-    put_functions(instructions, log, strings, count, out, next, keep)
+    let at = put_sections(instructions, log, strings, count, first, end, out, HEADER);
+    let definition = first[tags::FUNCTION as usize];
+    put_functions(instructions, log, strings, count, definition, out, at);
 }

@@ -13,13 +13,14 @@ ghost use Rattle.assemble.specs.Writes.{Writes};
 use crate::order::end_of;
 use crate::order::put_module;
 use crate::order::put_read;
+use crate::survey::TAGS;
+use crate::survey::module_end;
+use crate::survey::survey;
 use records::Checked;
 use spec::Written;
 use spec::refusals;
+use spec::tags;
 use words::put_word;
-
-// How many bytes the header takes.
-const HEADER: usize = 20;
 
 // The five header words.
 fn put_header(header: [u32; 5], out: &mut [u8])
@@ -82,7 +83,7 @@ fn write_read(
     }
 }
 
-// Good stores in module order: measured against the output, then written.
+// Good stores in module order: each section from the range that the survey finds.
 fn write_whole(
     header: [u32; 5],
     instructions: &[u32],
@@ -94,16 +95,20 @@ fn write_whole(
     requires { ⌜ GoodStores (now instructions) (now log) (now strings) count ⌝ }
     ensures { λ r. ⌜ Writes (writtenOver (now (out .entry)) (orderBytes true header (instrsOf (now (instructions .entry)) (now (log .entry)) (now (strings .entry)) count))) (now (out .exit)) r ⌝ }
 {
-    let need = put_module(instructions, log, strings, count, out, HEADER, false);
+    let mut first = [0; TAGS];
+    let mut end = [0; TAGS];
+    survey(instructions, log, strings, count, &mut first, &mut end);
+    let model = first[tags::MEMORY_MODEL as usize];
+    let need = module_end(instructions, log, strings, count, model);
     if out.len() < need {
         return too_short();
     }
     put_header(header, out);
-    let bytes = put_module(instructions, log, strings, count, out, HEADER, true);
+    put_module(instructions, log, strings, count, &first, &end, out);
     Written {
         number: refusals::ACCEPTED,
         index: 0,
-        bytes,
+        bytes: need,
     }
 }
 

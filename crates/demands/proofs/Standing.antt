@@ -26,7 +26,7 @@ use Rattle.demands.proofs.Cells.{leads, tag-leads}
 -- TAGS WALK THE TABLE
 
 -- instructions whose tags lead on from a state
-data Walks : State → List Placed → Type 0 where
+pub data Walks : State → List Placed → Type 0 where
   stops : {s : State} → Walks s []
   goes : {s t : State} {p : Placed} {ps : List Placed} → leads s (p .tag) t ≡ true → Walks t ps → Walks s (p ∷ ps)
 
@@ -42,7 +42,7 @@ scans-walk (says {f = r} {x = x} said more) whole index s f =
     goes on (scans-walk more whole (suc index) (next .0) (next .2))
 
 -- records that pass the check walk the table
-check-walks : (whole : Bool) (x : Given) (is : List Placed) → check recordSize whole x ≡ good is → Walks Outside is
+pub check-walks : (whole : Bool) (x : Given) (is : List Placed) → check recordSize whole x ≡ good is → Walks Outside is
 check-walks whole x is e =
     let told = good-told recordSize whole x is e in
     let free = no-faults recordSize whole x (told .0) in
@@ -52,7 +52,7 @@ check-walks whole x is e =
 -- FUNCTIONS STAY AS THEY ARE
 
 -- the first step of a walk
-walk-on : {s : State} {p : Placed} {ps : List Placed} → Walks s (p ∷ ps) → (t : State) × (leads s (p .tag) t ≡ true) × Walks t ps
+pub walk-on : {s : State} {p : Placed} {ps : List Placed} → Walks s (p ∷ ps) → (t : State) × (leads s (p .tag) t ≡ true) × Walks t ps
 walk-on (goes {t = t} e w) = (t, e, w)
 
 -- what module order makes of the rest of a module: outside functions; in a function before its first label; and after it

@@ -20,8 +20,7 @@ returns : tie.Need-returns
 returns c =
     let at-put-parameters = c .before .before in
     let at-put-one = at-put-parameters .before .before .before .before in
-    let at-start = at-put-one .before .before .before .before .before .before in
-    wrote-both _ _ (at-start .pre .1 .1) (at-put-one .put-one .ensures) (at-put-parameters .put-parameters .ensures)
+    wrote-both _ _ (at-put-one .put-one .ensures) (at-put-parameters .put-parameters .ensures)
 
 pub put-definition-spec : {M : Type 1} → statement M
 put-definition-spec =

@@ -13,10 +13,10 @@ use Rattle.assemble.proofs.order.put_functions.Statement.{statement}
 use Rattle.assemble.proofs.order.put_functions.Tie as tie
 
 abbrev Inv-loop : tie.InvT-loop
-Inv-loop instructions log strings count out₀ start keep i₀ at₀ out i at = Going keep out₀ start (functions (instrsOf instructions log strings count)) (functions (drop i (instrsOf instructions log strings count))) at out
+Inv-loop instructions log strings count first out₀ start i₀ at₀ out i at = Going out₀ start (functions (instrsOf instructions log strings count)) (functions (drop i (instrsOf instructions log strings count))) at out
 
 abbrev μ-loop : tie.MeasureT-loop
-μ-loop instructions log strings count out₀ start keep i₀ at₀ out i at = count - i
+μ-loop instructions log strings count first out₀ start i₀ at₀ out i at = count - i
 
 put-part-requires : tie.Need-put-part-requires Inv-loop μ-loop
 put-part-requires c κs =
@@ -43,7 +43,7 @@ put-functions-spec =
     (tie.spec
     Inv-loop
     μ-loop
-    (λ c. let at-start = c .before .before .before .before in going-starts _ _ _ _ (omega arith) (at-start .pre .1))
+    (λ c. let at-start = c .before .before .before .before in going-starts _ _ _ _ (at-start .pre .1 .0) (at-start .pre .1 .1))
     put-part-requires
     (λ c. omega arith)
     (λ c. omega arith)

@@ -2,6 +2,7 @@
 -- Assumes nothing.
 use native.Mathlib.Omega.{arith}
 use Prim.Native.Nat.{_-_}
+use mathlib.Core.Path.{refl}
 use lib.ListN.{drop}
 use Rattle.spec.specs.Write.{parametersIn}
 use Rattle.assemble.specs.Placing.{instrsOf}
@@ -12,10 +13,10 @@ use Rattle.assemble.proofs.order.put_parameters.Statement.{statement}
 use Rattle.assemble.proofs.order.put_parameters.Tie as tie
 
 abbrev Inv-loop : tie.InvT-loop
-Inv-loop instructions log strings count first out₀ start keep i₀ at₀ out i at = Going keep out₀ start (parametersIn (drop first (instrsOf instructions log strings count))) (parametersIn (drop i (instrsOf instructions log strings count))) at out
+Inv-loop instructions log strings count first out₀ start i₀ at₀ out i at = Going out₀ start (parametersIn (drop first (instrsOf instructions log strings count))) (parametersIn (drop i (instrsOf instructions log strings count))) at out
 
 abbrev μ-loop : tie.MeasureT-loop
-μ-loop instructions log strings count first out₀ start keep i₀ at₀ out i at = count - i
+μ-loop instructions log strings count first out₀ start i₀ at₀ out i at = count - i
 
 record-at-requires : tie.Need-record-at-requires Inv-loop μ-loop
 record-at-requires c κs =
@@ -59,7 +60,7 @@ put-parameters-spec =
     (tie.spec
     Inv-loop
     μ-loop
-    (λ c. let at-start = c .before .before .before .before in going-starts _ _ _ _ (omega arith) (at-start .pre .1))
+    (λ c. let at-start = c .before .before .before .before in going-starts _ _ _ _ refl (at-start .pre .1))
     record-at-requires
     (λ c. let at-loop = c .before .before .before .before in going-length (at-loop .loop .inv))
     returns

@@ -1,6 +1,5 @@
 -- `assemble::order::put_part` meets its contract: by the tag.
 -- Assumes nothing.
-use native.Mathlib.Omega.{arith}
 use mathlib.Core.Path.{sym}
 use Rattle.assemble.proofs.Place.{room-as, wrote-as, wrote-none}
 use Rattle.assemble.proofs.Orders.{part-definition, part-one, part-none}
@@ -49,7 +48,7 @@ returns-3 c =
     let at-if1 = c .before .before in
     let at-record-at = at-if1 .before .before in
     let at-start = at-record-at .before .before .before .before .before in
-    wrote-as _ _ (sym (part-none (stores-at _ _ _ _ (at-start .pre .0) _ (at-start .pre .1 .0) _ (at-record-at .record-at .ensures)) (at-if1 .if1 .left) (c .if2 .left))) (wrote-none _ _ _ (omega arith))
+    wrote-as _ _ (sym (part-none (stores-at _ _ _ _ (at-start .pre .0) _ (at-start .pre .1 .0) _ (at-record-at .record-at .ensures)) (at-if1 .if1 .left) (c .if2 .left))) (wrote-none _ _)
 
 pub put-part-spec : {M : Type 1} → statement M
 put-part-spec =

@@ -5,31 +5,33 @@ use Prim.Native.Nat.{_-_}
 use Rattle.spec.specs.Write.{sections}
 use Rattle.assemble.specs.Placing.{instrsOf}
 use Rattle.assemble.proofs.Orders.{sectionsFrom, sections-all, sections-more, sections-end}
-use Rattle.assemble.proofs.Place.{Going, going-starts, going-as, going-length, going-ends, going-room, going-on}
+use Rattle.assemble.proofs.Place.{Going, going-starts, going-length, going-ends, going-room, going-on}
 use Rattle.assemble.proofs.order.put_sections.Statement.{statement}
 use Rattle.assemble.proofs.order.put_sections.Tie as tie
 
 abbrev Inv-loop : tie.InvT-loop
-Inv-loop instructions log strings count out₀ start keep tag₀ at₀ out tag at = Going keep out₀ start (sections (instrsOf instructions log strings count)) (sectionsFrom (12 - tag) tag (instrsOf instructions log strings count)) at out
+Inv-loop instructions log strings count first end out₀ start tag₀ at₀ out tag at =
+    Going out₀ start (sections (instrsOf instructions log strings count)) (sectionsFrom (12 - tag) tag (instrsOf instructions log strings count)) at out
 
 abbrev μ-loop : tie.MeasureT-loop
-μ-loop instructions log strings count out₀ start keep tag₀ at₀ out tag at = 12 - tag
+μ-loop instructions log strings count first end out₀ start tag₀ at₀ out tag at = 12 - tag
 
 loop-holds : tie.Need-loop-holds Inv-loop μ-loop
 loop-holds c =
     let at-start = c .before .before .before .before in
-    going-as (going-starts _ _ (at-start .args .start) _ (omega arith) (at-start .pre .1)) (sections-all _)
+    going-starts _ (at-start .args .start) _ _ (sections-all _) (at-start .pre .1 .1)
 
 put-section-requires : tie.Need-put-section-requires Inv-loop μ-loop
 put-section-requires c κs =
-    let at-loop = c .before .before in
+    let at-loop-test = c .before .before .before in
+    let at-loop = at-loop-test .before in
     let at-start = at-loop .before .before .before .before .before in
-    (at-start .pre .0, going-room (at-loop .loop .inv) _ _ (sections-more _ _ (c .before .loop-test .taken)))
+    (at-start .pre .0, (at-start .pre .1 .0 .each _ (omega (arith, at-loop-test .loop-test .taken)), going-room (at-loop .loop .inv) _ _ (sections-more _ _ (at-loop-test .loop-test .taken))))
 
 loop-again : tie.Need-loop-again Inv-loop μ-loop
 loop-again c =
     let at-put-section = c .before .before in
-    let at-loop-test = at-put-section .before .before in
+    let at-loop-test = at-put-section .before .before .before .before in
     let at-loop = at-loop-test .before in
     going-on (at-loop .loop .inv) _ _ (sections-more _ _ (at-loop-test .loop-test .taken)) (at-put-section .put-section .ensures)
 
@@ -40,6 +42,11 @@ put-sections-spec =
     Inv-loop
     μ-loop
     loop-holds
+    (λ c. omega arith)
+    (λ c. omega arith)
+    (λ c. omega arith)
+    (λ c. omega arith)
+    (λ c. omega arith)
     put-section-requires
     (λ c. omega arith)
     (λ c. omega arith)

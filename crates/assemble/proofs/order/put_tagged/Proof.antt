@@ -1,6 +1,5 @@
 -- `assemble::order::put_tagged` meets its contract: by its tag.
 -- Assumes nothing.
-use native.Mathlib.Omega.{arith}
 use mathlib.Core.Path.{sym}
 use Rattle.assemble.proofs.Place.{room-as, wrote-as, wrote-none}
 use Rattle.assemble.proofs.Orders.{tagged-yes, tagged-no}
@@ -32,7 +31,7 @@ returns-2 : tie.Need-returns-2
 returns-2 c =
     let at-record-at = c .before .before in
     let at-start = at-record-at .before .before .before .before .before in
-    wrote-as _ _ (sym (tagged-no (stores-at _ _ _ _ (at-start .pre .0) _ (at-start .pre .1 .0) _ (at-record-at .record-at .ensures)) _ (c .if1 .left))) (wrote-none _ _ _ (omega arith))
+    wrote-as _ _ (sym (tagged-no (stores-at _ _ _ _ (at-start .pre .0) _ (at-start .pre .1 .0) _ (at-record-at .record-at .ensures)) _ (c .if1 .left))) (wrote-none _ _)
 
 pub put-tagged-spec : {M : Type 1} → statement M
 put-tagged-spec =
