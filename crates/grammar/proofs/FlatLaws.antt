@@ -1,195 +1,191 @@
--- Kinds whose enumerants have parameters, and parameters of kinds that have none: what the marks and the open enumerant say, item by item.
+-- Kinds that are noted, of enumerants that have parameters and of parameters: where none is both, no parameter's kind has parameters.
 use mathlib.Core.Path.{_≡_, refl, sym, ap, _∙_}
-use mathlib.Core.Bool.{Bool, true, false, not, _&&_, _||_, and-false, and-assoc, or-false}
-use mathlib.Core.List.{List, [], _∷_}
-use Prim.Native.Nat.{ℕ, _+_, _≤_, _<_}
-use borrow.Author.Tests.{eqb-true, eqb-false}
-use denote.Enum.Declared.{tagOf}
-use types.Run.{OneOf, miss}
+use mathlib.Core.Bool.{Bool, true, false, not, _&&_, _||_, and-true, and-assoc, or-assoc, or-false, false≢true, true≢false}
+use mathlib.Core.List.{List, [], _∷_, _++_, append-assoc, append-nil}
+use Prim.Native.Nat.{ℕ, zero, suc, _+_, _≤_, _<_}
+use native.Mathlib.Numerals.{add-one}
+use borrow.Author.Tests.{eqb-true, eqb-false, eq-eqb, ne-eqb, not-true}
 use lib.Dec.{eqb}
-use lib.ListN.{length, getD, set, drop, replicate, length-set, getD-replicate}
-use lib.Seq.{getD-set-same, getD-set-other}
-use Rattle.spec.specs.Base.{has, every}
-use Rattle.spec.specs.Grammar.{items, enumerantsOf, parametersOf, parameterless, allFlat}
-use Rattle.spec.specs.Grammar
-use Rattle.grammar.specs.declared.items.Item.{Item}
-use Rattle.grammar.specs.declared.items.Item.the-variants as of
-use Rattle.grammar.specs.declared.rules.Open.{Open}
-use Rattle.grammar.specs.declared.rules.Open.the-variants.{Nothing, Kind}
-use Rattle.grammar.specs.Items.{itemIs, itemAt, lengthAt}
-use Rattle.grammar.specs.Rules.{opened, marked, flatAt}
-use Rattle.grammar.proofs.items.Item as items-of
-use Rattle.grammar.proofs.ItemLaws.{items-read, items-end}
+use lib.ListN.{length, getD, set, drop, replicate, length-set, drop-of-length-le}
+use lib.Seq.{drop-cons, getD-set-same, getD-set-other}
+use Rattle.spec.specs.Base.{has, every, implies, isIn, joined}
+use Rattle.spec.specs.Grammar.{items, Enumerant, enumerantsOf, parameterless, allFlat}
+use Rattle.spec.proofs.Choice.{left, right, both, cases}
+use Rattle.grammar.specs.Check.{NotedBy, isOwner, parametersIn, isApart, Noting}
+use Rattle.grammar.proofs.ItemLaws.{items-end}
 
--- OTHER ITEMS THAN PARAMETERS
+-- LISTS
 
--- the variants of an item but a parameter
-abbrev others : List ℕ
-others = 0 ∷ 1 ∷ 2 ∷ 4 ∷ []
+-- each of some and one more passes
+every-more : {A : Type 0} (f : A → Bool) (l : List A) (x : A) → every f (l ++ (x ∷ [])) ≡ every f l && f x
+every-more f [] x = and-true (f x)
+every-more f (y ∷ l) x = ap (λ (t : Bool). f y && t) (every-more f l x) ∙ sym (and-assoc (f y) (every f l) (f x))
 
--- another item than a parameter marks nothing
-pub unmarked : (ms : List Bool) (j : ℕ) (x : Item) → OneOf others (tagOf items-of.the-type x) → ms ≡ marked ms (Kind j) x
-unfolding marked
-unmarked ms j (of.Row o) h = refl
-unmarked ms j (of.Operand k q) h = refl
-unmarked ms j (of.Enumerant k v) h = refl
-unmarked ms j (of.Parameter k) h = absurd (miss others 3 tt h)
-unmarked ms j of.Broken h = refl
+-- each of two lists passes
+every-both : {A : Type 0} (f : A → Bool) (l m : List A) → every f (l ++ m) ≡ every f l && every f m
+every-both f [] m = refl
+every-both f (x ∷ l) m = ap (λ (t : Bool). f x && t) (every-both f l m) ∙ sym (and-assoc (f x) (every f l) (every f m))
 
--- another item than a parameter is flat
-pub unasked : (flat : ℕ → Bool) (j : ℕ) (x : Item) → OneOf others (tagOf items-of.the-type x) → true ≡ flatAt flat (Kind j) x
-unfolding flatAt
-unasked flat j (of.Row o) h = refl
-unasked flat j (of.Operand k q) h = refl
-unasked flat j (of.Enumerant k v) h = refl
-unasked flat j (of.Parameter k) h = absurd (miss others 3 tt h)
-unasked flat j of.Broken h = refl
+-- each of the joined lists passes
+every-joined : {A B : Type 0} (f : B → Bool) (h : A → List B) (l : List A) → every f (joined h l) ≡ every (λ x. every f (h x)) l
+every-joined f h [] = refl
+every-joined f h (x ∷ l) = every-both f (h x) (joined h l) ∙ ap (λ (t : Bool). every f (h x) && t) (every-joined f h l)
 
--- KINDS WHOSE ENUMERANTS HAVE PARAMETERS
+-- one list more is joined
+joined-more : {A B : Type 0} (h : A → List B) (l : List A) (x : A) → joined h (l ++ (x ∷ [])) ≡ joined h l ++ h x
+joined-more h [] x = append-nil (h x)
+joined-more h (y ∷ l) x = ap (λ (m : List _). h y ++ m) (joined-more h l x) ∙ sym (append-assoc (h y) (joined h l) (h x))
 
--- an enumerant of kind k has parameters: the one that is open before some items, or one of theirs
-unfoldable pub owns : Open → List Grammar.Item → ℕ → Bool
-owns Nothing xs k = not (parameterless (enumerantsOf xs) k)
-owns (Kind j) xs k = (eqb j k && has 1 (parametersOf xs)) || not (parameterless (enumerantsOf xs) k)
+-- a number that is in one of two lists
+pub in-both : (k : ℕ) (l m : List ℕ) → isIn k (l ++ m) ≡ isIn k l || isIn k m
+in-both k [] m = refl
+in-both k (x ∷ l) m = ap (λ (t : Bool). eqb k x || t) (in-both k l m) ∙ sym (or-assoc (eqb k x) (isIn k l) (isIn k m))
 
--- one enumerant more
-one-owner : (e h p : Bool) → not ((not e || not h) && p) ≡ (e && h) || not p
-one-owner true true p = refl
-one-owner true false p = refl
-one-owner false h p = refl
+-- two tests, the other way round
+pub or-swap : (a b : Bool) → a || b ≡ b || a
+or-swap true true = refl
+or-swap true false = refl
+or-swap false b = sym (or-false b)
 
--- one parameter of the open enumerant
-one-mark : (m e h r : Bool) → m || ((e && true) || r) ≡ (e || m) || ((e && h) || r)
-one-mark true true h r = refl
-one-mark false true h r = refl
-one-mark m false h r = refl
-
--- a mark stands at its kind
-mark-at : (ms : List Bool) (j k : ℕ) → k < length ms → getD (set ms j true) k false ≡ eqb j k || getD ms k false
-mark-at ms j k h = by (eqb j k) refl
+-- two numbers are the same either way round
+eqb-swap : (i j : ℕ) → eqb i j ≡ eqb j i
+eqb-swap i j = by (eqb i j) refl
   where
-    by : (t : Bool) → eqb j k ≡ t → getD (set ms j true) k false ≡ t || getD ms k false
-    by true e = rw (eqb-true j k e) (getD-set-same ms k true false h)
-    by false e = getD-set-other ms j k true false (λ q. eqb-false j k e (sym q))
+    by : (t : Bool) → eqb i j ≡ t → t ≡ eqb j i
+    by true e = sym (eq-eqb j i (sym (eqb-true i j e)))
+    by false e = sym (ne-eqb j i (λ (q : j ≡ i). eqb-false i j e (sym q)))
 
--- marks stay as many
-marked-size : (ms : List Bool) (o : Open) (x : Item) → length (marked ms o x) ≡ length ms
-unfolding marked
-marked-size ms Nothing x = refl
-marked-size ms (Kind j) (of.Row op) = refl
-marked-size ms (Kind j) (of.Operand k q) = refl
-marked-size ms (Kind j) (of.Enumerant k v) = refl
-marked-size ms (Kind j) (of.Parameter k) = length-set ms j true
-marked-size ms (Kind j) of.Broken = refl
+-- NOTING KINDS
 
--- an item moves what it says from the items to the marks and to what is open
-own-step : (ms : List Bool) (o : Open) (x : Item) (xs : List Grammar.Item) (k : ℕ) → k < length ms
-    → getD ms k false || owns o (itemIs x ∷ xs) k ≡ getD (marked ms o x) k false || owns (opened o x) xs k
-unfolding owns marked parameterless enumerantsOf parametersOf
-own-step ms Nothing (of.Row op) xs k h = refl
-own-step ms Nothing (of.Operand a q) xs k h = refl
-own-step ms Nothing (of.Enumerant a v) xs k h =
-    ap (λ (t : Bool). getD ms k false || t) (one-owner (eqb a k) (has 1 (parametersOf xs)) (parameterless (enumerantsOf xs) k))
-own-step ms Nothing (of.Parameter a) xs k h = refl
-own-step ms Nothing of.Broken xs k h = refl
-own-step ms (Kind j) (of.Row op) xs k h = rw and-false
-own-step ms (Kind j) (of.Operand a q) xs k h = rw and-false
-own-step ms (Kind j) (of.Enumerant a v) xs k h =
-    rw and-false (ap (λ (t : Bool). getD ms k false || t) (one-owner (eqb a k) (has 1 (parametersOf xs)) (parameterless (enumerantsOf xs) k)))
-own-step ms (Kind j) (of.Parameter a) xs k h =
-    rw (mark-at ms j k h)
-    (one-mark (getD ms k false) (eqb j k) (has 1 (parametersOf xs)) (not (parameterless (enumerantsOf xs) k)))
-own-step ms (Kind j) of.Broken xs k h = rw and-false
+-- a kind is noted
+pub note : (ms : List Bool) (j : ℕ) → j < length ms → NotedBy (λ k. eqb k j) ms (set ms j true)
+note ms j h = record { size = length-set ms j true; noted = λ k. by k (eqb k j) refl }
+  where
+    by : (k : ℕ) (t : Bool) → eqb k j ≡ t → getD (set ms j true) k false ≡ t || getD ms k false
+    by k true e = rw (eqb-true k j e) (getD-set-same ms j true false h)
+    by k false e = getD-set-other ms j k true false (eqb-false k j e)
 
--- no items, none
-owns-none : (o : Open) (k : ℕ) → owns o [] k ≡ false
-unfolding owns parameterless enumerantsOf parametersOf
-owns-none Nothing k = refl
-owns-none (Kind j) k = rw and-false
+-- where nothing is noted
+none-noted : (n k : ℕ) → getD (replicate n false) k false ≡ false
+none-noted zero k = refl
+none-noted (suc n) zero = refl
+none-noted (suc n) (suc k) = none-noted n k
 
--- in the loop: the marks so far, and what the open enumerant and the items from here on say
-pub record Owning (g : List ℕ) (ms : List Bool) (o : Open) (at : ℕ) : Type 0 where
-  pub size : length ms ≡ 256
-  pub owned : (k : ℕ) → k < 256 → not (parameterless (enumerantsOf (items g)) k) ≡ getD ms k false || owns o (items (drop at g)) k
+-- before the first enumerant
+pub noting-start : (g : List ℕ) → Noting g (replicate 256 false) (replicate 256 false) 0
+unfolding parameterless parametersIn
+noting-start g = record { seen = []; all = refl; sizes = (refl, refl); owned = λ k. none-noted 256 k; taken = λ k. none-noted 256 k }
 
--- where the loop begins
-pub own-start : (g : List ℕ) → Owning g (replicate 256 false) Nothing 0
-unfolding owns
-own-start g = record { size = refl; owned = λ k h. rw (getD-replicate 256 k false false h) }
+-- one enumerant more: whether one of the kind has parameters
+one-owner : (p a h : Bool) → not (p && (not a || not h)) ≡ (a && h) || not p
+one-owner true true true = refl
+one-owner true true false = refl
+one-owner true false h = refl
+one-owner false true true = refl
+one-owner false true false = refl
+one-owner false false h = refl
 
-module _ {g : List ℕ} {ms : List Bool} {o : Open} {at : ℕ} (r : Owning g ms o at) where
-  -- on to the next item
-  pub own-turn : at < length g → (x : Item) → x ≡ itemAt g at → (ms′ : List Bool) → ms′ ≡ marked ms o x → (o′ : Open) → o′ ≡ opened o x
-      → (n : ℕ) → n ≡ lengthAt g at → Owning g ms′ o′ (at + n)
-  own-turn h x read ms′ m o′ e n l = record {
-    size = ap length m ∙ marked-size ms o x ∙ r .size;
-    owned = λ k b.
-        rw (m, e)
-        (r .owned k b ∙ ap (λ (xs : List Grammar.Item). getD ms k false || owns o xs k) (items-read g at h x read n l)
-        ∙ own-step ms o x (items (drop (at + n) g)) k (rw (r .size) b));
+module _ {g : List ℕ} {owners used : List Bool} {at : ℕ} (r : Noting g owners used at) (next : ℕ) where
+  -- on over a row
+  pub noting-row : enumerantsOf (items (drop at g)) ≡ enumerantsOf (items (drop next g)) → Noting g owners used next
+  noting-row e = record { seen = r .seen; all = r .all ∙ ap (λ (es : List Enumerant). r .seen ++ es) e; sizes = r .sizes; owned = r .owned; taken = r .taken }
+
+  -- on over an enumerant
+  pub noting-enumerant : (e : Enumerant) → enumerantsOf (items (drop at g)) ≡ e ∷ enumerantsOf (items (drop next g)) → (owners′ used′ : List Bool)
+      → NotedBy (isOwner (e .kind) (e .parameters)) owners owners′ → NotedBy (λ k. isIn k (e .parameters)) used used′ → Noting g owners′ used′ next
+  unfolding isOwner parameterless parametersIn
+  noting-enumerant e more owners′ used′ o u = record {
+    seen = r .seen ++ (e ∷ []);
+    all =
+        r .all ∙ ap (λ (es : List Enumerant). r .seen ++ es) more
+        ∙ sym (append-assoc (r .seen) (e ∷ []) (enumerantsOf (items (drop next g))));
+    sizes = (o .size ∙ r .sizes .0, u .size ∙ r .sizes .1);
+    owned = λ k.
+        o .noted k ∙ ap (λ (t : Bool). (t && has 1 (e .parameters)) || getD owners k false) (eqb-swap k (e .kind))
+        ∙ ap (λ (t : Bool). (eqb (e .kind) k && has 1 (e .parameters)) || t) (r .owned k)
+        ∙ sym
+        (ap not (every-more (λ e. implies (eqb (e .kind) k) (not (has 1 (e .parameters)))) (r .seen) e)
+        ∙ one-owner (parameterless (r .seen) k) (eqb (e .kind) k) (has 1 (e .parameters)));
+    taken = λ k.
+        u .noted k ∙ ap (λ (t : Bool). isIn k (e .parameters) || t) (r .taken k)
+        ∙ or-swap (isIn k (e .parameters)) (isIn k (parametersIn (r .seen)))
+        ∙ sym (ap (isIn k) (joined-more (λ e. e .parameters) (r .seen) e) ∙ in-both k (parametersIn (r .seen)) (e .parameters));
   }
 
-  -- at the end
-  pub own-end : length g ≤ at → (k : ℕ) → k < 256 → getD ms k false ≡ not (parameterless (enumerantsOf (items g)) k)
-  own-end h k b =
-      sym (r .owned k b ∙ ap (λ (ys : List Grammar.Item). getD ms k false || owns o ys k) (items-end g at h)
-      ∙ ap (λ (t : Bool). getD ms k false || t) (owns-none o k) ∙ or-false (getD ms k false))
+-- NONE IS BOTH
 
--- FLAT
+-- kinds that are apart: none is noted in both
+apart-told : (o u : List Bool) → isApart o u ≡ true → (k : ℕ) → getD o k false ≡ true → getD u k false ≡ true → ⊥
+unfolding isApart
+apart-told [] u e k a b = false≢true a
+apart-told (x ∷ o) [] e k a b = false≢true b
+apart-told (x ∷ o) (y ∷ u) e zero a b = false≢true (rw (a, b) at (left (not (x && y)) (isApart o u) e))
+apart-told (x ∷ o) (y ∷ u) e (suc k) a b = apart-told o u (right (not (x && y)) (isApart o u) e) k a b
 
--- the parameters pass: those of the enumerant that is open before some items, and those of theirs
-unfoldable pub flatFrom : (ℕ → Bool) → Open → List Grammar.Item → Bool
-flatFrom flat Nothing xs = every (λ e. every flat (e .parameters)) (enumerantsOf xs)
-flatFrom flat (Kind j) xs = every flat (parametersOf xs) && every (λ e. every flat (e .parameters)) (enumerantsOf xs)
+-- kinds that are not apart: one that is noted in both
+apart-not : (o u : List Bool) → isApart o u ≡ false → (k : ℕ) × (getD o k false ≡ true) × (getD u k false ≡ true)
+unfolding isApart
+apart-not [] u e = absurd (true≢false e)
+apart-not (x ∷ o) [] e = absurd (true≢false e)
+apart-not (true ∷ o) (true ∷ u) e = (0, refl, refl)
+apart-not (true ∷ o) (false ∷ u) e = let r = apart-not o u e in (suc (r .0), r .1, r .2)
+apart-not (false ∷ o) (y ∷ u) e = let r = apart-not o u e in (suc (r .0), r .1, r .2)
 
--- an item, and those after it
-flat-step : (flat : ℕ → Bool) (o : Open) (x : Item) (xs : List Grammar.Item)
-    → flatFrom flat o (itemIs x ∷ xs) ≡ flatAt flat o x && flatFrom flat (opened o x) xs
-unfolding flatFrom flatAt enumerantsOf parametersOf
-flat-step flat Nothing (of.Row op) xs = refl
-flat-step flat Nothing (of.Operand a q) xs = refl
-flat-step flat Nothing (of.Enumerant a v) xs = refl
-flat-step flat Nothing (of.Parameter a) xs = refl
-flat-step flat Nothing of.Broken xs = refl
-flat-step flat (Kind j) (of.Row op) xs = refl
-flat-step flat (Kind j) (of.Operand a q) xs = refl
-flat-step flat (Kind j) (of.Enumerant a v) xs = refl
-flat-step flat (Kind j) (of.Parameter a) xs = and-assoc (flat a) (every flat (parametersOf xs)) _
-flat-step flat (Kind j) of.Broken xs = refl
+-- each of some numbers passes, where those that are in the list do
+every-in : (f : ℕ → Bool) (l : List ℕ) → ((k : ℕ) → isIn k l ≡ true → f k ≡ true) → every f l ≡ true
+every-in f [] h = refl
+every-in f (x ∷ l) h = both (h x (simp (eq-eqb x x refl))) (every-in f l (λ k e. h k (rw (e, or-swap (eqb k x) true))))
 
--- no items, no parameters
-flat-none : (flat : ℕ → Bool) (o : Open) → flatFrom flat o [] ≡ true
-unfolding flatFrom enumerantsOf parametersOf
-flat-none flat Nothing = refl
-flat-none flat (Kind j) = refl
+-- one that is in the list does not
+every-out : (f : ℕ → Bool) (l : List ℕ) (k : ℕ) → isIn k l ≡ true → f k ≡ false → every f l ≡ true → ⊥
+every-out f [] k e n h = false≢true e
+every-out f (x ∷ l) k e n h =
+    cases (eqb k x) (λ t. false≢true (sym n ∙ ap f (eqb-true k x t) ∙ left (f x) (every f l) h))
+    (λ t. every-out f l k (rw t at e) n (right (f x) (every f l) h))
 
--- in the loop: the parameters from here on decide
-pub record Flattening (g : List ℕ) (o : Open) (at : ℕ) : Type 0 where
-  pub rest : allFlat (enumerantsOf (items g)) ≡ flatFrom (parameterless (enumerantsOf (items g))) o (items (drop at g))
+-- one test holds where another does, and fails where it fails
+same-test : (a b : Bool) → (a ≡ true → b ≡ true) → (a ≡ false → b ≡ true → ⊥) → a ≡ b
+same-test true b f n = sym (f refl)
+same-test false true f n = absurd (n refl refl)
+same-test false false f n = refl
 
--- where the loop begins
-pub flat-start : (g : List ℕ) → Flattening g Nothing 0
-unfolding allFlat flatFrom
-flat-start g = record { rest = refl }
+-- numbers of which each passes, by the notes of those that do not and of those that there are
+apart-every : (f : ℕ → Bool) (l : List ℕ) (o u : List Bool) → ((k : ℕ) → getD o k false ≡ not (f k)) → ((k : ℕ) → getD u k false ≡ isIn k l) → isApart o u ≡ every f l
+apart-every f l o u owned used =
+    same-test (isApart o u) (every f l)
+    (λ e. every-in f l (λ k i. cases (f k) (λ t. t) (λ n. absurd (apart-told o u e k (owned k ∙ ap not n) (used k ∙ i)))))
+    (λ e h.
+    let r = apart-not o u e in
+    every-out f l (r .0) (sym (used (r .0)) ∙ r .2) (not-true (f (r .0)) (sym (owned (r .0)) ∙ r .1)) h)
 
-module _ {g : List ℕ} {o : Open} {at : ℕ} (r : Flattening g o at) where
-  -- at the end
-  pub flat-end : length g ≤ at → true ≡ allFlat (enumerantsOf (items g))
-  flat-end h = sym (r .rest ∙ ap (flatFrom (parameterless (enumerantsOf (items g))) o) (items-end g at h) ∙ flat-none _ o)
+-- past the last enumerant: where no kind is both, all are flat
+pub noting-end : {g : List ℕ} {owners used : List Bool} {at : ℕ} → Noting g owners used at → length g ≤ at → isApart owners used ≡ allFlat (enumerantsOf (items g))
+unfolding allFlat enumerantsOf parametersIn
+noting-end {g} {owners} {used} {at} r h =
+    let es = r .seen in
+    let all : enumerantsOf (items g) ≡ es = r .all ∙ rw (items-end g at h) (append-nil es) in
+    rw all
+    (apart-every (parameterless es) (parametersIn es) owners used (r .owned) (r .taken)
+    ∙ every-joined (parameterless es) (λ e. e .parameters) es)
 
-  module _ (h : at < length g) (x : Item) (read : x ≡ itemAt g at) (t : Bool)
-      (asked : t ≡ flatAt (parameterless (enumerantsOf (items g))) o x) where
-    -- an item, and those after it
-    flat-item : (n : ℕ) → n ≡ lengthAt g at
-        → allFlat (enumerantsOf (items g)) ≡ t && flatFrom (parameterless (enumerantsOf (items g))) (opened o x) (items (drop (at + n) g))
-    flat-item n l =
-        r .rest ∙ ap (flatFrom (parameterless (enumerantsOf (items g))) o) (items-read g at h x read n l)
-        ∙ flat-step (parameterless (enumerantsOf (items g))) o x (items (drop (at + n) g)) ∙ rw (← asked)
+-- KIND BY KIND
 
-    -- a parameter whose kind has parameters
-    pub flat-stop : t ≡ false → false ≡ allFlat (enumerantsOf (items g))
-    flat-stop e = sym (flat-item (lengthAt g at) refl ∙ rw e)
+module _ (o u : List Bool) (k : ℕ) where
+  module _ (a : k < length o) (b : k < length u) where
+    -- whether a kind is noted in both, and those after it
+    apart-at : isApart (drop k o) (drop k u) ≡ not (getD o k false && getD u k false) && isApart (drop (k + 1) o) (drop (k + 1) u)
+    unfolding isApart
+    apart-at = rw (drop-cons o k false a, drop-cons u k false b, add-one k)
 
-    -- on to the next item
-    pub flat-turn : t ≡ true → (o′ : Open) → o′ ≡ opened o x → (n : ℕ) → n ≡ lengthAt g at → Flattening g o′ (at + n)
-    flat-turn e o′ f n l = record { rest = rw f (flat-item n l ∙ rw e) }
+    -- it is
+    pub apart-stop : getD o k false && getD u k false ≡ true → isApart (drop k o) (drop k u) ≡ false
+    apart-stop e = apart-at ∙ rw e
+
+    -- it is not
+    pub apart-turn : getD o k false && getD u k false ≡ false → isApart (drop k o) (drop k u) ≡ isApart (drop (k + 1) o) (drop (k + 1) u)
+    apart-turn e = apart-at ∙ rw e
+
+  -- past the last kind
+  pub apart-end : length o ≤ k → isApart (drop k o) (drop k u) ≡ true
+  unfolding isApart
+  apart-end h = rw (drop-of-length-le o h)

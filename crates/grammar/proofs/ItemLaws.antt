@@ -117,13 +117,3 @@ items-read g at h x e n l = rw (e, l) (items-at g at h)
 pub items-end : (g : List ℕ) (at : ℕ) → length g ≤ at → items (drop at g) ≡ []
 unfolding items itemsFrom
 items-end g at h = rw (drop-of-length-le g h)
-
--- an item has at most six bytes
-pub length-most : (g : List ℕ) (at : ℕ) → lengthAt g at ≤ 6
-unfolding lengthAt
-length-most g at = omega (arith, body-most (getD g at 0))
-
--- an item has a byte at least
-pub length-least : (g : List ℕ) (at : ℕ) → 1 ≤ lengthAt g at
-unfolding lengthAt
-length-least g at = omega arith

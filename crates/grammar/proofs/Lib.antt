@@ -1,4 +1,5 @@
 pub mod Carried
+pub mod CheckLaws
 pub mod FindLaws
 pub mod FlatLaws
 pub mod IndexLaws

@@ -58,10 +58,6 @@ markAt ms rank = getD ms rank (mark 0 0 0)
 unfoldable pub placesOf : List Mark → List ℕ
 placesOf ms = map (λ m. m .place) ms
 
--- the place of an item, where it is a row or an enumerant
-unfoldable pub placesAt : Item → ℕ → List ℕ
-placesAt x at = if isMarked x then at ∷ [] else []
-
 -- is it the mark of a kind and a value
 abbrev pub isMark : ℕ → ℕ → Mark → Bool
 isMark k v m = eqb (m .kind) k && eqb (m .value) v

@@ -1,3 +1,4 @@
+pub mod Check
 pub mod Find
 pub mod Index
 pub mod Items

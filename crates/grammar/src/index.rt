@@ -1,19 +1,16 @@
 // The index of a grammar: the places of its rows and enumerants in their order, behind guesses at where to look first.
 ghost use mathlib.Core.Path.{_≡_};
-ghost use mathlib.Core.Bool.{true};
 ghost use mathlib.Core.List.{[], _∷_, _++_};
-ghost use Prim.Native.Nat.{_+_, _<_, _≤_};
+ghost use Prim.Native.Nat.{_+_, _<_};
 ghost use lib.ListN.{length, getD};
-ghost use Rattle.spec.specs.Grammar.{wellFormed};
 ghost use Rattle.grammar.specs.Items.{itemIs};
-ghost use Rattle.grammar.specs.Index.{markOf, marksOf, markAt, placesAt, placesIn, Indexed};
+ghost use Rattle.grammar.specs.Index.{markOf, marksOf, markAt, placesIn, Indexed};
 use crate::items::Item;
 use crate::items::item_at;
-use crate::items::item_length;
 
 // The guesses come first: for a kind and a value, the rank to look at first. A guess is tested before it is believed, so a wrong one costs
 // time alone. The count of rows and enumerants follows, and then their places.
-const GUESSES: usize = 1536;
+pub const GUESSES: usize = 1536;
 
 const PLACES: usize = 1537;
 
@@ -40,48 +37,13 @@ fn guess_place(kind: u8, value: u32) -> usize
 }
 
 // Puts the place of the next row or enumerant, and its rank as a guess.
-fn put(index: &mut [u16], rank: usize, kind: u8, value: u32, place: usize)
+pub fn put(index: &mut [u16], rank: usize, kind: u8, value: u32, place: usize)
     requires { ⌜ (1537 + rank < length (now index)) × (rank < 65536) × (place < 65536) ⌝ }
     ensures { λ _. ⌜ placesIn (rank + 1) (now (index .exit)) ≡ placesIn rank (now (index .entry)) ++ (place ∷ []) ⌝ }
 {
     let guess = guess_place(kind, value);
     index[PLACES + rank] = place as u16;
     index[guess] = rank as u16;
-}
-
-// Puts the place of an item that is a row or an enumerant; how many there are now.
-fn enter(index: &mut [u16], count: usize, x: Item, at: usize) -> usize
-    requires { ⌜ (1537 + count < length (now index)) × (count < 65535) × (at < 65536) ⌝ }
-    ensures { λ r. ⌜ (r ≡ count + length (placesAt (itemIs x) at)) × (placesIn r (now (index .exit)) ≡ placesIn count (now (index .entry)) ++ placesAt (itemIs x) at) ⌝ }
-{
-    match x {
-        Item::Row(opcode) => {
-            put(index, count, 0, opcode as u32, at);
-            count + 1
-        }
-        Item::Enumerant(kind, value) => {
-            put(index, count, kind, value, at);
-            count + 1
-        }
-        _ => count,
-    }
-}
-
-// Fills the index of a grammar in one pass over its items.
-pub fn fill_index(g: &[u8], index: &mut [u16])
-    requires { ⌜ wellFormed (now g) ≡ true ⌝ }
-    requires { ⌜ 23382 ≤ length (now index) ⌝ }
-    ensures { λ _. ⌜ Indexed (now (g .entry)) (now (index .exit)) ⌝ }
-{
-    let mut count: usize = 0;
-    let mut at: usize = 0;
-    while at < g.len() {
-        let x = item_at(g, at);
-        let next = at + item_length(g, at);
-        count = enter(index, count, x, at);
-        at = next;
-    }
-    index[GUESSES] = count as u16;
 }
 
 // A number of the index, as wide as a place.
@@ -107,7 +69,7 @@ pub fn guess_at(index: &[u16], kind: u8, value: u32) -> usize
 }
 
 // The mark of an item at a place.
-fn mark_of(x: Item, place: usize) -> Mark
+pub fn mark_of(x: Item, place: usize) -> Mark
     ensures { λ r. ⌜ r ≡ markOf (itemIs x) place ⌝ }
 {
     match x {

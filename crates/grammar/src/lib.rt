@@ -1,4 +1,5 @@
 // A grammar as bytes: its items, the tests on operand kinds, the check that it is well-formed, its index, and the lookups.
+mod check;
 mod find;
 mod index;
 mod items;
@@ -6,6 +7,8 @@ mod kinds;
 mod read;
 mod rules;
 
+pub use check::prepare;
+pub use check::well_formed;
 pub use find::ParameterAt;
 pub use find::SlotAt;
 pub use find::find_enumerant;
@@ -16,7 +19,6 @@ pub use find::is_known;
 pub use find::parameter_at;
 pub use find::slot_at;
 pub use index::SIZE;
-pub use index::fill_index;
 pub use items::Item;
 pub use items::item_at;
 pub use items::item_length;
@@ -24,4 +26,3 @@ pub use kinds::is_enum;
 pub use kinds::is_mask;
 pub use kinds::is_result;
 pub use read::enumerant;
-pub use rules::well_formed;

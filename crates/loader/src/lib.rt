@@ -27,11 +27,10 @@ pub fn load(
         (lent (now (instructions .entry)) (now (log .entry)) (now (strings .entry)) (now (types .entry)))
         (lent (now (instructions .exit)) (now (log .exit)) (now (strings .exit)) (now (types .exit))) r ⌝ }
 {
-    if !grammar::well_formed(grammar) {
+    let mut index = [0u16; grammar::SIZE];
+    if !grammar::prepare(grammar, &mut index) {
         return no_instruction(refusals::BAD_GRAMMAR, 0);
     }
-    let mut index = [0u16; grammar::SIZE];
-    grammar::fill_index(grammar, &mut index);
     if module.len() <= SHORT {
         return load_few(module, grammar, &index, instructions, log, strings, types);
     }

@@ -8,16 +8,16 @@ use Rattle.grammar.proofs.read.enumerant.Tie as tie
 
 returns : tie.Need-returns
 returns c =
-    let at-well-formed = c .before .before in
-    c .refused .ensures ∙ read-ill _ _ _ _ (sym (at-well-formed .well-formed .ensures) ∙ not-true _ (c .before .if1 .taken))
+    let at-prepare = c .before .before .before in
+    c .refused .ensures ∙ read-ill _ _ _ _ (sym (at-prepare .prepare .ensures .0) ∙ not-true _ (c .before .if1 .taken))
 
 returns-2 : tie.Need-returns-2
 returns-2 c =
     let at-limit-reached = c .before .before in
     let at-offset = at-limit-reached .before in
     let at-if1 = at-offset .before in
-    let at-well-formed = at-if1 .before in
-    c .refused2 .ensures ∙ rw (at-offset .offset .ensures) (read-spent _ _ _ _ (sym (at-well-formed .well-formed .ensures) ∙ not-false _ (at-if1 .if1 .left)) (sym (at-limit-reached .limit-reached .ensures) ∙ c .before .if2 .taken))
+    let at-prepare = at-if1 .before .before in
+    c .refused2 .ensures ∙ rw (at-offset .offset .ensures) (read-spent _ _ _ _ (sym (at-prepare .prepare .ensures .0) ∙ not-false _ (at-if1 .if1 .left)) (sym (at-limit-reached .limit-reached .ensures) ∙ c .before .if2 .taken))
 
 returns-3 : tie.Need-returns-3
 returns-3 c =
@@ -25,41 +25,42 @@ returns-3 c =
     let at-if2 = at-word .before in
     let at-limit-reached = at-if2 .before in
     let at-if1 = at-limit-reached .before .before in
-    let at-well-formed = at-if1 .before in
-    c .enum-told .given .1 ∙ read-none _ _ _ _ (sym (at-well-formed .well-formed .ensures) ∙ not-false _ (at-if1 .if1 .left)) (sym (at-limit-reached .limit-reached .ensures) ∙ at-if2 .if2 .left) _ _ (sym (c .enum-told .given .1) ∙ at-word .word .ensures)
+    let at-prepare = at-if1 .before .before in
+    c .enum-told .given .1 ∙ read-none _ _ _ _ (sym (at-prepare .prepare .ensures .0) ∙ not-false _ (at-if1 .if1 .left)) (sym (at-limit-reached .limit-reached .ensures) ∙ at-if2 .if2 .left) _ _ (sym (c .enum-told .given .1) ∙ at-word .word .ensures)
 
-knows-requires : tie.Need-knows-requires
-knows-requires c κs =
-    let at-if1 = c .before .before .before .before .before .before .before in
-    let at-well-formed = at-if1 .before in
-    sym (at-well-formed .well-formed .ensures) ∙ not-false _ (at-if1 .if1 .left)
+is-known-requires : tie.Need-is-known-requires
+is-known-requires c κs =
+    let at-if1 = c .before .before .before .before .before .before .before .before in
+    let at-prepare = at-if1 .before .before in
+    at-prepare .prepare .ensures .1 (not-false _ (at-if1 .if1 .left))
 
 returns-4 : tie.Need-returns-4
 returns-4 c =
-    let at-word2 = c .before .before .before in
+    let at-word2 = c .before .before .before .before in
     let at-word = at-word2 .before .before in
     let at-if2 = at-word .before in
     let at-limit-reached = at-if2 .before in
     let at-if1 = at-limit-reached .before .before in
-    let at-well-formed = at-if1 .before in
-    read-known _ _ _ _ (sym (at-well-formed .well-formed .ensures) ∙ not-false _ (at-if1 .if1 .left)) (sym (at-limit-reached .limit-reached .ensures) ∙ at-if2 .if2 .left) _ _ (sym (at-word2 .word2 .given .1) ∙ at-word .word .ensures) (sym (c .before .knows .ensures) ∙ c .if3 .taken)
+    let at-prepare = at-if1 .before .before in
+    read-known _ _ _ _ (sym (at-prepare .prepare .ensures .0) ∙ not-false _ (at-if1 .if1 .left)) (sym (at-limit-reached .limit-reached .ensures) ∙ at-if2 .if2 .left) _ _ (sym (at-word2 .word2 .given .1) ∙ at-word .word .ensures) (sym (c .before .is-known .ensures) ∙ c .if3 .taken)
 
 returns-5 : tie.Need-returns-5
 returns-5 c =
-    let at-knows = c .before .before in
-    let at-word2 = at-knows .before .before in
+    let at-is-known = c .before .before in
+    let at-word2 = at-is-known .before .before .before in
     let at-word = at-word2 .before .before in
     let at-if2 = at-word .before in
     let at-limit-reached = at-if2 .before in
     let at-offset = at-limit-reached .before in
     let at-if1 = at-offset .before in
-    let at-well-formed = at-if1 .before in
-    c .refused3 .ensures ∙ rw (at-offset .offset .ensures) (read-unknown _ _ _ _ (sym (at-well-formed .well-formed .ensures) ∙ not-false _ (at-if1 .if1 .left)) (sym (at-limit-reached .limit-reached .ensures) ∙ at-if2 .if2 .left) _ _ (sym (at-word2 .word2 .given .1) ∙ at-word .word .ensures) (sym (at-knows .knows .ensures) ∙ c .before .if3 .left))
+    let at-prepare = at-if1 .before .before in
+    c .refused3 .ensures ∙ rw (at-offset .offset .ensures) (read-unknown _ _ _ _ (sym (at-prepare .prepare .ensures .0) ∙ not-false _ (at-if1 .if1 .left)) (sym (at-limit-reached .limit-reached .ensures) ∙ at-if2 .if2 .left) _ _ (sym (at-word2 .word2 .given .1) ∙ at-word .word .ensures) (sym (at-is-known .is-known .ensures) ∙ c .before .if3 .left))
 
 pub enumerant-spec : {M : Type 1} → statement M
 enumerant-spec =
     tie.close
     (tie.spec
+    (λ c. search needs)
     (λ c κs. search needs)
     (λ c κs. search needs)
     returns
@@ -71,7 +72,8 @@ enumerant-spec =
     (λ c. search needs)
     (λ c. search needs)
     returns-3
-    knows-requires
+    (λ c. search needs)
+    is-known-requires
     returns-4
     (λ c κs. search needs)
     returns-5)

@@ -1,11 +1,12 @@
 -- `grammar::rules::literal_rule` meets its contract.
+use Rattle.grammar.proofs.RuleLaws.{lead-selects}
 use Rattle.grammar.specs.Rules.{passedOf}
 use Rattle.grammar.proofs.rules.literal_rule.Statement.{statement}
 use Rattle.grammar.proofs.rules.literal_rule.Tie as tie
 
 returns : tie.Need-returns
 unfolding passedOf
-returns c before e = rw e
+returns c before e = rw e (simp lead-selects)
 
 pub literal-rule-spec : {M : Type 1} → statement M
 literal-rule-spec = tie.close (tie.spec returns)

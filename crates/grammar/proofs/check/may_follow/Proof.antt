@@ -1,0 +1,12 @@
+-- `grammar::check::may_follow` meets its contract.
+use Rattle.grammar.specs.Check.{follows}
+use borrow.Author.Needs.{needs}
+use Rattle.grammar.proofs.check.may_follow.Statement.{statement}
+use Rattle.grammar.proofs.check.may_follow.Tie as tie
+
+returns : tie.Need-returns
+unfolding follows
+returns c = rw (c .rises-to .ensures)
+
+pub may-follow-spec : {M : Type 1} → statement M
+may-follow-spec = tie.close (tie.spec (λ c κs. search needs) returns)

@@ -1,0 +1,199 @@
+// One pass over a grammar that checks it and fills its index: row by row with its operands, enumerant by enumerant with its parameters.
+ghost use mathlib.Core.Path.{_≡_};
+ghost use mathlib.Core.Bool.{true};
+ghost use mathlib.Core.List.{List};
+ghost use Prim.Native.Nat.{_≤_, _<_};
+ghost use lib.Dec.{eqb};
+ghost use lib.ListN.{length, set};
+ghost use Rattle.spec.specs.Grammar.{Slot, rowEnd, wellFormed};
+ghost use Rattle.grammar.specs.Items.{itemIs, itemAt};
+ghost use Rattle.grammar.specs.Rules.{passedOf};
+ghost use Rattle.grammar.specs.Index.{markOf, Indexed};
+ghost use Rattle.grammar.specs.Check.{endsWhere, follows, Operands, Parameters, isApart, Checking, Entered};
+use crate::index::GUESSES;
+use crate::index::Mark;
+use crate::index::SIZE;
+use crate::index::mark_of;
+use crate::index::put;
+use crate::items::Item;
+use crate::items::item_at;
+use crate::rules::NO_LEAD;
+use crate::rules::Passed;
+use crate::rules::enumerant_rule;
+use crate::rules::operand_rule;
+use crate::rules::parameter_rule;
+use crate::rules::rises_to;
+use crate::rules::row_end;
+use crate::rules::with_one;
+use spec::Found;
+
+// Where a row's operands end, if it is whole.
+fn end_of_row(op: u16, p: Passed, at: usize) -> Found
+    ensures { λ r. ⌜ ((before : List Slot) → p ≡ passedOf before → r ≡ endsWhere (rowEnd op before) at) ⌝ }
+{
+    if row_end(op, p) {
+        Found::At(at)
+    } else {
+        Found::Nothing
+    }
+}
+
+// Where the operands of a row end that start at a place; nothing where a rule is broken.
+fn operands_end(g: &[u8], op: u16, from: usize) -> Found
+    requires { ⌜ (length (now g) ≤ 65535) × (from ≤ length (now g)) ⌝ }
+    ensures { λ r. ⌜ Operands (now (g .entry)) op from r ⌝ }
+{
+    let mut p = Passed {
+        count: 0,
+        typed: false,
+        lead: NO_LEAD,
+    };
+    let mut at = from;
+    while at < g.len() {
+        let x = item_at(g, at);
+        let Item::Operand(k, q) = x else {
+            return end_of_row(op, p, at);
+        };
+        if !operand_rule(op, p, k, q) {
+            return Found::Nothing;
+        }
+        p = with_one(p, k, q);
+        at = at + 3;
+    }
+    end_of_row(op, p, at)
+}
+
+// Notes a kind.
+fn note(noted: &mut [bool; 256], k: u8)
+    ensures { λ _. ⌜ now (noted .exit) ≡ set (now (noted .entry)) k true ⌝ }
+{
+    noted[k as usize] = true;
+}
+
+// Where the parameters of an enumerant end that start at a place, with its kind noted where it has any, and theirs; nothing where a rule is
+// broken.
+fn parameters_end(
+    g: &[u8],
+    kind: u8,
+    value: u32,
+    from: usize,
+    owners: &mut [bool; 256],
+    used: &mut [bool; 256],
+) -> Found
+    requires { ⌜ (length (now g) ≤ 65535) × (from ≤ length (now g)) × (1 ≤ kind) × (length (now owners) ≡ 256) × (length (now used) ≡ 256) ⌝ }
+    ensures { λ r. ⌜ Parameters (now (g .entry)) kind value from (now (owners .entry)) (now (owners .exit)) (now (used .entry)) (now (used .exit)) r ⌝ }
+{
+    let mut at = from;
+    while at < g.len() {
+        let x = item_at(g, at);
+        let Item::Parameter(k) = x else {
+            return Found::At(at);
+        };
+        if !parameter_rule(kind, value, k) {
+            return Found::Nothing;
+        }
+        note(owners, kind);
+        note(used, k);
+        at = at + 2;
+    }
+    Found::At(at)
+}
+
+// A row or an enumerant may come here: as the first, or after one that it rises from.
+fn may_follow(count: usize, last: Mark, kind: u8, value: u32) -> bool
+    ensures { λ r. ⌜ r ≡ follows (eqb count 0) (last .kind) (last .value) kind value ⌝ }
+{
+    (count == 0) | rises_to(last.kind, last.value, kind, value)
+}
+
+// Enters the row or enumerant at a place, with its operands or parameters: where they end; nothing where a rule is broken.
+fn enter(
+    g: &[u8],
+    index: &mut [u16],
+    count: usize,
+    last: Mark,
+    x: Item,
+    at: usize,
+    owners: &mut [bool; 256],
+    used: &mut [bool; 256],
+) -> Found
+    requires { ⌜ Checking (now g) (now index) (now owners) (now used) count last at ⌝ }
+    requires { ⌜ (length (now g) ≤ 65535) × (at < length (now g)) × (x ≡ itemAt (now g) at) × (23382 ≤ length (now index)) ⌝ }
+    ensures { λ r. ⌜ Entered (now (g .entry)) (now (index .exit)) (now (owners .exit)) (now (used .exit)) count (markOf (itemIs x) at) at r ⌝ }
+{
+    match x {
+        Item::Row(opcode) => {
+            let value = opcode as u32;
+            if !may_follow(count, last, 0, value) {
+                return Found::Nothing;
+            }
+            let operands = at + 3;
+            put(index, count, 0, value, at);
+            operands_end(g, opcode, operands)
+        }
+        Item::Enumerant(kind, value) => {
+            if !(may_follow(count, last, kind, value) & enumerant_rule(kind, value)) {
+                return Found::Nothing;
+            }
+            let parameters = at + 6;
+            put(index, count, kind, value, at);
+            parameters_end(g, kind, value, parameters, owners, used)
+        }
+        _ => Found::Nothing,
+    }
+}
+
+// No kind that is noted here is noted there.
+fn are_apart(owners: &[bool; 256], used: &[bool; 256]) -> bool
+    requires { ⌜ (length (now owners) ≡ 256) × (length (now used) ≡ 256) ⌝ }
+    ensures { λ r. ⌜ r ≡ isApart (now (owners .entry)) (now (used .entry)) ⌝ }
+{
+    let mut k: usize = 0;
+    while k < 256 {
+        if owners[k] & used[k] {
+            return false;
+        }
+        k = k + 1;
+    }
+    true
+}
+
+// Checks a grammar and fills its index, in one pass over its items: whether it is well-formed.
+pub fn prepare(g: &[u8], index: &mut [u16]) -> bool
+    requires { ⌜ 23382 ≤ length (now index) ⌝ }
+    ensures { λ r. ⌜ r ≡ wellFormed (now (g .entry)) ⌝ }
+    ensures { λ r. ⌜ (r ≡ true → Indexed (now (g .entry)) (now (index .exit))) ⌝ }
+{
+    if 65535 < g.len() {
+        return false;
+    }
+    let mut owners = [false; 256];
+    let mut used = [false; 256];
+    let mut last = Mark {
+        kind: 0,
+        value: 0,
+        place: 0,
+    };
+    let mut count: usize = 0;
+    let mut at: usize = 0;
+    while at < g.len() {
+        let x = item_at(g, at);
+        let end = enter(g, index, count, last, x, at, &mut owners, &mut used);
+        let Found::At(next) = end else {
+            return false;
+        };
+        last = mark_of(x, at);
+        count = count + 1;
+        at = next;
+    }
+    index[GUESSES] = count as u16;
+    are_apart(&owners, &used)
+}
+
+// "Well-formed: at most 65,535 bytes", and every rule.
+pub fn well_formed(g: &[u8]) -> bool
+    ensures { λ r. ⌜ r ≡ wellFormed (now (g .entry)) ⌝ }
+{
+    let mut index = [0u16; SIZE];
+    prepare(g, &mut index)
+}
