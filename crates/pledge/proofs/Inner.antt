@@ -11,9 +11,6 @@ use Rattle.grammar.specs.declared.find.ParameterAt.{ParameterAt}
 use Rattle.grammar.specs.declared.find.ParameterAt.the-variants.{Parameter as AParameter, End as NoParameter}
 use Rattle.grammar.specs.Find.{slotsThen, parametersThen}
 use Rattle.tracker.specs.declared.TypeTracker.{TypeTracker}
-use Rattle.tracker.specs.declared.Resolved.{Resolved}
-use Rattle.tracker.specs.declared.Resolved.the-variants.{«Type», Unknown}
-use Rattle.tracker.specs.Entries.{resolvedIs}
 use Rattle.words.proofs.word_at as word-at-call
 use Rattle.reflect.proofs.place as place-call
 use Rattle.grammar.proofs.item_at as item-at-call
@@ -63,17 +60,11 @@ same-parameter (AParameter k) NoParameter rest e = let z : _≡_ {A = ℕ} 0 1 =
 same-parameter NoParameter (AParameter l) rest e = let z : _≡_ {A = ℕ} 0 1 = cc in absurd (omega arith)
 same-parameter NoParameter NoParameter rest e = refl
 
--- types of an id
-same-resolved : (i : ℕ) (x y : Resolved) → resolvedIs i x ≡ resolvedIs i y → x ≡ y
-unfolding resolvedIs
-same-resolved i («Type» w s) («Type» v r) e = cc
-same-resolved i («Type» w s) Unknown e = let z : _≡_ {A = ℕ} 0 1 = cc in absurd (omega arith)
-same-resolved i Unknown («Type» v r) e = let z : _≡_ {A = ℕ} 0 1 = cc in absurd (omega arith)
-same-resolved i Unknown Unknown e = refl
-
--- trackers, which are a count and a greatest id
-same-tracker : {x y : TypeTracker} → x .count ≡ y .count → x .greatest ≡ y .greatest → x ≡ y
-same-tracker e f = ap₂ (λ (n g : ℕ). record { count = n; greatest = g }) e f
+-- trackers, which are a count, a greatest id and a number of marks
+same-tracker : {x y : TypeTracker} → x .count ≡ y .count → x .greatest ≡ y .greatest → x .marks ≡ y .marks → x ≡ y
+same-tracker e f h =
+    let by : ℕ → ℕ → ℕ → TypeTracker = λ n g m. record { count = n; greatest = g; marks = m } in
+    ap₂ (λ (t : ℕ → TypeTracker) (m : ℕ). t m) (ap₂ by e f) h
 
 -- THE CALLS
 
@@ -117,11 +108,11 @@ is-result = λ κs a x y after other ask p q. (both p q, refl)
 
 -- a tracker of no types
 pub tracker-new : Determined tracker-new-call.Kinds.ps tracker-new-call.Kinds.r tracker-new-call.Reads.Asked tracker-new-call.Reads.Learnt
-tracker-new = λ κs a x y after other ask p q. (same-tracker (both (p .0) (q .0)) (both (p .1) (q .1)), refl)
+tracker-new = λ κs a x y after other ask p q. (both p q, refl)
 
 -- the type of an id
 pub tracker-resolve : Determined tracker-resolve-call.Kinds.ps tracker-resolve-call.Kinds.r tracker-resolve-call.Reads.Asked tracker-resolve-call.Reads.Learnt
-tracker-resolve = λ κs a x y after other ask p q. (same-resolved _ x y (both p q), refl)
+tracker-resolve = λ κs a x y after other ask p q. (both p q, refl)
 
 -- how many types there are after an instruction
 pub tracker-after : Determined tracker-after-call.Kinds.ps tracker-after-call.Kinds.r tracker-after-call.Reads.Asked tracker-after-call.Reads.Learnt
@@ -130,7 +121,7 @@ tracker-after = λ κs a x y after other ask p q. (both p q, refl)
 -- the tracker, the types and their hints after an instruction
 pub tracker-track : Determined tracker-track-call.Kinds.ps tracker-track-call.Kinds.r tracker-track-call.Reads.Asked tracker-track-call.Reads.Learnt
 tracker-track = λ κs a x y after other ask p q. (
-  same-tracker (both (p .count) (q .count)) (both (p .greatest) (q .greatest)),
+  same-tracker (both (p .count) (q .count)) (both (p .greatest) (q .greatest)) (both (p .marks) (q .marks)),
   and refl (and (both (p .store) (q .store)) (and (both (p .hints-are) (q .hints-are)) refl)),
 )
 
