@@ -36,8 +36,17 @@ pub fn systematic<'a>(builtin: &'a Grammar, shaders: &'a [Vec<u8>], seed: u64) -
     for length in 0..18 {
         jobs.push(Box::new(move |judge| strings(judge, length)));
     }
-    for entries in [0, 3_000, 65_533, 65_540] {
-        jobs.push(Box::new(move |judge| hints(judge, entries)));
+    for bound in [0, 2_048, 2_049, 2_560, 2_561, 8_192, 32_768, 32_769, 491_520, 491_521, u32::MAX] {
+        jobs.push(Box::new(move |judge| typed_ids(judge, bound)));
+    }
+    for bound in [0, 2_561, 32_769, u32::MAX] {
+        jobs.push(Box::new(move |judge| untyped_ids(judge, bound)));
+    }
+    // types come to the 65,536th entry, or constants do
+    for entries in [3_000, 65_530, 65_533] {
+        for bound in [0, u32::MAX] {
+            jobs.push(Box::new(move |judge| late_ids(judge, entries, bound)));
+        }
     }
     for (n, shader) in shaders.iter().enumerate() {
         jobs.push(Box::new(move |judge| whole_shader(judge, shader, mix(seed, 1000 + n as u64))));
@@ -64,20 +73,91 @@ fn huge(judge: &mut Judge) {
     judge.load("huge", &m, None, [64; 4]);
 }
 
-/// Types of ids around every length of the table that the library looks types up by, defined after so many other entries, with rising,
-/// falling and low ids between, and defined again. A literal that is read by a wrong type has another length, and is refused.
-fn hints(judge: &mut Judge, entries: u32) {
-    let ids = [2, 2_047, 2_048, 2_049, 32_767, 32_768, 32_769, 65_534, 65_535, 65_536, u32::MAX];
-    let before: Vec<u32> = (0..entries).flat_map(|n| inst(1, &[1, 100_000 + n])).collect();
-    let typed = |id: u32, width: u32| {
-        let literal = if width == 64 { vec![7, 1] } else { vec![7] };
-        [inst(21, &[id, width, 0]), inst(43, &[&[id, 200_000 + id % 100][..], &literal].concat())].concat()
-    };
-    let each = |ids: &[u32], width: u32| ids.iter().flat_map(|id| typed(*id, width)).collect::<Vec<u32>>();
-    let falling: Vec<u32> = ids.iter().rev().copied().collect();
-    for words in [[each(&ids, 64), each(&falling, 32)].concat(), [each(&falling, 64), each(&ids, 16)].concat()] {
-        judge.module("types by hints", &module(&[inst(21, &[1, 32, 0]), before.clone(), words].concat()));
+// TYPES OF IDS, at every border of the index by which the library finds them
+
+/// Where the index changes its ways: sixteen ids to a number of marks; slots of an id's own, and shared ones; the ids that have marks,
+/// in short modules and long ones; the greatest guess.
+const BORDERS: [u32; 10] = [16, 512, 2_048, 2_560, 8_192, 30_720, 32_768, 65_536, 491_520, 1 << 31];
+
+/// A module is short up to so many bytes.
+const SHORT: usize = 16_384;
+
+/// Rising ids around the borders, and some that share a slot with those.
+fn border_ids() -> Vec<u32> {
+    let around = |b: &u32| [b - 2, b - 1, *b, b + 1, b + 2_047, b + 2_048];
+    let mut ids: Vec<u32> = BORDERS.iter().flat_map(around).chain([u32::MAX - 1, u32::MAX]).collect();
+    ids.sort();
+    ids.dedup();
+    ids
+}
+
+/// The orders in which ids come: rising, falling, from both ends in turn.
+fn orders(ids: &[u32]) -> [Vec<u32>; 3] {
+    let zigzag = (0..ids.len()).map(|n| if n % 2 == 0 { ids[n / 2] } else { ids[ids.len() - 1 - n / 2] });
+    [ids.to_vec(), ids.iter().rev().copied().collect(), zigzag.collect()]
+}
+
+/// A constant by an id's type. A literal that is read by a wrong type has another length, and is refused.
+fn constant(id: u32, width: u32) -> Vec<u32> {
+    let literal: &[u32] = if width == 64 { &[7, 1] } else { &[7] };
+    inst(43, &[&[id, 200_000 + id % 100], literal].concat())
+}
+
+/// Each id as a type of this width, and a constant of it.
+fn as_types(ids: &[u32], width: u32) -> Vec<u32> {
+    ids.iter().flat_map(|id| [inst(21, &[*id, width, 0]), constant(*id, width)].concat()).collect()
+}
+
+/// Each id as a value of the type with id 1, which has 32 bits, and a constant by it.
+fn as_values(ids: &[u32]) -> Vec<u32> {
+    ids.iter().flat_map(|id| [inst(1, &[1, *id]), constant(*id, 32)].concat()).collect()
+}
+
+/// A module with this bound in its header and a type with id 1, filled up to so many bytes by a structure.
+fn bounded(bound: u32, words: &[u32], bytes: usize) -> Vec<u8> {
+    let mut all = H.to_vec();
+    all[3] = bound;
+    all.extend(inst(21, &[1, 32, 0]));
+    let missing = (bytes / 4).saturating_sub(all.len() + words.len());
+    if missing >= 2 {
+        all.extend(inst(30, &vec![3; missing - 1]));
     }
+    all.extend(words);
+    bytes_of(&all)
+}
+
+/// Ids that get a type in one order and another type in another, in short modules and long ones.
+fn typed_ids(judge: &mut Judge, bound: u32) {
+    let orders = orders(&border_ids());
+    for first in &orders {
+        for second in &orders {
+            let twice = [as_types(first, 64), as_types(second, 32), as_values(first), as_types(second, 16)].concat();
+            for bytes in [0, SHORT, SHORT + 4] {
+                judge.module("types by id", &bounded(bound, &twice, bytes));
+            }
+        }
+    }
+}
+
+/// An id that has no type, where all others around the borders have one of two words: its constant has one.
+fn untyped_ids(judge: &mut Judge, bound: u32) {
+    let ids = border_ids();
+    for id in &ids {
+        let others: Vec<u32> = ids.iter().copied().filter(|other| other != id).collect();
+        for order in orders(&others) {
+            for bytes in [0, SHORT + 4] {
+                judge.module("ids without a type", &bounded(bound, &[as_types(&order, 64), constant(*id, 32)].concat(), bytes));
+            }
+        }
+    }
+}
+
+/// Ids that get a type after so many others have one.
+fn late_ids(judge: &mut Judge, entries: u32, bound: u32) {
+    let [rising, falling, zigzag] = orders(&border_ids());
+    let before: Vec<u32> = (0..entries).flat_map(|n| inst(1, &[1, 100_000 + n])).collect();
+    let after = [as_types(&rising, 64), as_types(&falling, 32), as_values(&zigzag)].concat();
+    judge.module("types after many", &bounded(bound, &[before, after].concat(), 0));
 }
 
 fn named(judge: &mut Judge, input: &Input) {
