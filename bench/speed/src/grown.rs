@@ -149,6 +149,21 @@ pub fn module(grammar: &Grammar, results: Results, least: usize) -> Vec<u8> {
     bytes_of(&all.words)
 }
 
+/// An ill-meant module of so many bytes at most: an integer type and undefined values with falling ids, the greatest first. Each is of that
+/// type, or of the value before it.
+pub fn undefined(chained: bool, most: usize) -> Vec<u8> {
+    let mut words = H.to_vec();
+    words[3] = u32::MAX;
+    words.extend([inst(17, &[1]), inst(14, &[0, 1]), inst(21, &[1, 32, 0])].concat());
+    let (mut of, mut id) = (1, u32::MAX);
+    while 4 * words.len() + 12 <= most {
+        id -= 1;
+        words.extend(inst(1, &[of, id]));
+        of = if chained { id } else { 1 };
+    }
+    bytes_of(&words)
+}
+
 /// A longer shader from one of the project's own: its declarations once, its functions this many times under new names, and a main
 /// that calls what was main, one after the other.
 pub fn shader(source: &str, copies: usize) -> String {

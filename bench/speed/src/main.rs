@@ -372,9 +372,15 @@ fn main() {
         ["module", results, megabytes, out] => {
             let grammar = reading::Grammar::read(&library::builtin()).expect("the built-in grammar is well-formed");
             let megabytes: usize = megabytes.parse().expect("how many MB");
-            let results = grown::Results::named(results).expect("rising, low, falling or vectors");
             // 64 MB are the longest that are loaded: 67,108,864 bytes
-            let bytes = grown::module(&grammar, results, megabytes * 1_048_576 - 1024);
+            let length = megabytes * 1_048_576 - 1024;
+            let bytes = match results {
+                "undefined" | "chained" => grown::undefined(results == "chained", length),
+                _ => {
+                    let results = grown::Results::named(results).expect("rising, low, falling, vectors, undefined or chained");
+                    grown::module(&grammar, results, length)
+                }
+            };
             fs::write(out, bytes).expect("the module is written");
         }
         ["time", function, file] => {
@@ -382,7 +388,7 @@ fn main() {
             println!("{time} {turns}");
         }
         ["once", function, file] => {
-            ready(function, read(file))();
+            println!("{:.3} s", ready(function, read(file))().of_thread as f64 / 1e9);
         }
         ["corpus", ..] => corpus(&args[1..]),
         ["measure", ..] => measure(&args[1..]),
