@@ -1,5 +1,5 @@
-// Whether a module is standing: tags 1 to 11 come first and never fall, no parameter follows a label in its function, and tag 4
-// occurs at most once.
+// Whether a module is standing: tags 1 to 11 come first and never fall, no parameter follows a label in its function, tag 4 occurs
+// exactly once, and no function without a body comes after one with a body.
 ghost use mathlib.Core.Path.{_≡_};
 ghost use Rattle.spec.specs.Write.{standing as standingOf};
 ghost use Rattle.records.specs.Steps.{given};
@@ -10,11 +10,12 @@ use spec::refusals;
 use spec::tags;
 
 // Where a pass over the tags is: the tag before, 12 after the first instruction of a function; whether a label came in the
-// function; whether a MemoryModel came.
+// function; whether a MemoryModel came; whether a function with a body came.
 struct Order {
     before: u32,
     label: bool,
     model: bool,
+    body: bool,
 }
 
 // Whether a tag may come there.
@@ -24,6 +25,7 @@ fn may_come(o: Order, tag: u32) -> bool
     ((tags::FUNCTION <= tag) | (o.before <= tag))
         & !((tag == tags::PARAMETER) & o.label)
         & !((tag == tags::MEMORY_MODEL) & o.model)
+        & !((tag == tags::FUNCTION_END) & (!o.label & o.body))
 }
 
 // Where the pass is after a tag.
@@ -32,17 +34,20 @@ fn order_after(o: Order, tag: u32) -> Order
 {
     let label = !(tag == tags::FUNCTION) & (o.label | (tag == tags::LABEL));
     let model = o.model | (tag == tags::MEMORY_MODEL);
+    let body = o.body | ((tag == tags::FUNCTION_END) & o.label);
     if tag <= tags::LAST_SECTION {
         return Order {
             before: tag,
             label,
             model,
+            body,
         };
     }
     Order {
         before: tags::FUNCTION,
         label,
         model,
+        body,
     }
 }
 
@@ -77,6 +82,7 @@ pub fn standing(
         before: 0,
         label: false,
         model: false,
+        body: false,
     };
     let mut i = 0;
     while i < instruction_count {
@@ -94,6 +100,6 @@ pub fn standing(
     Stands {
         number: refusals::ACCEPTED,
         index: 0,
-        yes: true,
+        yes: o.model,
     }
 }

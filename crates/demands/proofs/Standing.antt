@@ -17,7 +17,7 @@ use Rattle.spec.specs.Words.{bytesOf}
 use Rattle.spec.specs.Layout.{layoutOf}
 use Rattle.spec.specs.Records.{Placed, recordSize}
 use Rattle.spec.specs.Check.{Given, Left, placedOf, tagsFault, recordsIn, good, check}
-use Rattle.spec.specs.Write.{hasTag, sectionOf, sections, parametersIn, functions, moduleOrder, neverFalls, parametersFirst, isStanding, bytesOfAll, parseBytes, moduleHeader, moduleBytes}
+use Rattle.spec.specs.Write.{hasTag, sectionOf, sections, parametersIn, functions, moduleOrder, neverFalls, parametersFirst, bodies, declarationsFirst, isStanding, bytesOfAll, parseBytes, moduleHeader, moduleBytes}
 use Rattle.spec.proofs.Choice.{left, right, both, other, fails, cases, either, in-range}
 use Rattle.spec.proofs.Faultless.{no-faults, good-told, Scans, ends, says, scans, tag-told}
 use Rattle.demands.proofs.Lists.{joined-same}
@@ -307,8 +307,11 @@ pub standing-order : (whole : Bool) (x : Given) (is : List Placed) → check rec
     → moduleOrder is ≡ is
 unfolding isStanding moduleOrder
 standing-order whole x is c e =
-    let tags = left (neverFalls 0 is && parametersFirst false is) (leb (length (only (hasTag 4) is)) 1) e in
-    let once = leb-true (length (only (hasTag 4) is)) 1 (right (neverFalls 0 is && parametersFirst false is) _ e) in
+    let ordered : Bool = neverFalls 0 is && parametersFirst false is in
+    let single : Bool = eqb (length (only (hasTag 4) is)) 1 in
+    let part = left (ordered && single) (declarationsFirst false (bodies false is)) e in
+    let tags = left ordered single part in
+    let once : length (only (hasTag 4) is) ≤ 1 = omega (arith, eqb-true (length (only (hasTag 4) is)) 1 (right ordered single part)) in
     rw (sections-picked is once)
     (order-stays is 0 false (check-walks whole x is c) (left (neverFalls 0 is) (parametersFirst false is) tags)
     (right (neverFalls 0 is) (parametersFirst false is) tags))

@@ -116,9 +116,26 @@ parametersFirst label [] = true
 parametersFirst label (p ∷ ps) =
     not (hasTag 13 p && label) && parametersFirst (not (hasTag 12 p) && (label || hasTag 14 p)) ps
 
--- "and tag 4 occurs at most once"
+-- which functions have a body, one after the other: whether a label came between its definition and its end
+unfoldable pub bodies : Bool → List Placed → List Bool
+bodies label [] = []
+bodies label (p ∷ ps) =
+    let more = bodies (not (hasTag 12 p) && (label || hasTag 14 p)) ps in
+    if hasTag 16 p then label ∷ more else more
+
+-- the standard's 2.4, items 10 and 11: "All function declarations ("declarations" are functions without a body [..])", then "All
+-- function definitions (functions with a body)": whether one with a body came already
+unfoldable pub declarationsFirst : Bool → List Bool → Bool
+declarationsFirst body [] = true
+declarationsFirst body (b ∷ bs) = (b || not body) && declarationsFirst (body || b) bs
+
+-- with 2.4, item 4, "The single required OpMemoryModel instruction": tag 4 occurs exactly once
 unfoldable pub isStanding : List Placed → Bool
-isStanding is = neverFalls 0 is && parametersFirst false is && leb (length (only (hasTag 4) is)) 1
+isStanding is =
+    neverFalls 0 is
+    && parametersFirst false is
+    && eqb (length (only (hasTag 4) is)) 1
+    && declarationsFirst false (bodies false is)
 
 -- "A yes or no over records, or 30"
 abbrev pub standsBy : Checked → Stands
