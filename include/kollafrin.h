@@ -150,7 +150,8 @@ uint32_t kollafrin_write_module_order(const uint32_t header[5], const uint32_t *
                                       size_t out_length, uint32_t answer[4]);
 
 /* Whether the records of a module are standing: sections 1 to 11 first and in their order, no parameter after a label of its function,
- * and at most one OpMemoryModel. Both orders then write the same after the header. Returns 0, or 30 as module order does.
+ * exactly one OpMemoryModel, and no function without a label after one with a label. Both orders then write the same after the header.
+ * Returns 0, or 30 as module order does.
  *
  * `answer`: number; index of the first bad record from 1, or count + 1, after 30, else 0; 1 for yes and 0 for no (0 after 30); 0. */
 uint32_t kollafrin_standing(const uint32_t *instructions, size_t instructions_length, const uint8_t *log, size_t log_length,

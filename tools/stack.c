@@ -246,7 +246,7 @@ static void hold_null(const uint8_t *module, size_t length) {
                && kollafrin_write_module_order(header, NULL, 0, NULL, 0, NULL, 0, 1, 1, 1, NULL, 0, answer) == KOLLAFRIN_BAD_RECORDS
                && kollafrin_write_module_order(header, NULL, 0, NULL, 0, NULL, 0, 0, 0, 0, out, 20, answer) == 0 && answer[2] == 20,
            "null: kollafrin_write_module_order");
-    expect(kollafrin_standing(NULL, 0, NULL, 0, NULL, 0, 0, 0, 0, answer) == 0 && answer[2] == 1
+    expect(kollafrin_standing(NULL, 0, NULL, 0, NULL, 0, 0, 0, 0, answer) == 0 && answer[2] == 0
                && kollafrin_standing(NULL, 0, NULL, 0, NULL, 0, 1, 1, 1, answer) == KOLLAFRIN_BAD_RECORDS,
            "null: kollafrin_standing");
 }

@@ -969,12 +969,18 @@ fn e_bases(p: &Cases) -> Vec<(&'static str, Stores)> {
             insts(&[
                 inst(17, &[1]),
                 inst(17, &[2]),
+                model.clone(),
                 name(1, b"x"),
                 long.clone(),
                 inst(317, &[]),
                 function(4, insts(&[parameter.clone(), parameter.clone(), block(5)])),
             ]),
         ),
+        ("declarations-only", insts(&[model.clone(), function(4, vec![]), function(5, parameter.clone())])),
+        ("declaration-first", insts(&[model.clone(), function(4, parameter.clone()), function(5, block(6)), function(7, block(8))])),
+        ("declaration-last", insts(&[model.clone(), function(4, block(5)), function(6, vec![])])),
+        ("declaration-with-parameter-last", insts(&[model.clone(), function(4, block(5)), function(6, parameter.clone())])),
+        ("declaration-between", insts(&[model.clone(), function(4, block(5)), function(6, vec![]), function(7, block(8))])),
         ("tags-fall", insts(&[long.clone(), inst(17, &[1]), model.clone(), inst(17, &[2])])),
         ("two-models", insts(&[inst(14, &[0, 1]), inst(14, &[1, 2])])),
         (

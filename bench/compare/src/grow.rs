@@ -283,8 +283,8 @@ impl<'a> Grower<'a> {
         vec![MAGIC, self.rng.next() as u32, self.rng.next() as u32, self.rng.next() as u32 >> 20, self.rng.next() as u32]
     }
 
-    /// A module of about this many instructions. Orderly ones stand; the others have tags 1 to 11
-    /// anywhere. Most are accepted.
+    /// A module of about this many instructions. Orderly ones have sections and parameters first,
+    /// the others tags 1 to 11 anywhere. Most are accepted.
     pub fn module(&mut self, steps: usize, orderly: bool) -> Vec<u8> {
         self.start();
         let mut words = self.header();

@@ -432,6 +432,7 @@ pub fn round(judge: &mut Judge, builtin: &Grammar, shaders: &[Vec<u8>], seed: u6
         let rooms = random_rooms(&mut grower.rng, &load_with(m, builtin, enough(m)));
         judge.load("random rooms", m, None, rooms);
     }
+    random_functions(judge, &mut grower.rng);
     random_strings(judge, &mut grower.rng);
     random_grammars(judge, &mut grower.rng);
     for m in grown.iter().take(30) {
@@ -462,6 +463,31 @@ fn splice(rng: &mut Rng, one: &[u8], other: &[u8]) -> Vec<u8> {
     };
     let tail: &[u8] = if end < other.len() || rng.chance(20) { &one[at..] } else { &[] };
     [&one[..at], &other[from.min(end)..end], tail].concat()
+}
+
+/// Small modules, for standing: mostly one MemoryModel, and functions without a body ahead of those with one; some have a capability
+/// or a parameter that comes late.
+fn random_functions(judge: &mut Judge, rng: &mut Rng) {
+    for _ in 0..30 {
+        let mut words = inst(17, &[1]);
+        let models = if rng.chance(70) { 1 } else { rng.below(3) };
+        (0..models).for_each(|_| words.extend(inst(14, &[0, 1])));
+        let functions = rng.below(6);
+        let declarations = rng.below(functions + 1);
+        for n in 0..functions {
+            words.extend(inst(54, &[1, 2, 0, 3]));
+            (0..rng.below(3)).for_each(|_| words.extend(inst(55, &[1, 4])));
+            if (n >= declarations) != rng.chance(10) {
+                words.extend([inst(248, &[5]), inst(253, &[])].concat().repeat(1 + rng.below(2)));
+                (0..rng.below(20) / 19).for_each(|_| words.extend(inst(55, &[1, 4])));
+            }
+            words.extend(inst(56, &[]));
+        }
+        if rng.chance(10) {
+            words.extend(inst(17, &[1]));
+        }
+        judge.module("random functions", &module(&words));
+    }
 }
 
 /// Strings of bytes at the edges of Unicode's table.

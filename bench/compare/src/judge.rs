@@ -26,6 +26,8 @@ pub struct Tally {
     pub groups: BTreeMap<&'static str, Group>,
     pub plain: u64,
     pub standing: u64,
+    /// records that break this rule of standing alone
+    pub but_for: [u64; 4],
 }
 
 impl Default for Tally {
@@ -42,6 +44,7 @@ impl Default for Tally {
             groups: BTreeMap::new(),
             plain: 0,
             standing: 0,
+            but_for: [0; 4],
         }
     }
 }
@@ -66,6 +69,7 @@ impl Tally {
         }
         self.plain += other.plain;
         self.standing += other.standing;
+        self.but_for.iter_mut().zip(other.but_for).for_each(|(a, b)| *a += b);
     }
 }
 
@@ -357,11 +361,17 @@ impl Judge<'_> {
         same_written("module order", &module, &reading::write_module_order(header, stores, output))?;
         let standing = library::standing(stores);
         let wanted = match reading::standing(stores) {
-            Ok(stands) => [0, 0, u32::from(stands), 0],
+            Ok(kept) => {
+                let broken: Vec<usize> = (0..kept.len()).filter(|rule| !kept[*rule]).collect();
+                self.tally.standing += u64::from(broken.is_empty());
+                if let [rule] = broken[..] {
+                    self.tally.but_for[rule] += 1;
+                }
+                [0, 0, u32::from(broken.is_empty()), 0]
+            }
             Err(index) => [30, index as u32, 0, 0],
         };
         differ("standing", (standing.returned, standing.answer), (wanted[0], wanted))?;
-        self.tally.standing += u64::from(wanted[2]);
         Ok(parse)
     }
 

@@ -886,20 +886,25 @@ pub fn write_module_order(header: [u32; 5], stores: &Stores, output: usize) -> W
     written(bytes, output)
 }
 
-/// "tags 1 to 11 come first and never fall, no parameter follows a label in its function, and tag
-/// 4 occurs at most once"; or the index of 30, as module order gives it.
-pub fn standing(stores: &Stores) -> Result<bool, usize> {
+/// The rules of standing, in this order.
+pub const STANDING: [&str; 4] = ["sections first and in order", "parameters first", "one MemoryModel", "declarations first"];
+
+/// Whether each rule is kept: tags 1 to 11 come first and never fall; no parameter follows a label
+/// in its function; tag 4 occurs exactly once; no function without a label comes after one with a
+/// label. Or the index of 30, as module order gives it.
+pub fn standing(stores: &Stores) -> Result<[bool; 4], usize> {
     let tags: Vec<u32> = check_records(stores, true)?.iter().map(|p| p.tag).collect();
     let split = tags.iter().position(|t| *t >= 12).unwrap_or(tags.len());
     let (first, rest) = tags.split_at(split);
     let never_fall = first.windows(2).all(|w| w[0] <= w[1]);
     let come_first = rest.iter().all(|t| *t >= 12);
-    let parameters_lead = rest.split_inclusive(|t| *t == 16).all(|function| {
-        let label = function.iter().position(|t| *t == 14).unwrap_or(function.len());
-        function[label..].iter().all(|t| *t != 13)
-    });
+    let functions: Vec<&[u32]> = rest.split_inclusive(|t| *t == 16).collect();
+    let label = |function: &[u32]| function.iter().position(|t| *t == 14);
+    let parameters_lead = functions.iter().all(|f| f[label(f).unwrap_or(f.len())..].iter().all(|t| *t != 13));
     let memory_models = tags.iter().filter(|t| **t == 4).count();
-    Ok(never_fall && come_first && parameters_lead && memory_models <= 1)
+    let definition = functions.iter().position(|f| label(f).is_some()).unwrap_or(functions.len());
+    let declarations_lead = functions[definition..].iter().all(|f| label(f).is_some());
+    Ok([never_fall && come_first, parameters_lead, memory_models == 1, declarations_lead])
 }
 
 // -------------------------------------------------------------------------------- The listing

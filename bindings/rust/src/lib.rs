@@ -152,8 +152,9 @@ impl Module {
         }
     }
 
-    /// Whether the module stands: its sections come first and in order, no parameter follows a label in its function, and at
-    /// most one memory model is given. On a module that stands both orders of writing agree after the header.
+    /// Whether the module stands: its sections come first and in order, no parameter follows a label in its function, exactly one
+    /// memory model is given, and no function without a label follows one with a label. On a module that stands both orders of
+    /// writing agree after the header.
     pub fn standing(&self) -> Result<bool, Error> {
         let mut answer = [0; 4];
         match door::standing(self, &mut answer)? {

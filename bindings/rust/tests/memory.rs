@@ -70,7 +70,7 @@ fn output_of_a_write() {
     assert_eq!(with_at_most(8_019, || loaded.write_module_order()).0, Err(Error::NoMemory));
     assert_eq!(with_at_most(8_020, || loaded.write_parse_order()), (Ok(bytes), 8_020));
     assert_eq!(with_at_most(8_020, || loaded.write_module_order().map(|bytes| bytes.len())), (Ok(8_020), 8_020));
-    assert_eq!(with_at_most(0, || loaded.standing()), (Ok(true), 0));
+    assert_eq!(with_at_most(0, || loaded.standing()), (Ok(false), 0));
 }
 
 #[test]

@@ -91,6 +91,19 @@ fn writing_gives_the_bytes_back() {
 }
 
 #[test]
+fn what_stands() {
+    let stands = |words: &[&[u32]]| Module::load_builtin(&module(&words.concat())).unwrap().standing();
+    let model = &[0x0003_000E, 0, 1][..];
+    let declaration = &[0x0005_0036, 1, 2, 0, 3, 0x0003_0037, 1, 4, 0x0001_0038][..];
+    let definition = &[0x0005_0036, 1, 2, 0, 3, 0x0002_00F8, 5, 0x0001_00FD, 0x0001_0038][..];
+    assert_eq!(stands(&[model, declaration, definition]), Ok(true));
+    assert_eq!(stands(&[model, definition, declaration]), Ok(false));
+    assert_eq!(stands(&[declaration, definition]), Ok(false));
+    assert_eq!(stands(&[model, model, declaration, definition]), Ok(false));
+    assert_eq!(stands(&[]), Ok(false));
+}
+
+#[test]
 fn records_from_elsewhere_are_checked() {
     let loaded = Module::load_builtin(&module(&[0x0003_000E, 0, 1])).unwrap();
     let mut words = loaded.instruction_words().to_vec();
