@@ -89,10 +89,11 @@ stands-more : (o : Order) (p : Placed) (ps : List Placed)
 unfolding standsAfter mayCome orderAfter neverFalls parametersFirst bodies
 stands-more o p ps =
     let tags : Bool = neverFalls (o .before) (p ∷ ps) && parametersFirst (o .label) (p ∷ ps) in
+    let models : Bool = not (hasTag 4 p && o .model) && eqb (length (only (hasTag 4) ps)) (if o .model || hasTag 4 p then 0 else 1) in
     let label : Bool = not (hasTag 12 p) && (o .label || hasTag 14 p) in
     ap (λ (b : Bool). tags && b && declarationsFirst (o .body) (bodies (o .label) (p ∷ ps)))
     (model-more (hasTag 4 p) (o .model) p (only (hasTag 4) ps))
-    ∙ ap (λ (b : Bool). tags && (not (hasTag 4 p && o .model) && eqb (length (only (hasTag 4) ps)) (if o .model || hasTag 4 p then 0 else 1)) && b)
+    ∙ ap (λ (b : Bool). tags && models && b)
     (body-more (hasTag 16 p) (o .label) (o .body) (bodies label ps))
     ∙ regroup (leb 12 (p .tag) || leb (o .before) (p .tag)) (not (hasTag 13 p && o .label)) (not (hasTag 4 p && o .model)) _ _ _ _ _
 
