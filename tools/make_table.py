@@ -105,7 +105,7 @@ OPCODES, SHARED = 512, 1024
 
 def fail(message):
     """Ends the program with exit status 2."""
-    print(f"make_table: {message}", file=sys.stderr)
+    print(f"{pathlib.Path(sys.argv[0]).stem}: {message}", file=sys.stderr)
     sys.exit(2)
 
 
@@ -161,16 +161,17 @@ def first_names(names):
     return {value: name for name, value in reversed(names.items())}
 
 
+def read(folder, name):
+    """The text of a file."""
+    return (folder / name).read_text(encoding="utf-8")
+
+
 def make_lines(src):
     """The grammar as lines: the items of each, perhaps none, and the words that stand beside them."""
-
-    def text(name):
-        return (src / name).read_text(encoding="utf-8")
-
-    kinds = read_kinds(text("binary/assemble.rs"))
-    values = read_values(text("spirv/autogen_spirv.rs"))
-    rows = read_rows(text("grammar/autogen_table.rs"), values["Op"])
-    parameters = read_parameters(text("binary/autogen_parse_operand.rs"), values)
+    kinds = read_kinds(read(src, "binary/assemble.rs"))
+    values = read_values(read(src, "spirv/autogen_spirv.rs"))
+    rows = read_rows(read(src, "grammar/autogen_table.rs"), values["Op"])
+    parameters = read_parameters(read(src, "binary/autogen_parse_operand.rs"), values)
 
     lines = []
     in_rows = kinds | {"LiteralInteger": kinds["LiteralInt32"]}  # one kind, with another name in rows
@@ -230,6 +231,17 @@ def make_index(lines):
     return (INDEX % (len(made), shown, len(made))).encode("utf-8")
 
 
+def deliver(made, check, source, counted):
+    """Writes what is made, or says whether a file is the same."""
+    if check is None:
+        sys.stdout.buffer.write(made)
+    elif check.read_bytes() == made:
+        print(f"{check}: the same; {counted}")
+    else:
+        print(f"{check}: not what is made from {source}")
+        sys.exit(1)
+
+
 def main():
     usage = argparse.ArgumentParser(description=__doc__, formatter_class=argparse.RawDescriptionHelpFormatter)
     usage.add_argument("src", metavar="SRC", type=pathlib.Path)
@@ -250,14 +262,8 @@ def main():
             made = make_index(lines)
         else:
             made = make_text(lines)
-        if asked.check is None:
-            sys.stdout.buffer.write(made)
-        elif asked.check.read_bytes() == made:
-            counts = ", ".join(f"{count} {name}s" for name, count in COUNTS.items())
-            print(f"{asked.check}: the same; {LENGTH} bytes, {counts}")
-        else:
-            print(f"{asked.check}: not what is made from {asked.src}")
-            sys.exit(1)
+        counts = ", ".join(f"{count} {name}s" for name, count in COUNTS.items())
+        deliver(made, asked.check, asked.src, f"{LENGTH} bytes, {counts}")
     except OSError as problem:
         fail(problem)
     except KeyError as name:

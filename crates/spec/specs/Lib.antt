@@ -16,4 +16,6 @@ pub mod Plain
 pub mod Check
 pub mod Write
 pub mod Listing
+pub mod NameTable
+pub mod Names
 pub mod Fittings
