@@ -3,6 +3,8 @@
 
     tools/make_names.py SRC OTHER                  write NameTable.antt to standard output
     tools/make_names.py SRC OTHER --bytes          write the run of bytes instead
+    tools/make_names.py SRC OTHER --code           write the function that holds it, run.rt, instead
+    tools/make_names.py SRC OTHER --index          write the function that holds its index, index.rt, instead
     tools/make_names.py SRC OTHER --check FILE     compare FILE with what would be written
 
 SRC is the folder with the crate's sources, as for tools/make_table.py. Three files of it are read:
@@ -34,6 +36,10 @@ from make_table import deliver, expect, fail, first_names, read, read_kinds, rea
 # The set of the opcodes, and those of extended instructions with the enums that have them. Other sets are operand kinds.
 OPCODES = 0
 EXTENDED = {"GLSL.std.450": (46, "GLOp"), "OpenCL.std": (47, "CLOp")}
+SETS = 48
+
+# How many slots the index has, after a number for each set: as few as `make_shifts` can do with.
+SLOTS = 3021
 
 # What has to come out.
 COUNT = 1466
@@ -63,6 +69,37 @@ name s n t = record { set = s; number = n; text = ascii t }
 -- the names, rising by set and number
 unfoldable pub nameTable : List Name
 nameTable =
+"""
+
+CODE = """\
+// The names as bytes, a line for each. Made by tools/make_names.py from the files of the crate rspirv 0.11.0+1.5.4. Not to be changed by
+// hand.
+ghost use mathlib.Core.Path.{_≡_};
+ghost use Rattle.names.specs.Run.{nameRun};
+
+// The names as one run of bytes: of each its set, its number, the length of its text, and its text.
+pub fn table() -> [u8; %d]
+    ensures { λ r. ⌜ r ≡ nameRun ⌝ }
+{
+    *b"\\
+%s"
+}
+"""
+
+INDEX = """\
+// The index of the names, prepared. Made by tools/make_names.py from the files of the crate rspirv 0.11.0+1.5.4. Not to be changed by hand.
+ghost use Rattle.names.specs.Run.{nameRun, Indexed};
+
+const INDEX: [u16; %d] = [
+%s
+];
+
+// The index of the names: a shift for each set, then slots with places.
+pub fn prepared() -> [u16; %d]
+    ensures { λ r. ⌜ Indexed nameRun r ⌝ }
+{
+    INDEX
+}
 """
 
 
@@ -125,11 +162,45 @@ def make_bytes(items):
     return made
 
 
+def make_code(items):
+    """The file run.rt."""
+    shown = ["".join(f"\\x{byte:02x}" for byte in key) + text for key, text in items]
+    return (CODE % (sum(len(key + text.encode("ascii")) for key, text in items), "\\\n".join(shown))).encode("utf-8")
+
+
+def make_shifts(sets):
+    """For each set how far its numbers are shifted, so that no two names have one slot: large sets first, each as little as will do."""
+    shifts, used = [0] * SETS, set()
+    for number, _, texts in sorted(sets, key=lambda one: -len(one[2])):
+        def slots(shift):
+            return {(shift + value) % SLOTS for value in texts}
+
+        shifts[number] = next(s for s in range(SLOTS) if len(slots(s)) == len(texts) and not slots(s) & used)
+        used |= slots(shifts[number])
+    return shifts
+
+
+def make_index(sets, items):
+    """The file index.rt: a shift for each set, then for each slot the place of its name, or 0."""
+    shifts = make_shifts(sets)
+    slots, at = [0] * SLOTS, 0
+    for key, text in items:
+        number, value, _ = struct.unpack("<BIB", key)
+        slots[(shifts[number] + value) % SLOTS] = at
+        at += len(key) + len(text)
+    made = shifts + slots
+    shown = "\n".join(f"    {number}," for number in made)
+    return (INDEX % (len(made), shown, len(made))).encode("utf-8")
+
+
 def main():
     usage = argparse.ArgumentParser(description=__doc__, formatter_class=argparse.RawDescriptionHelpFormatter)
     usage.add_argument("src", metavar="SRC", type=pathlib.Path)
     usage.add_argument("other", metavar="OTHER", type=pathlib.Path)
-    usage.add_argument("--bytes", action="store_true")
+    form = usage.add_mutually_exclusive_group()
+    form.add_argument("--bytes", action="store_true")
+    form.add_argument("--code", action="store_true")
+    form.add_argument("--index", action="store_true")
     usage.add_argument("--check", metavar="FILE", type=pathlib.Path)
     asked = usage.parse_args()
     try:
@@ -138,6 +209,10 @@ def main():
         raw = make_bytes(items)
         if asked.bytes:
             made = raw
+        elif asked.code:
+            made = make_code(items)
+        elif asked.index:
+            made = make_index(sets, items)
         else:
             made = make_text(sets)
         deliver(made, asked.check, f"{asked.src} and {asked.other}", f"{COUNT} names, {LENGTH} bytes")
