@@ -24,6 +24,7 @@ use Rattle.spec.specs.Types
 use Rattle.spec.specs.Match
 use Rattle.spec.specs.Load
 use Rattle.spec.specs.Load.{counts, enough, Outcome, nothing, loadWith, load, Stores, lent, storesOf}
+use Rattle.spec.specs.Digits
 use Rattle.spec.specs.Listing
 use Rattle.spec.specs.Listing.{outcomeText, listing}
 use Rattle.spec.specs.Plain
@@ -154,7 +155,7 @@ unfoldable pub sixListed : List ℕ
 sixListed = ascii "module 1.0 bound 0\n1 20 4 14 3\naccepted 1\n"
 
 six-computed : outcomeText (loadWith (grammarBy table) (enough 1019) six) ≡ sixListed
-unfolding sixListed outcomeText Listing.digitsFrom Listing.decimal Listing.numbersLine Listing.versionLine Listing.moduleLine Listing.recordLines Listing.acceptedLine Listing.lastLine table bytesOf Words.frontOf Words.wordsOf Words.bitsFrom Words.bitsOf Reader.wordAt Header.headerFrom grammarBy Grammar.slotsOf Grammar.parametersOf Grammar.rowsOf Grammar.enumerantsOf Grammar.rowOf Grammar.listed Grammar.bitsListed Grammar.parametersFor Records.operandLog Records.operandString Records.operandsLog Records.operandsStrings Layout.kindFrom Layout.opcodeKind Layout.layoutAt Layout.layoutOf Types.entryOf Types.define Types.track Match.readEnumerant Match.readOne Match.readEach Match.readOperand Match.readKind Match.readSlot Match.readRow Match.allRead Match.readInstr enough Load.roomFault Load.loadFrom loadWith
+unfolding sixListed outcomeText Digits.digitsFrom Digits.decimal Listing.numbersLine Listing.versionLine Listing.moduleLine Listing.recordLines Listing.acceptedLine Listing.lastLine table bytesOf Words.frontOf Words.wordsOf Words.bitsFrom Words.bitsOf Reader.wordAt Header.headerFrom grammarBy Grammar.slotsOf Grammar.parametersOf Grammar.rowsOf Grammar.enumerantsOf Grammar.rowOf Grammar.listed Grammar.bitsListed Grammar.parametersFor Records.operandLog Records.operandString Records.operandsLog Records.operandsStrings Layout.kindFrom Layout.opcodeKind Layout.layoutAt Layout.layoutOf Types.entryOf Types.define Types.track Match.readEnumerant Match.readOne Match.readEach Match.readOperand Match.readKind Match.readSlot Match.readRow Match.allRead Match.readInstr enough Load.roomFault Load.loadFrom loadWith
 six-computed = refl
 
 -- the listing of fitting 6

@@ -15,7 +15,9 @@ pub mod Load
 pub mod Plain
 pub mod Check
 pub mod Write
+pub mod Digits
 pub mod Listing
 pub mod NameTable
 pub mod Names
+pub mod Disassembly
 pub mod Fittings

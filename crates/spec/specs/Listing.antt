@@ -1,23 +1,15 @@
 -- The listing program's text: "index, offset, tag, opcode, words" of each record, then how the load ended.
-use Prim.Native.Nat.{ℕ, zero, suc, _+_, _/_, _%_}
+use Prim.Native.Nat.{ℕ, suc}
 use mathlib.Core.List.{List, [], _∷_, _++_}
 use lib.Dec.{ltb, eqb}
 use lib.ListN.{length, getD}
 use Rattle.spec.specs.declared.Loaded.{Loaded}
 use Rattle.spec.specs.Base.{if_then_else_, every, ascii}
 use Rattle.spec.specs.Words.{major, minor}
+use Rattle.spec.specs.Digits.{decimal}
 use Rattle.spec.specs.Records.{Placed}
 use Rattle.spec.specs.Load.{Outcome, enough, load}
 use Rattle.spec.specs.Builtin.{builtin}
-
--- a number's decimal digits, of which there are at most n
-unfoldable pub digitsFrom : ℕ → ℕ → List ℕ
-digitsFrom zero v = []
-digitsFrom (suc n) v = let more = digitsFrom n (v / 10) in if ltb v 10 then (48 + v) ∷ [] else more ++ ((48 + v % 10) ∷ [])
-
--- a number in decimal
-unfoldable pub decimal : ℕ → List ℕ
-decimal v = digitsFrom 20 v
 
 -- numbers in decimal, a blank between them, and the end of the line
 unfoldable pub numbersLine : List ℕ → List ℕ

@@ -76,11 +76,15 @@ pub record Writing : Type 0 where
 abbrev pub unwritten : ℕ → ℕ → List ℕ → Writing
 unwritten n i out = record { said = record { number = n; index = i; bytes = 0 }; output = out }
 
--- "Then 29, exactly when the bytes needed exceed the output. Output past the bytes written stays."
-abbrev pub put : List ℕ → List ℕ → Writing
-put out bs =
-    if ltb (length out) (length bs) then unwritten 29 0 out
+-- bytes put into an output, or a refusal exactly when they exceed it. "Output past the bytes written stays."
+abbrev pub putOr : ℕ → List ℕ → List ℕ → Writing
+putOr n out bs =
+    if ltb (length out) (length bs) then unwritten n 0 out
     else record { said = record { number = 0; index = 0; bytes = length bs }; output = laidOver out bs }
+
+-- "Then 29, exactly when the bytes needed exceed the output."
+abbrev pub put : List ℕ → List ℕ → Writing
+put out bs = putOr 29 out bs
 
 -- first 30 for records that break the store layout
 abbrev pub writeBy : Checked → (List Placed → List ℕ) → List ℕ → Writing

@@ -5,6 +5,9 @@ pub const ID_REF: u8 = 33;
 // LiteralInt32, and a grammar's LiteralInteger.
 pub const INT32: u8 = 34;
 
+// LiteralExtInstInteger, the number of an extended instruction.
+pub const EXT_INST: u8 = 35;
+
 pub const INT64: u8 = 36;
 
 pub const FLOAT32: u8 = 37;

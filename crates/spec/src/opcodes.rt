@@ -1,5 +1,7 @@
 // The opcodes that code outside the layout table names: those of types that are tracked, and those whose rows have rules of their own.
 
+pub const EXT_INST: u16 = 12;
+
 pub const TYPE_INT: u16 = 21;
 
 pub const TYPE_FLOAT: u16 = 22;

@@ -49,3 +49,5 @@ pub const OUTPUT_SHORT: u32 = 29;
 pub const BAD_RECORDS: u32 = 30;
 
 pub const MODULE_TOO_LONG: u32 = 31;
+
+pub const TEXT_LONG: u32 = 32;
