@@ -23,7 +23,8 @@ use Rattle.demands.proofs.Returns.{kept-is, sure, module-read}
 use Rattle.demands.proofs.Room.{load-covered}
 use Rattle.demands.proofs.Leaves.{load-leaves}
 use Rattle.listed.proofs.Sentences.{few-both, module-few, record-lines-few, last-few}
-use Rattle.listed.specs.Lines.{Wrote, recordLine, linesOf}
+use Rattle.texts.specs.Wrote.{Wrote}
+use Rattle.listed.specs.Lines.{recordLine, linesOf}
 use Rattle.loader.specs.Loading.{loading, Loads}
 
 -- OPCODES

@@ -16,8 +16,9 @@ use Rattle.spec.specs.Base.{if_then_else_, every}
 use Rattle.spec.specs.Words.{major, minor}
 use Rattle.spec.specs.Records.{Placed, recordSize, fieldsAt}
 use Rattle.spec.specs.Listing.{numbersLine, versionLine, moduleLine, recordLines, acceptedLine, refusedLine, lastLine}
-use Rattle.listed.specs.Lines.{Wrote, recordLine, linesOf}
-use Rattle.listed.proofs.Writing.{Reach, reach, wrote-none, wrote-then, decimal-few}
+use Rattle.texts.specs.Wrote.{Wrote}
+use Rattle.listed.specs.Lines.{recordLine, linesOf}
+use Rattle.texts.proofs.Laws.{Reach, reach, wrote-none, wrote-then, decimal-few}
 
 -- THE MODULE LINE
 

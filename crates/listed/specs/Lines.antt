@@ -1,17 +1,11 @@
 -- The listing's text in a buffer, piece by piece, and the lines of records by their words.
-use Prim.Native.Nat.{ℕ, zero, suc, _+_, _%_}
-use mathlib.Core.Path.{_≡_}
+use Prim.Native.Nat.{ℕ, zero, suc, _%_}
 use mathlib.Core.List.{List, [], _∷_, _++_}
-use lib.ListN.{length, drop}
-use lib.Seq.{sets}
+use lib.ListN.{drop}
 use Rattle.spec.specs.declared.Fields.{Fields}
 use Rattle.spec.specs.Records.{recordSize, fieldsAt}
-use Rattle.spec.specs.Listing.{decimal, numbersLine}
-
--- a buffer before and after a text is written into it from a place on, and the place where the text ends
-pub record Wrote (before after : List ℕ) (at end : ℕ) (text : List ℕ) : Type 0 where
-  pub is : after ≡ sets before at text
-  pub ends : end ≡ at + length text
+use Rattle.spec.specs.Digits.{decimal}
+use Rattle.spec.specs.Listing.{numbersLine}
 
 -- a number in decimal, and a byte
 unfoldable pub numberThen : ℕ → ℕ → List ℕ

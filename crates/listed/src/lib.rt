@@ -7,9 +7,10 @@ ghost use lib.Dec.{eqb};
 ghost use Rattle.spec.specs.Base.{every};
 ghost use Rattle.spec.specs.Records.{recordSize};
 ghost use Rattle.spec.specs.Load.{laidOver};
-ghost use Rattle.spec.specs.Listing.{digitsFrom, versionLine, moduleLine, acceptedLine, refusedLine, lastLine};
-ghost use Rattle.spec.specs.Listing.{decimal as decimalOf, listing as listingOf};
-ghost use Rattle.listed.specs.Lines.{Wrote, numberThen, recordLine, linesOf};
+ghost use Rattle.spec.specs.Listing.{versionLine, moduleLine, acceptedLine, refusedLine, lastLine};
+ghost use Rattle.spec.specs.Listing.{listing as listingOf};
+ghost use Rattle.texts.specs.Wrote.{Wrote};
+ghost use Rattle.listed.specs.Lines.{numberThen, recordLine, linesOf};
 use spec::Fields;
 use spec::Loaded;
 use spec::refusals;
@@ -22,15 +23,6 @@ const MOST: usize = 1019;
 
 // PIECES: each puts its text into the buffer from a place on, and answers where the text ends
 
-// A byte.
-fn put(out: &mut [u8], at: usize, b: u8) -> usize
-    requires { ⌜ at + 1 ≤ length (now out) ⌝ }
-    ensures { λ r. ⌜ Wrote (now (out .entry)) (now (out .exit)) at r (b ∷ []) ⌝ }
-{
-    out[at] = b;
-    at + 1
-}
-
 // A text.
 fn put_text(out: &mut [u8], at: usize, s: &[u8]) -> usize
     requires { ⌜ at + length (now s) ≤ length (now out) ⌝ }
@@ -40,36 +32,13 @@ fn put_text(out: &mut [u8], at: usize, s: &[u8]) -> usize
     at + s.len()
 }
 
-// A number's decimal digits, at most n of them.
-fn digits(out: &mut [u8], at: usize, n: usize, v: u64) -> usize
-    requires { ⌜ at + n ≤ length (now out) ⌝ }
-    ensures { λ r. ⌜ Wrote (now (out .entry)) (now (out .exit)) at r (digitsFrom n v) ⌝ }
-{
-    if n == 0 {
-        return at;
-    }
-    if v < 10 {
-        return put(out, at, 48 + (v as u8));
-    }
-    let end = digits(out, at, n - 1, v / 10);
-    put(out, end, 48 + ((v % 10) as u8))
-}
-
-// A number in decimal.
-pub fn decimal(out: &mut [u8], at: usize, v: u64) -> usize
-    requires { ⌜ at + 20 ≤ length (now out) ⌝ }
-    ensures { λ r. ⌜ Wrote (now (out .entry)) (now (out .exit)) at r (decimalOf v) ⌝ }
-{
-    digits(out, at, 20, v)
-}
-
 // A number in decimal, and a byte after it.
 fn number(out: &mut [u8], at: usize, v: u64, after: u8) -> usize
     requires { ⌜ at + 21 ≤ length (now out) ⌝ }
     ensures { λ r. ⌜ Wrote (now (out .entry)) (now (out .exit)) at r (numberThen v after) ⌝ }
 {
-    let end = decimal(out, at, v);
-    put(out, end, after)
+    let end = texts::decimal(out, at, v);
+    texts::put(out, end, after)
 }
 
 // THE MODULE LINE
@@ -88,7 +57,7 @@ fn version_line(out: &mut [u8], at: usize, version: u32, bound: u32) -> usize
 {
     let a = put_text(out, at, b"module ");
     let b = number(out, a, (version / 65536 % 256) as u64, b'.');
-    let c = decimal(out, b, (version / 256 % 256) as u64);
+    let c = texts::decimal(out, b, (version / 256 % 256) as u64);
     let d = put_text(out, c, b" bound ");
     number(out, d, bound as u64, b'\n')
 }

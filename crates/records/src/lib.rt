@@ -410,7 +410,7 @@ fn finds_nothing(
 }
 
 // The lower of two numbers.
-fn at_most(a: usize, b: usize) -> usize
+pub fn at_most(a: usize, b: usize) -> usize
     ensures { λ r. ⌜ r ≡ atMost a b ⌝ }
 {
     if a <= b {

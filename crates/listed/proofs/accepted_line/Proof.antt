@@ -2,7 +2,7 @@
 use borrow.Author.Needs.{needs}
 use native.Mathlib.Omega.{arith}
 use mathlib.Core.Path.{_∙_}
-use Rattle.listed.proofs.Writing.{bytes-reach, wrote-then}
+use Rattle.texts.proofs.Laws.{bytes-reach, wrote-then}
 use Rattle.listed.specs.Lines.{numberThen}
 use Rattle.spec.specs.Listing.{acceptedLine, numbersLine}
 use Rattle.listed.proofs.accepted_line.Statement.{statement}

@@ -1,7 +1,7 @@
 -- `listed::load_text` meets its contract.
 use native.Mathlib.Omega.{arith}
 use mathlib.Core.Path.{_∙_}
-use Rattle.listed.proofs.Writing.{wrote-then}
+use Rattle.texts.proofs.Laws.{wrote-then}
 use Rattle.listed.proofs.Sentences.{module-reach, lines-reach}
 use Rattle.listed.proofs.load_text.Statement.{statement}
 use Rattle.listed.proofs.load_text.Tie as tie

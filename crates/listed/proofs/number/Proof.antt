@@ -1,7 +1,7 @@
 -- `listed::number` meets its contract.
 use native.Mathlib.Omega.{arith}
 use mathlib.Core.Path.{_∙_}
-use Rattle.listed.proofs.Writing.{decimal-reach, wrote-then}
+use Rattle.texts.proofs.Laws.{decimal-reach, wrote-then}
 use Rattle.listed.specs.Lines.{numberThen}
 use Rattle.listed.proofs.number.Statement.{statement}
 use Rattle.listed.proofs.number.Tie as tie

@@ -2,7 +2,8 @@
 use borrow.Author.Needs.{needs}
 use native.Mathlib.Omega.{arith}
 use mathlib.Core.Path.{_∙_}
-use Rattle.listed.proofs.Writing.{number-reach, wrote-then}
+use Rattle.texts.proofs.Laws.{wrote-then}
+use Rattle.listed.proofs.Writing.{number-reach}
 use Rattle.spec.specs.Listing.{numbersLine}
 use Rattle.listed.specs.Lines.{recordLine, numberThen}
 use Rattle.listed.proofs.record_line.Statement.{statement}

@@ -2,7 +2,8 @@
 use borrow.Author.Needs.{needs}
 use native.Mathlib.Omega.{arith}
 use mathlib.Core.Path.{_∙_}
-use Rattle.listed.proofs.Writing.{bytes-reach, number-reach, wrote-then}
+use Rattle.texts.proofs.Laws.{bytes-reach, wrote-then}
+use Rattle.listed.proofs.Writing.{number-reach}
 use Rattle.listed.specs.Lines.{numberThen}
 use Rattle.spec.specs.Listing.{refusedLine, numbersLine}
 use Rattle.listed.proofs.refused_line.Statement.{statement}

@@ -4,7 +4,8 @@ use native.Mathlib.Omega.{arith}
 use mathlib.Core.Path.{_∙_}
 use Rattle.spec.specs.Listing.{versionLine, numbersLine}
 use Rattle.listed.specs.Lines.{numberThen}
-use Rattle.listed.proofs.Writing.{bytes-reach, decimal-reach, number-reach, wrote-then}
+use Rattle.texts.proofs.Laws.{bytes-reach, decimal-reach, wrote-then}
+use Rattle.listed.proofs.Writing.{number-reach}
 use Rattle.listed.proofs.version_line.Statement.{statement}
 use Rattle.listed.proofs.version_line.Tie as tie
 

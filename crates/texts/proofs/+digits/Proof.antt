@@ -1,17 +1,17 @@
--- `listed::digits` meets its contract: the digits before the last are those of a tenth of the number. The measure is how many digits
+-- `texts::digits` meets its contract: the digits before the last are those of a tenth of the number. The measure is how many digits
 -- there may be.
 use Prim.Native.Nat.{ℕ, _<_}
 use native.Mathlib.Omega.{arith}
 use mathlib.Core.Path.{_∙_}
 use borrow.Fn.Kinds.{In}
 use borrow.Fn.PlainCycle.{Measures, is, falls, and}
-use Rattle.listed.proofs.Writing.{reach, digits-few, digits-none, digits-one, digits-more}
-use Rattle.listed.proofs.digits.Reads as digits
-use Rattle.listed.proofs.digits.Kinds as digits-kinds
-use Rattle.listed.proofs.+digits.Lts-digits as digits-lts
-use Rattle.listed.proofs.put.Reads as put-reads
-use Rattle.listed.proofs.+digits.{statement}
-use Rattle.listed.proofs.+digits.Tie.{close}
+use Rattle.texts.proofs.Laws.{reach, digits-few, digits-none, digits-one, digits-more}
+use Rattle.texts.proofs.digits.Reads as digits
+use Rattle.texts.proofs.digits.Kinds as digits-kinds
+use Rattle.texts.proofs.+digits.Lts-digits as digits-lts
+use Rattle.texts.proofs.put.Reads as put-reads
+use Rattle.texts.proofs.+digits.{statement}
+use Rattle.texts.proofs.+digits.Tie.{close}
 
 abbrev μ-digits : Measures 1 digits-kinds.ps ℕ
 μ-digits κs a = a .1 .1 .0

@@ -1,8 +1,8 @@
--- `listed::decimal` meets its contract.
+-- `texts::decimal` meets its contract.
 use borrow.Author.Needs.{needs}
-use Rattle.spec.specs.Listing.{decimal}
-use Rattle.listed.proofs.decimal.Statement.{statement}
-use Rattle.listed.proofs.decimal.Tie as tie
+use Rattle.spec.specs.Digits.{decimal}
+use Rattle.texts.proofs.decimal.Statement.{statement}
+use Rattle.texts.proofs.decimal.Tie as tie
 
 pub decimal-spec : {M : Type 1} → statement M
 unfolding decimal

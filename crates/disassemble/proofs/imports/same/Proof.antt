@@ -1,0 +1,46 @@
+-- `disassemble::imports::same` meets its contract.
+-- Assumes nothing.
+use mathlib.Core.Path.{_≡_, refl, ap, sym, _∙_}
+use Prim.Native.Nat.{_-_}
+use lib.ListN.{length, drop}
+use Rattle.spec.specs.Disassembly.{same}
+use Rattle.disassemble.proofs.Sets.{same-none, same-bad, same-on, same-ends}
+use native.Mathlib.Omega.{arith}
+use Rattle.disassemble.proofs.imports.same.Statement.{statement}
+use Rattle.disassemble.proofs.imports.same.Tie as tie
+
+abbrev Inv-loop : tie.InvT-loop
+Inv-loop s t i₀ i = same s t ≡ same (drop i s) (drop i t)
+
+abbrev μ-loop : tie.MeasureT-loop
+μ-loop s t i₀ i = length s - i
+
+returns : tie.Need-returns Inv-loop μ-loop
+returns c = same-none (c .before .args .s .now) (c .before .args .t .now) (c .if1 .taken)
+
+loop-holds : tie.Need-loop-holds Inv-loop μ-loop
+loop-holds c = refl
+
+shared-slice-read-if2 : tie.Need-shared-slice-read-if2 Inv-loop μ-loop
+shared-slice-read-if2 c = omega (arith, c .before .loop-test .taken)
+
+shared-slice-read-if2-2 : tie.Need-shared-slice-read-if2-2 Inv-loop μ-loop
+shared-slice-read-if2-2 c = omega (arith, c .before .before .loop-test .taken, c .before .before .before .before .if1 .left)
+
+returns-2 : tie.Need-returns-2 Inv-loop μ-loop
+returns-2 c = same-bad (c .before .before .before .before .before .before .args .s .now) (c .before .before .before .before .before .before .args .t .now) (c .before .before .before .before .loop .i) (c .before .before .before .loop-test .taken) (c .before .before .before .before .before .if1 .left) (c .before .before .before .before .loop .inv) (c .if2 .taken)
+
+add-i : tie.Need-add-i Inv-loop μ-loop
+add-i c = omega arith
+
+loop-less : tie.Need-loop-less Inv-loop μ-loop
+loop-less c = omega (arith, c .before .before .before .loop-test .taken)
+
+loop-again : tie.Need-loop-again Inv-loop μ-loop
+loop-again c = same-on (c .before .before .before .before .before .before .args .s .now) (c .before .before .before .before .before .before .args .t .now) (c .before .before .before .before .loop .i) (c .before .before .before .loop-test .taken) (c .before .before .before .before .before .if1 .left) (c .before .before .before .before .loop .inv) (c .if2 .left)
+
+returns-3 : tie.Need-returns-3 Inv-loop μ-loop
+returns-3 c = same-ends (c .before .before .before .args .s .now) (c .before .before .before .args .t .now) (c .before .loop .i) (c .loop-test .left) (c .before .before .if1 .left) (c .before .loop .inv)
+
+pub same-spec : {M : Type 1} → statement M
+same-spec = tie.close (tie.spec Inv-loop μ-loop returns loop-holds shared-slice-read-if2 shared-slice-read-if2-2 returns-2 add-i loop-less loop-again returns-3)

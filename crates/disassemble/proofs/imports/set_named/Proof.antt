@@ -1,0 +1,30 @@
+-- `disassemble::imports::set_named` meets its contract.
+-- Assumes nothing.
+use Rattle.disassemble.proofs.Sets.{set-glsl, set-opencl, set-none}
+use borrow.Author.Needs.{needs}
+use Rattle.disassemble.proofs.imports.set_named.Statement.{statement}
+use Rattle.disassemble.proofs.imports.set_named.Tie as tie
+
+slice-aggregate-same : tie.Need-slice-aggregate-same
+slice-aggregate-same c = search needs
+
+same-requires : tie.Need-same-requires
+same-requires c κs = search needs
+
+returns : tie.Need-returns
+returns c = set-glsl _ _ (c .before .same .ensures) (c .if1 .taken)
+
+slice-aggregate-same-2 : tie.Need-slice-aggregate-same-2
+slice-aggregate-same-2 c = search needs
+
+same-requires-2 : tie.Need-same-requires-2
+same-requires-2 c κs = search needs
+
+returns-2 : tie.Need-returns-2
+returns-2 c = set-opencl _ _ (c .before .before .before .before .same .ensures) (c .before .before .before .if1 .left) _ (c .before .same2 .ensures) (c .if2 .taken)
+
+returns-3 : tie.Need-returns-3
+returns-3 c = set-none _ _ (c .before .before .before .before .same .ensures) (c .before .before .before .if1 .left) _ (c .before .same2 .ensures) (c .if2 .left)
+
+pub set-named-spec : {M : Type 1} → statement M
+set-named-spec = tie.close (tie.spec slice-aggregate-same same-requires returns slice-aggregate-same-2 same-requires-2 returns-2 returns-3)

@@ -1,0 +1,39 @@
+-- `disassemble::named::bits_named` meets its contract.
+-- Assumes nothing.
+use Rattle.disassemble.proofs.Judged.{Judging, judging-starts, judging-ends, judging-near, judging-bad, judging-turn}
+use native.Mathlib.Omega.{arith}
+use Rattle.disassemble.proofs.named.bits_named.Statement.{statement}
+use Rattle.disassemble.proofs.named.bits_named.Tie as tie
+
+abbrev Inv-loop : tie.InvT-loop
+Inv-loop run index kind mask rest₀ bit₀ rest bit = Judging kind mask rest bit
+
+abbrev μ-loop : tie.MeasureT-loop
+μ-loop run index kind mask rest₀ bit₀ rest bit = rest
+
+loop-holds : tie.Need-loop-holds Inv-loop μ-loop
+loop-holds c = judging-starts _ _ (c .before .before .fits .mask .fits)
+
+cast-bit-named : tie.Need-cast-bit-named Inv-loop μ-loop
+cast-bit-named c = omega (arith, judging-near (c .before .loop .inv) (c .loop-test .taken))
+
+bit-named-requires : tie.Need-bit-named-requires Inv-loop μ-loop
+bit-named-requires c κs = c .before .before .before .before .pre
+
+returns : tie.Need-returns Inv-loop μ-loop
+returns c = judging-bad (c .before .before .before .loop .inv) (c .before .before .loop-test .taken) _ (c .before .bit-named .ensures) (c .if1 .taken)
+
+mul-bit : tie.Need-mul-bit Inv-loop μ-loop
+mul-bit c = omega (arith, judging-near (c .before .before .before .loop .inv) (c .before .before .loop-test .taken))
+
+loop-less : tie.Need-loop-less Inv-loop μ-loop
+loop-less c = omega (arith, c .before .before .loop-test .taken)
+
+loop-again : tie.Need-loop-again Inv-loop μ-loop
+loop-again c = judging-turn (c .before .before .before .loop .inv) (c .before .before .loop-test .taken) _ (c .before .bit-named .ensures) (c .if1 .left)
+
+returns-2 : tie.Need-returns-2 Inv-loop μ-loop
+returns-2 c = judging-ends (c .before .loop .inv) (c .loop-test .left)
+
+pub bits-named-spec : {M : Type 1} → statement M
+bits-named-spec = tie.close (tie.spec Inv-loop μ-loop loop-holds cast-bit-named bit-named-requires returns mul-bit loop-less loop-again returns-2)

@@ -1,0 +1,35 @@
+-- `disassemble::named::narrow_named` meets its contract.
+-- Assumes nothing.
+use mathlib.Core.Path.{_≡_, refl, ap, sym, _∙_}
+use Prim.Native.Nat.{ℕ}
+use mathlib.Core.Bool.{true}
+use Rattle.spec.specs.Names.{nameOf}
+use Rattle.spec.specs.Disassembly.{isThere}
+use Rattle.disassemble.proofs.Judged.{narrow-nameless, narrow-bits, narrow-value}
+use borrow.Author.Needs.{needs}
+use Rattle.disassemble.proofs.named.narrow_named.Statement.{statement}
+use Rattle.disassemble.proofs.named.narrow_named.Tie as tie
+
+returns : tie.Need-returns
+returns c = narrow-nameless _ _ true (c .if1 .taken)
+
+has-bits-requires : tie.Need-has-bits-requires
+has-bits-requires c κs = search needs
+
+bits-named-requires : tie.Need-bits-named-requires
+bits-named-requires c κs = c .before .before .before .before .before .pre
+
+returns-2 : tie.Need-returns-2
+returns-2 c = narrow-bits _ _ _ (c .before .before .before .if1 .left) (sym (c .before .before .has-bits .ensures) ∙ c .before .if2 .taken) (c .bits-named .ensures)
+
+set-of-kind-requires : tie.Need-set-of-kind-requires
+set-of-kind-requires c κs = search needs
+
+has-name-requires : tie.Need-has-name-requires
+has-name-requires c κs = c .before .before .before .before .before .before .pre
+
+returns-3 : tie.Need-returns-3
+returns-3 c = narrow-value _ _ _ (c .before .before .before .before .if1 .left) (sym (c .before .before .before .has-bits .ensures) ∙ c .before .before .if2 .left) (c .has-name .ensures ∙ ap (λ (s : ℕ). isThere (nameOf s (c .before .before .before .before .before .before .before .args .value))) (c .before .set-of-kind .ensures))
+
+pub narrow-named-spec : {M : Type 1} → statement M
+narrow-named-spec = tie.close (tie.spec returns has-bits-requires bits-named-requires returns-2 set-of-kind-requires has-name-requires returns-3)

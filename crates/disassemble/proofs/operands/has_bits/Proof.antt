@@ -1,0 +1,19 @@
+-- `disassemble::operands::has_bits` meets its contract.
+-- Assumes nothing.
+use mathlib.Core.Path.{_≡_, refl, ap, sym, _∙_}
+use mathlib.Core.Bool.{Bool, not, _&&_}
+use lib.Dec.{eqb}
+use Rattle.disassemble.specs.Putting.{hasBits}
+use borrow.Author.Needs.{needs}
+use Rattle.disassemble.proofs.operands.has_bits.Statement.{statement}
+use Rattle.disassemble.proofs.operands.has_bits.Tie as tie
+
+is-mask-requires : tie.Need-is-mask-requires
+is-mask-requires c κs = search needs
+
+returns : tie.Need-returns
+unfolding hasBits
+returns c = ap (λ (m : Bool). m && not (eqb (c .before .args .value) 0)) (c .is-mask .ensures)
+
+pub has-bits-spec : {M : Type 1} → statement M
+has-bits-spec = tie.close (tie.spec is-mask-requires returns)

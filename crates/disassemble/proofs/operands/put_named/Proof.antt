@@ -1,0 +1,35 @@
+-- `disassemble::operands::put_named` meets its contract: by its bits or by its value.
+-- Assumes nothing.
+use mathlib.Core.Path.{_≡_, refl, ap, sym, _∙_}
+use Rattle.disassemble.proofs.Put.{wrote-as, room-as}
+use Rattle.disassemble.proofs.Texts.{named-bits, value-text}
+use borrow.Author.Needs.{needs}
+use Rattle.disassemble.proofs.operands.put_named.Statement.{statement}
+use Rattle.disassemble.proofs.operands.put_named.Tie as tie
+
+has-bits-requires : tie.Need-has-bits-requires
+has-bits-requires c κs = search needs
+
+put-bits-requires : tie.Need-put-bits-requires
+put-bits-requires c κs = (c .before .before .before .before .before .before .pre .0, room-as _ _ (sym (named-bits _ _ (sym (c .before .before .has-bits .ensures) ∙ c .before .if1 .taken))) (c .before .before .before .before .before .before .pre .1))
+
+same-length : tie.Need-same-length
+same-length c = search needs
+
+returns : tie.Need-returns
+returns c = wrote-as _ _ (named-bits _ _ (sym (c .before .before .before .before .before .has-bits .ensures) ∙ c .before .before .before .before .if1 .taken)) (c .before .before .put-bits .ensures)
+
+set-of-kind-requires : tie.Need-set-of-kind-requires
+set-of-kind-requires c κs = search needs
+
+put-name-requires : tie.Need-put-name-requires
+put-name-requires c κs = (c .before .before .before .before .before .before .before .pre .0, room-as _ _ (sym (value-text _ _ _ (c .before .set-of-kind .ensures) (sym (c .before .before .before .has-bits .ensures) ∙ c .before .before .if1 .left))) (c .before .before .before .before .before .before .before .pre .1))
+
+same-length-2 : tie.Need-same-length-2
+same-length-2 c = search needs
+
+returns-2 : tie.Need-returns-2
+returns-2 c = wrote-as _ _ (value-text _ _ _ (c .before .before .before .before .set-of-kind .ensures) (sym (c .before .before .before .before .before .before .has-bits .ensures) ∙ c .before .before .before .before .before .if1 .left)) (c .before .before .put-name .ensures)
+
+pub put-named-spec : {M : Type 1} → statement M
+put-named-spec = tie.close (tie.spec has-bits-requires put-bits-requires same-length returns set-of-kind-requires put-name-requires same-length-2 returns-2)

@@ -1,0 +1,45 @@
+-- `disassemble::operands::put_operand` meets its contract: by whether its kind has two words.
+-- Assumes nothing.
+use mathlib.Core.Path.{_≡_, refl, ap, sym, _∙_}
+use Rattle.disassemble.proofs.Put.{wrote-as, room-as}
+use Rattle.disassemble.proofs.Texts.{one-text}
+use borrow.Author.Needs.{needs}
+use native.Mathlib.Omega.{arith}
+use Rattle.disassemble.proofs.operands.put_operand.Statement.{statement}
+use Rattle.disassemble.proofs.operands.put_operand.Tie as tie
+
+shared-slice-read-is-two : tie.Need-shared-slice-read-is-two
+shared-slice-read-is-two c = omega (arith, c .before .before .before .before .before .before .pre .1 .0 .whole .five)
+
+is-two-requires : tie.Need-is-two-requires
+is-two-requires c κs = search needs
+
+put-two-requires : tie.Need-put-two-requires
+put-two-requires c κs = (c .before .before .before .before .before .before .before .before .before .pre .1 .0, (sym (c .before .before .is-two .ensures) ∙ c .before .if1 .taken, c .before .before .before .before .before .before .before .before .before .pre .1 .1))
+
+same-length : tie.Need-same-length
+same-length c = search needs
+
+returns : tie.Need-returns
+returns c = c .before .before .put-two .ensures
+
+shared-slice-read-put-narrow : tie.Need-shared-slice-read-put-narrow
+shared-slice-read-put-narrow c = omega (arith, c .before .before .before .before .before .before .before .before .before .pre .1 .0 .whole .five)
+
+add-word-at : tie.Need-add-word-at
+add-word-at c = omega (arith, c .before .before .before .before .before .before .before .before .before .pre .1 .0 .whole .five)
+
+word-at-requires : tie.Need-word-at-requires
+word-at-requires c κs = omega (arith, c .before .before .before .before .before .before .before .before .before .pre .1 .0 .whole .five)
+
+put-narrow-requires : tie.Need-put-narrow-requires
+put-narrow-requires c κs = (c .before .before .before .before .before .before .before .before .before .before .before .pre .0, room-as _ _ (sym (one-text _ _ _ (sym (c .before .before .before .before .is-two .ensures) ∙ c .before .before .before .if1 .left) _ (c .before .word-at .ensures))) (c .before .before .before .before .before .before .before .before .before .before .before .pre .1 .1))
+
+same-length-2 : tie.Need-same-length-2
+same-length-2 c = search needs
+
+returns-2 : tie.Need-returns-2
+returns-2 c = wrote-as _ _ (one-text _ _ _ (sym (c .before .before .before .before .before .before .before .is-two .ensures) ∙ c .before .before .before .before .before .before .if1 .left) _ (c .before .before .before .before .word-at .ensures)) (c .before .before .put-narrow .ensures)
+
+pub put-operand-spec : {M : Type 1} → statement M
+put-operand-spec = tie.close (tie.spec shared-slice-read-is-two is-two-requires put-two-requires same-length returns shared-slice-read-put-narrow add-word-at word-at-requires put-narrow-requires same-length-2 returns-2)

@@ -1,0 +1,48 @@
+-- `disassemble::operands::put_operands` meets its contract: a blank and an operand at a time.
+-- Assumes nothing.
+use mathlib.Core.Path.{_≡_, refl, ap, sym, _∙_}
+use mathlib.Core.List.{List, [], _∷_, _++_}
+use Rattle.spec.specs.Disassembly.{operandText}
+use Rattle.records.specs.Good.{operandAt}
+use Rattle.disassemble.proofs.Put.{room-first, room-next, wrote-both, going-length, going-room, going-ends}
+use Rattle.disassemble.proofs.Texts.{spaced-none, spaced-more, readable-more}
+use Rattle.disassemble.proofs.Masks.{Spacing, spacing-starts, spacing-on}
+use native.Mathlib.Omega.{arith}
+use Rattle.disassemble.proofs.operands.put_operands.Statement.{statement}
+use Rattle.disassemble.proofs.operands.put_operands.Tie as tie
+
+abbrev Inv-loop : tie.InvT-loop
+Inv-loop run index log strings first count out₀ start keep a₀ left₀ at₀ out a left at = Spacing log strings first count keep out₀ start a left at out
+
+abbrev μ-loop : tie.MeasureT-loop
+μ-loop run index log strings first count out₀ start keep a₀ left₀ at₀ out a left at = left
+
+loop-holds : tie.Need-loop-holds Inv-loop μ-loop
+loop-holds c = spacing-starts _ _ _ _ _ _ _ (omega arith) (c .before .before .before .before .before .pre .1 .0) (c .before .before .before .before .before .pre .1 .1)
+
+put-byte-requires : tie.Need-put-byte-requires Inv-loop μ-loop
+put-byte-requires c κs = room-first (32 ∷ []) (operandText (operandAt (c .before .before .before .before .before .before .before .before .args .log .now) (c .before .before .before .before .before .before .before .before .args .strings .now) (c .before .before .loop .a))) (going-room (c .before .before .loop .inv .going) _ _ (spaced-more _ _ _ _ (c .before .loop-test .taken)))
+
+put-operand-requires : tie.Need-put-operand-requires Inv-loop μ-loop
+put-operand-requires c κs = (c .before .before .before .before .before .before .before .before .before .before .before .before .pre .0, (readable-more _ _ _ _ (c .before .before .before .before .before .loop-test .taken) (c .before .before .before .before .before .before .loop .inv .readable) .0, room-next (32 ∷ []) (operandText (operandAt (c .before .before .before .before .before .before .before .before .before .before .before .before .args .log .now) (c .before .before .before .before .before .before .before .before .before .before .before .before .args .strings .now) (c .before .before .before .before .before .before .loop .a))) (going-room (c .before .before .before .before .before .before .loop .inv .going) _ _ (spaced-more _ _ _ _ (c .before .before .before .before .before .loop-test .taken))) (c .before .before .before .put-byte .ensures)))
+
+after-requires : tie.Need-after-requires Inv-loop μ-loop
+after-requires c κs = readable-more _ _ _ _ (c .before .before .before .before .before .before .before .before .loop-test .taken) (c .before .before .before .before .before .before .before .before .before .loop .inv .readable) .0 .whole
+
+sub-left : tie.Need-sub-left Inv-loop μ-loop
+sub-left c = omega (arith, c .before .before .before .before .before .before .before .before .before .loop-test .taken)
+
+loop-less : tie.Need-loop-less Inv-loop μ-loop
+loop-less c = omega (arith, c .before .before .before .before .before .before .before .before .before .loop-test .taken)
+
+loop-again : tie.Need-loop-again Inv-loop μ-loop
+loop-again c = spacing-on (c .before .before .before .before .before .before .before .before .before .before .loop .inv) (c .before .before .before .before .before .before .before .before .before .loop-test .taken) _ (c .after .ensures) (wrote-both (32 ∷ []) (operandText (operandAt (c .before .before .before .before .before .before .before .before .before .before .before .before .before .before .before .before .args .log .now) (c .before .before .before .before .before .before .before .before .before .before .before .before .before .before .before .before .args .strings .now) (c .before .before .before .before .before .before .before .before .before .before .loop .a))) (going-room (c .before .before .before .before .before .before .before .before .before .before .loop .inv .going) _ _ (spaced-more _ _ _ _ (c .before .before .before .before .before .before .before .before .before .loop-test .taken))) (c .before .before .before .before .before .before .before .put-byte .ensures) (c .before .before .before .put-operand .ensures))
+
+same-length : tie.Need-same-length Inv-loop μ-loop
+same-length c = going-length (c .before .loop .inv .going)
+
+returns : tie.Need-returns Inv-loop μ-loop
+returns c = going-ends (c .before .loop .inv .going) (spaced-none _ _ _ _ (c .loop-test .left))
+
+pub put-operands-spec : {M : Type 1} → statement M
+put-operands-spec = tie.close (tie.spec Inv-loop μ-loop loop-holds put-byte-requires put-operand-requires after-requires sub-left loop-less loop-again same-length returns)

@@ -1,0 +1,41 @@
+-- `disassemble::order::first_tagged` meets its contract.
+-- Assumes nothing.
+use mathlib.Core.Path.{_≡_, refl, ap, sym, _∙_}
+use Prim.Native.Nat.{_-_}
+use lib.ListN.{drop}
+use Rattle.assemble.specs.Placing.{instrsOf, tagged}
+use Rattle.assemble.proofs.Stores.{stores-at, stores-in}
+use Rattle.disassemble.proofs.Cursors.{first-yes, first-no, first-none}
+use native.Mathlib.Omega.{arith}
+use Rattle.disassemble.proofs.order.first_tagged.Statement.{statement}
+use Rattle.disassemble.proofs.order.first_tagged.Tie as tie
+
+abbrev Inv-loop : tie.InvT-loop
+Inv-loop instructions log strings count start tag i₀ i = tagged tag (drop start (instrsOf instructions log strings count)) ≡ tagged tag (drop i (instrsOf instructions log strings count))
+
+abbrev μ-loop : tie.MeasureT-loop
+μ-loop instructions log strings count start tag i₀ i = count - i
+
+loop-holds : tie.Need-loop-holds Inv-loop μ-loop
+loop-holds c = refl
+
+record-at-requires : tie.Need-record-at-requires Inv-loop μ-loop
+record-at-requires c κs = stores-in _ _ _ _ (c .before .before .before .before .before .pre) _ (c .loop-test .taken)
+
+returns : tie.Need-returns Inv-loop μ-loop
+returns c = first-yes (stores-at _ _ _ _ (c .before .before .before .before .before .before .before .before .pre) _ (c .before .before .before .loop-test .taken) _ (c .before .before .record-at .ensures)) _ (c .before .before .before .before .before .before .before .before .args .start) (c .before .before .before .loop-test .taken) (c .before .before .before .before .loop .inv) (c .if1 .taken)
+
+add-i : tie.Need-add-i Inv-loop μ-loop
+add-i c = omega arith
+
+loop-less : tie.Need-loop-less Inv-loop μ-loop
+loop-less c = omega (arith, c .before .before .before .loop-test .taken)
+
+loop-again : tie.Need-loop-again Inv-loop μ-loop
+loop-again c = first-no (stores-at _ _ _ _ (c .before .before .before .before .before .before .before .before .pre) _ (c .before .before .before .loop-test .taken) _ (c .before .before .record-at .ensures)) _ (c .before .before .before .before .before .before .before .before .args .start) (c .before .before .before .before .loop .inv) (c .if1 .left)
+
+returns-2 : tie.Need-returns-2 Inv-loop μ-loop
+returns-2 c = first-none _ _ _ _ (c .before .before .before .before .before .pre) _ (c .before .before .before .before .before .args .start) _ (c .loop-test .left) (c .before .loop .inv)
+
+pub first-tagged-spec : {M : Type 1} → statement M
+first-tagged-spec = tie.close (tie.spec Inv-loop μ-loop loop-holds record-at-requires returns add-i loop-less loop-again returns-2)

@@ -1,0 +1,27 @@
+-- `disassemble::pieces::put_id` meets its contract.
+-- Assumes nothing.
+use mathlib.Core.List.{List, [], _∷_, _++_}
+use Rattle.spec.specs.Digits.{decimal}
+use Rattle.spec.specs.Disassembly.{idText}
+use Rattle.disassemble.proofs.Put.{room-first, room-next, wrote-both}
+use borrow.Author.Needs.{needs}
+use Rattle.disassemble.proofs.pieces.put_id.Statement.{statement}
+use Rattle.disassemble.proofs.pieces.put_id.Tie as tie
+
+put-byte-requires : tie.Need-put-byte-requires
+unfolding idText
+put-byte-requires c κs = room-first (37 ∷ []) (decimal _) (c .before .before .pre)
+
+put-number-requires : tie.Need-put-number-requires
+unfolding idText
+put-number-requires c κs = room-next (37 ∷ []) (decimal _) (c .before .before .before .before .before .before .pre) (c .before .before .before .put-byte .ensures)
+
+same-length : tie.Need-same-length
+same-length c = search needs
+
+returns : tie.Need-returns
+unfolding idText
+returns c = wrote-both (37 ∷ []) (decimal _) (c .before .before .before .before .before .before .before .before .before .pre) (c .before .before .before .before .before .before .put-byte .ensures) (c .before .before .put-number .ensures)
+
+pub put-id-spec : {M : Type 1} → statement M
+put-id-spec = tie.close (tie.spec put-byte-requires put-number-requires same-length returns)

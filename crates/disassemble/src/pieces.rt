@@ -1,0 +1,91 @@
+// Pieces of text, each kept in the output at a place or only measured: the leaves that test the flag.
+ghost use mathlib.Core.Path.{_≡_};
+ghost use mathlib.Core.List.{_∷_, []};
+ghost use Prim.Native.Nat.{_<_, _≤_};
+ghost use lib.ListN.{length};
+ghost use Rattle.spec.specs.Digits.{decimal, hexDigits};
+ghost use Rattle.spec.specs.Digits.{hexDigit as hexDigitOf};
+ghost use Rattle.spec.specs.Disassembly.{idText};
+ghost use Rattle.disassemble.specs.Putting.{Room, Wrote};
+use assemble::further;
+
+// A byte.
+pub fn put_byte(out: &mut [u8], at: usize, b: u8, keep: bool) -> usize
+    requires { ⌜ Room keep (now out) at (b ∷ []) ⌝ }
+    ensures { λ r. ⌜ Wrote keep (now (out .entry)) at (b ∷ []) r (now (out .exit)) ⌝ }
+{
+    if keep {
+        out[at] = b;
+        return at + 1;
+    }
+    further(at, 1)
+}
+
+// Bytes.
+pub fn put_bytes(out: &mut [u8], at: usize, s: &[u8], keep: bool) -> usize
+    requires { ⌜ Room keep (now out) at (now s) ⌝ }
+    ensures { λ r. ⌜ Wrote keep (now (out .entry)) at (now (s .entry)) r (now (out .exit)) ⌝ }
+{
+    if keep {
+        words::put_bytes(out, at, s);
+        return at + s.len();
+    }
+    further(at, s.len())
+}
+
+// How many decimal digits a number has.
+fn digit_count(v: u64) -> usize
+    ensures { λ r. ⌜ r ≡ length (decimal v) ⌝ }
+{
+    let mut n = 1;
+    let mut rest = v;
+    while 10 <= rest {
+        rest = rest / 10;
+        n += 1;
+    }
+    n
+}
+
+// A number in decimal.
+pub fn put_number(out: &mut [u8], at: usize, v: u64, keep: bool) -> usize
+    requires { ⌜ Room keep (now out) at (decimal v) ⌝ }
+    ensures { λ r. ⌜ Wrote keep (now (out .entry)) at (decimal v) r (now (out .exit)) ⌝ }
+{
+    let n = digit_count(v);
+    if keep {
+        return texts::digits(out, at, n, v);
+    }
+    further(at, n)
+}
+
+// A hexadecimal digit.
+fn hex_digit(d: u8) -> u8
+    requires { ⌜ d < 16 ⌝ }
+    ensures { λ r. ⌜ r ≡ hexDigitOf d ⌝ }
+{
+    if d < 10 {
+        return 48 + d;
+    }
+    55 + d
+}
+
+// The last n hexadecimal digits of a number.
+pub fn put_hex(out: &mut [u8], at: usize, n: usize, v: u64, keep: bool) -> usize
+    requires { ⌜ Room keep (now out) at (hexDigits n v) ⌝ }
+    ensures { λ r. ⌜ Wrote keep (now (out .entry)) at (hexDigits n v) r (now (out .exit)) ⌝ }
+{
+    if n == 0 {
+        return at;
+    }
+    let end = put_hex(out, at, n - 1, v / 16, keep);
+    put_byte(out, end, hex_digit((v % 16) as u8), keep)
+}
+
+// An id.
+pub fn put_id(out: &mut [u8], at: usize, id: u32, keep: bool) -> usize
+    requires { ⌜ Room keep (now out) at (idText id) ⌝ }
+    ensures { λ r. ⌜ Wrote keep (now (out .entry)) at (idText id) r (now (out .exit)) ⌝ }
+{
+    let next = put_byte(out, at, b'%', keep);
+    put_number(out, next, id as u64, keep)
+}
