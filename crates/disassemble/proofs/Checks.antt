@@ -3,13 +3,13 @@ use Prim.Native.Nat.{ℕ, zero, suc, _+_, _*_, _-_, _%_, _<_, _≤_}
 use mathlib.Core.Path.{_≡_, refl, ap, sym, subst, _∙_}
 use mathlib.Core.Bool.{Bool, true, false, _&&_}
 use mathlib.Core.List.{List, [], _∷_}
-use mathlib.Core.Option.{Option, none, some, Option·some-ne-none}
+use mathlib.Core.Option.{Option, none, some}
 use native.Mathlib.Omega.{arith}
 use native.Mathlib.Numerals.{add-one}
 use borrow.Author.Tests.{eqb-true, leb-true, leb-false, le-leb}
 use lib.Dec.{leb, eqb}
-use lib.ListN.{length, take, drop, length-drop, length-take}
-use lib.Seq.{drop-nil, drop-drop, take-all, length-take-le}
+use lib.ListN.{length, take, drop, length-drop}
+use lib.Seq.{drop-nil, drop-drop, take-all}
 use Rattle.spec.specs.declared.State.{State}
 use Rattle.spec.specs.declared.State.the-variants.{Outside}
 use Rattle.spec.specs.declared.Cell.{Cell}
@@ -19,9 +19,8 @@ use Rattle.spec.specs.declared.Written.{Written}
 use Rattle.spec.specs.Base.{if_then_else_, has, implies}
 use Rattle.spec.specs.Layout.{layoutOf, endNumber}
 use Rattle.spec.specs.Records.{Operand, Placed, recordSize, fieldsAt}
-use Rattle.spec.specs.Check.{Given, lower, recordsOf, missing, fieldsGood, fieldsFault, Left, takeOperands, takeRecord, Scan, onRecord, scanFrom, onTag, tagsFault, recordsIn, scanOf, faultOf, Checked, bad, good, checkedBy, check}
-use Rattle.spec.specs.Write.{Writing, unwritten}
-use Rattle.spec.specs.Disassembly.{isNamed, unnamed, checkNamed, listBy, disassemble, moduleText}
+use Rattle.spec.specs.Check.{Given, lower, recordsOf, missing, fieldsGood, fieldsFault, Left, takeOperands, takeRecord, Scan, onRecord, scanFrom, onTag, tagsFault, recordsIn, scanOf, faultOf, Checked, bad, good}
+use Rattle.spec.specs.Disassembly.{isNamed, unnamed, checkNamed, disassemble, moduleText}
 use Rattle.spec.proofs.Choice.{IfSome}
 use Rattle.spec.proofs.Faultless.{none-if, no-faults, Said, record-said}
 use Rattle.records.specs.declared.Checked.{Checked as Answer}
@@ -29,7 +28,7 @@ use Rattle.records.specs.declared.Checked.the-variants.{Good as AllGood, Bad}
 use Rattle.records.specs.Steps.{given, checkedIs, leftAt}
 use Rattle.records.proofs.Operands.{has-true, Inside, left-inside, said-reach, operands-taken}
 use Rattle.records.proofs.Lowest.{AtLeast, fields-late, scan-late, tags-late}
-use Rattle.assemble.specs.Spelled.{Readable, AllReadable, operandAfter, operandsFrom, saidBy}
+use Rattle.assemble.specs.Spelled.{AllReadable, operandAfter, operandsFrom, saidBy}
 use Rattle.assemble.specs.Placing.{GoodStores, instrsOf}
 use Rattle.assemble.specs.Writes.{Writes}
 use Rattle.assemble.proofs.Writing.{lent-good, lent-check}

@@ -1,20 +1,20 @@
 -- Laws of module order, an index at a time.
-use Prim.Native.Nat.{ℕ, zero, suc, _+_, _*_, _-_, _<_, _≤_}
+use Prim.Native.Nat.{ℕ, _+_, _-_, _<_, _≤_}
 use mathlib.Core.Path.{_≡_, refl, ap, sym, subst, _∙_}
 use mathlib.Core.Bool.{Bool, true, false}
 use mathlib.Core.List.{List, [], _∷_, _++_, append-assoc, append-nil, reverse, reverse-append}
 use native.Mathlib.Omega.{arith}
 use borrow.Author.Tests.{eq-eqb, ne-eqb, lt-ltb, le-ltb, ltb-true, ltb-false}
 use lib.Dec.{ltb, eqb}
-use lib.ListN.{length, take, drop, take-append-drop}
+use lib.ListN.{take, drop, take-append-drop}
 use Rattle.spec.specs.declared.Fields.{Fields}
 use Rattle.spec.specs.Base.{if_then_else_, only}
 use Rattle.spec.specs.Records.{Placed}
-use Rattle.spec.specs.Write.{hasTag, sectionOf, sections, parametersIn, functions, moduleOrder}
+use Rattle.spec.specs.Write.{hasTag, sectionOf, parametersIn, functions, moduleOrder}
 use Rattle.assemble.specs.Spelled.{saidBy}
-use Rattle.assemble.specs.Placing.{GoodStores, instrsOf, oneAt, tagged, lastTagged, functionPart}
+use Rattle.assemble.specs.Placing.{GoodStores, instrsOf, oneAt, tagged, lastTagged}
 use Rattle.assemble.proofs.Stores.{At, one-is}
-use Rattle.assemble.proofs.Orders.{all-end, tagged-more, tagged-end, tagged-yes, tagged-no, section-last, section-all, sectionsFrom, sections-all, sections-more, sections-end, parameters-end, functions-end, parameters-none, parameters-more, functions-more, part-definition, part-one, part-none, module-is}
+use Rattle.assemble.proofs.Orders.{all-end, tagged-more, tagged-end, tagged-yes, tagged-no, sectionsFrom, sections-all, sections-more, sections-end, parameters-end, parameters-none, parameters-more, functions-more, part-definition, part-one, part-none, module-is}
 use Rattle.disassemble.specs.declared.order.Cursor.{Cursor}
 use Rattle.disassemble.specs.declared.order.Next.{Next}
 use Rattle.disassemble.specs.declared.order.Next.the-variants as next

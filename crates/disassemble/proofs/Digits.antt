@@ -1,6 +1,6 @@
 -- Laws of the leaves: digits that are counted, kept and measured.
-use Prim.Native.Nat.{ℕ, zero, suc, _+_, _*_, _-_, _/_, _%_, _^_, _<_, _≤_, min}
-use mathlib.Core.Path.{_≡_, refl, ap, sym, subst, _∙_}
+use Prim.Native.Nat.{ℕ, zero, suc, _+_, _-_, _/_, _%_, _^_, _<_, _≤_}
+use mathlib.Core.Path.{_≡_, refl, ap, subst, _∙_}
 use mathlib.Core.Bool.{Bool, true, false}
 use mathlib.Core.List.{List, [], _∷_, _++_}
 use native.Mathlib.Omega.{arith}
@@ -11,10 +11,9 @@ use lib.Seq.{sets}
 use Rattle.spec.specs.Base.{if_then_else_}
 use Rattle.spec.specs.Digits.{digitsFrom, decimal, hexDigit, hexDigits}
 use Rattle.texts.specs.Wrote.{Wrote as WroteText}
-use Rattle.texts.proofs.Laws.{digits-few, decimal-few}
-use Rattle.assemble.specs.Placing.{largest}
+use Rattle.texts.proofs.Laws.{digits-few}
 use Rattle.disassemble.specs.Putting.{Room, Wrote}
-use Rattle.disassemble.proofs.Put.{wrote-yes, wrote-no, wrote-none, wrote-as, room-as}
+use Rattle.disassemble.proofs.Put.{wrote-yes}
 
 -- HOW MANY DIGITS
 

@@ -1,12 +1,10 @@
 -- Laws of names that are there or lack.
 use Prim.Native.Nat.{ℕ, zero, suc, _+_, _*_, _-_, _/_, _%_, _^_, _<_, _≤_}
 use mathlib.Core.Path.{_≡_, refl, ap, sym, subst, _∙_}
-use mathlib.Core.Bool.{Bool, true, false, not, _&&_, _||_}
-use mathlib.Core.List.{List, [], _∷_, _++_}
-use mathlib.Core.Option.{Option, none, some}
+use mathlib.Core.Bool.{Bool, true, false, not, _&&_}
+use mathlib.Core.List.{List, _∷_}
 use native.Mathlib.Omega.{arith}
 use native.Mathlib.Nat.{mul-le-mul-right, zero-add}
-use native.Mathlib.Numerals.{add-one}
 use borrow.Author.Tests.{eq-eqb, ne-eqb}
 use lib.Dec.{leb, eqb}
 use lib.ListN.{length, drop, getD, length-drop}
@@ -16,16 +14,16 @@ use Rattle.spec.specs.Base.{if_then_else_, every}
 use Rattle.spec.specs.Words.{fourAt, bitsFrom, bitsOf}
 use Rattle.spec.specs.Kinds.{isLong}
 use Rattle.spec.specs.Names.{nameOf}
-use Rattle.spec.specs.Records.{Operand, narrow, Placed, recordSize, fieldsAt}
+use Rattle.spec.specs.Records.{narrow, recordSize, fieldsAt}
 use Rattle.spec.specs.Check.{placedOf}
-use Rattle.spec.specs.Disassembly.{isThere, setOfKind, namesIn, operandNamed, isNamed}
+use Rattle.spec.specs.Disassembly.{isThere, setOfKind, operandNamed, isNamed}
 use Rattle.names.specs.declared.Named.{Named}
 use Rattle.names.specs.declared.Named.the-variants.{At, Nothing}
 use Rattle.names.specs.Find.{textFound}
 use Rattle.operand.specs.Parts.{isTwo}
 use Rattle.records.specs.Good.{operandBy, operandAt}
 use Rattle.records.proofs.Good.{operand-is}
-use Rattle.assemble.specs.Spelled.{Readable, AllReadable, operandAfter, operandsFrom, saidBy}
+use Rattle.assemble.specs.Spelled.{AllReadable, operandAfter, operandsFrom, saidBy}
 use Rattle.disassemble.specs.Putting.{bitNamed, hasBits}
 use Rattle.disassemble.specs.Listed.{saidFrom, Told, namedCount}
 use Rattle.disassemble.proofs.Texts.{no-bits, half-twice, own-set, bits-in, value-in}

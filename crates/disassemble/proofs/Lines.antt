@@ -1,22 +1,21 @@
 -- Laws of an instruction's line.
-use Prim.Native.Nat.{ℕ, zero, suc, _+_, _*_, _-_, _/_, _%_, _<_, _≤_}
+use Prim.Native.Nat.{ℕ, zero, suc, _+_, _-_, _%_, _<_, _≤_}
 use mathlib.Core.Path.{_≡_, refl, ap, sym, subst, _∙_}
 use mathlib.Core.Bool.{Bool, true, false, not, _&&_, _||_}
-use mathlib.Core.List.{List, [], _∷_, _++_, append-nil, append-assoc}
+use mathlib.Core.List.{List, [], _∷_, _++_, append-assoc}
 use mathlib.Core.Option.{Option, none, some, Option·some-ne-none}
 use native.Mathlib.Omega.{arith}
-use borrow.Author.Tests.{eqb-true, eqb-false, eq-eqb, ne-eqb, ltb-true, ltb-false, lt-ltb}
+use borrow.Author.Tests.{eqb-true, eqb-false, ne-eqb, ltb-true, ltb-false, lt-ltb}
 use lib.Dec.{leb, ltb, eqb}
 use lib.ListN.{length, take, drop, getD}
 use Rattle.spec.specs.declared.Fields.{Fields}
-use Rattle.spec.specs.Base.{if_then_else_, has, joined, orZero, andThen, ascii}
+use Rattle.spec.specs.Base.{if_then_else_, has, orZero, andThen, ascii}
 use Rattle.spec.specs.Words.{fourAt}
 use Rattle.spec.specs.Kinds.{isLong}
 use Rattle.spec.specs.Names.{nameOf}
 use Rattle.spec.specs.Records.{Operand, narrow, wide, text, Placed}
 use Rattle.spec.specs.Check.{bitsIn, fieldIn, placedOf}
-use Rattle.spec.specs.Write.{hasTag}
-use Rattle.spec.specs.Disassembly.{idText, nameText, setOf, nameBy, extName, spaced, spacedBy, operandsText, resultText, typeText, instrText, operandText}
+use Rattle.spec.specs.Disassembly.{idText, nameText, setOf, nameBy, extName, spaced, spacedBy, operandsText, resultText, typeText, instrText}
 use Rattle.names.specs.declared.Named.{Named}
 use Rattle.names.specs.declared.Named.the-variants.{At, Nothing}
 use Rattle.names.specs.Find.{textFound, Inside}

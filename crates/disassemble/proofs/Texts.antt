@@ -3,7 +3,6 @@ use Prim.Native.Nat.{ℕ, zero, suc, _+_, _*_, _-_, _/_, _%_, _^_, _<_, _≤_}
 use mathlib.Core.Path.{_≡_, refl, ap, sym, subst, _∙_}
 use mathlib.Core.Bool.{Bool, true, false, not, _&&_, _||_}
 use mathlib.Core.List.{List, [], _∷_, _++_, append-nil, append-assoc}
-use mathlib.Core.Option.{Option, none, some}
 use native.Mathlib.Omega.{arith}
 use native.Mathlib.Nat.{mul-le-mul-right}
 use native.Mathlib.Numerals.{add-one}
@@ -12,11 +11,11 @@ use lib.Dec.{leb, eqb}
 use lib.ListN.{length, take, drop, getD, drop-of-length-le}
 use lib.Seq.{drop-cons}
 use Rattle.spec.specs.Base.{if_then_else_, joined, ascii}
-use Rattle.spec.specs.Words.{fourAt, long, bitsFrom, bitsOf}
+use Rattle.spec.specs.Words.{fourAt, bitsFrom, bitsOf}
 use Rattle.spec.specs.Digits.{decimal, hexDigits}
 use Rattle.spec.specs.Kinds.{isMask, isLong, isText}
 use Rattle.spec.specs.Names.{nameOf}
-use Rattle.spec.specs.Records.{Operand, narrow, wide, text}
+use Rattle.spec.specs.Records.{wide}
 use Rattle.spec.specs.Disassembly.{idText, hexText, byteText, stringText, orNothing, nameText, namesIn, setOfKind, barred, narrowText, operandText, spaced}
 use Rattle.spec.proofs.Choice.{left, right}
 use Rattle.names.specs.declared.Named.{Named}

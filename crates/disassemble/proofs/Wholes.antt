@@ -1,12 +1,12 @@
 -- Laws of the whole text: header, lines in module order, measured and written.
-use Prim.Native.Nat.{ℕ, zero, suc, _+_, _*_, _-_, _<_, _≤_, min}
+use Prim.Native.Nat.{ℕ, zero, suc, _+_, _*_, _-_, _<_, _≤_}
 use mathlib.Core.Path.{_≡_, refl, ap, sym, subst, _∙_}
 use mathlib.Core.Bool.{Bool, true, false}
 use mathlib.Core.List.{List, [], _∷_, _++_, append-nil, append-assoc}
 use native.Mathlib.Omega.{arith}
 use borrow.Author.Tests.{lt-ltb, le-ltb}
 use lib.Dec.{ltb}
-use lib.ListN.{length, drop, getD, length-append}
+use lib.ListN.{length, getD, length-append}
 use lib.Seq.{sets}
 use Rattle.spec.specs.declared.Fields.{Fields}
 use Rattle.spec.specs.declared.Written.{Written}
@@ -15,7 +15,7 @@ use Rattle.spec.specs.Words.{major, minor}
 use Rattle.spec.specs.Digits.{decimal}
 use Rattle.spec.specs.Records.{Placed, recordSize}
 use Rattle.spec.specs.Load.{laidOver}
-use Rattle.spec.specs.Write.{moduleOrder, Writing, unwritten, putOr}
+use Rattle.spec.specs.Write.{moduleOrder, Writing, unwritten}
 use Rattle.spec.specs.Disassembly.{headerText, instrText, linesText, moduleText}
 use Rattle.operand.specs.Log.{kept}
 use Rattle.records.specs.declared.Checked.{Checked as Answer}

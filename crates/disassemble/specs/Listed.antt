@@ -1,9 +1,9 @@
 -- Records read by their places, their names, imports and module order, as the code goes through them.
 use Prim.Native.Nat.{ℕ, zero, suc, _+_, _*_, _-_, _<_, _≤_}
 use mathlib.Core.Path.{_≡_}
-use mathlib.Core.Bool.{Bool, true, false, _&&_}
+use mathlib.Core.Bool.{_&&_}
 use mathlib.Core.List.{List, [], _∷_, _++_}
-use mathlib.Core.Option.{Option, none, some}
+use mathlib.Core.Option.{Option, none}
 use lib.Dec.{ltb, eqb}
 use lib.ListN.{length, drop}
 use Rattle.spec.specs.Base.{if_then_else_}

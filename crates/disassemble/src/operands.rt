@@ -4,7 +4,7 @@ ghost use mathlib.Core.Bool.{true, false};
 ghost use Prim.Native.Nat.{_<_};
 ghost use lib.ListN.{getD};
 ghost use Rattle.spec.specs.Words.{bitsOf};
-ghost use Rattle.spec.specs.Disassembly.{hexText, byteText, stringText, nameText, namesIn, setOfKind, barred, narrowText, operandText, spaced};
+ghost use Rattle.spec.specs.Disassembly.{byteText, stringText, nameText, namesIn, setOfKind, barred, narrowText, operandText, spaced};
 ghost use Rattle.names.specs.Run.{Indexed};
 ghost use Rattle.operand.specs.Parts.{isTwo};
 ghost use Rattle.records.specs.Good.{Whole, operandAt};

@@ -1,7 +1,7 @@
 // Pieces of text, each kept in the output at a place or only measured: the leaves that test the flag.
 ghost use mathlib.Core.Path.{_≡_};
 ghost use mathlib.Core.List.{_∷_, []};
-ghost use Prim.Native.Nat.{_<_, _≤_};
+ghost use Prim.Native.Nat.{_<_};
 ghost use lib.ListN.{length};
 ghost use Rattle.spec.specs.Digits.{decimal, hexDigits};
 ghost use Rattle.spec.specs.Digits.{hexDigit as hexDigitOf};

@@ -1,6 +1,6 @@
 -- `disassemble::imports::import_of` meets its contract.
 -- Assumes nothing.
-use mathlib.Core.Path.{_≡_, refl, ap, sym, _∙_}
+use mathlib.Core.Path.{ap}
 use Rattle.operand.specs.Parts.{isTwo}
 use Rattle.disassemble.proofs.Sets.{import-other, import-not, import-readable, import-nameless, import-name}
 use Rattle.disassemble.proofs.Texts.{text-inside}

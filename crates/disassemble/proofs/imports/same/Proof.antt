@@ -1,6 +1,6 @@
 -- `disassemble::imports::same` meets its contract.
 -- Assumes nothing.
-use mathlib.Core.Path.{_≡_, refl, ap, sym, _∙_}
+use mathlib.Core.Path.{_≡_, refl}
 use Prim.Native.Nat.{_-_}
 use lib.ListN.{length, drop}
 use Rattle.spec.specs.Disassembly.{same}

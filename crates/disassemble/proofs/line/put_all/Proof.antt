@@ -1,6 +1,6 @@
 -- `disassemble::line::put_all` meets its contract.
 -- Assumes nothing.
-use mathlib.Core.Path.{_≡_, refl, ap, sym, _∙_}
+use mathlib.Core.Path.{sym}
 use Rattle.disassemble.proofs.Put.{room-first, room-next, wrote-both, wrote-as, room-as}
 use Rattle.disassemble.proofs.Texts.{name-inside}
 use Rattle.disassemble.proofs.Lines.{operands-none, named-pieces, named-first, named-rest, named-third, two-inside}

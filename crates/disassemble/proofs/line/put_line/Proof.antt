@@ -1,6 +1,6 @@
 -- `disassemble::line::put_line` meets its contract.
 -- Assumes nothing.
-use mathlib.Core.Path.{_≡_, refl, ap, sym, _∙_}
+use mathlib.Core.Path.{sym, _∙_}
 use Rattle.disassemble.proofs.Put.{room-first, room-next, wrote-both, wrote-as, room-as}
 use Rattle.disassemble.proofs.Lines.{line-is}
 use borrow.Author.Needs.{needs}

@@ -1,6 +1,6 @@
 -- `disassemble::line::put_result` meets its contract.
 -- Assumes nothing.
-use mathlib.Core.Path.{_≡_, refl, ap, sym, _∙_}
+use mathlib.Core.Path.{sym}
 use Rattle.disassemble.proofs.Put.{wrote-none, room-first, room-next, wrote-both, wrote-as, room-as}
 use Rattle.disassemble.proofs.Lines.{result-yes, result-no}
 use borrow.Author.Needs.{needs}

@@ -1,6 +1,6 @@
 -- `disassemble::named::narrow_named` meets its contract.
 -- Assumes nothing.
-use mathlib.Core.Path.{_≡_, refl, ap, sym, _∙_}
+use mathlib.Core.Path.{ap, sym, _∙_}
 use Prim.Native.Nat.{ℕ}
 use mathlib.Core.Bool.{true}
 use Rattle.spec.specs.Names.{nameOf}

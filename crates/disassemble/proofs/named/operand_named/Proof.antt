@@ -1,6 +1,6 @@
 -- `disassemble::named::operand_named` meets its contract.
 -- Assumes nothing.
-use mathlib.Core.Path.{_≡_, refl, ap, sym, _∙_}
+use mathlib.Core.Path.{sym, _∙_}
 use Rattle.disassemble.proofs.Judged.{two-named, one-named}
 use borrow.Author.Needs.{needs}
 use native.Mathlib.Omega.{arith}

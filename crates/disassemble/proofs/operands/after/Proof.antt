@@ -1,6 +1,6 @@
 -- `disassemble::operands::after` meets its contract: five bytes, or nine.
 -- Assumes nothing.
-use mathlib.Core.Path.{_≡_, refl, ap, sym, _∙_}
+use mathlib.Core.Path.{sym, _∙_}
 use Rattle.assemble.proofs.Spell.{after-two, after-one}
 use borrow.Author.Needs.{needs}
 use native.Mathlib.Omega.{arith}

@@ -1,6 +1,6 @@
 -- `disassemble::operands::has_bits` meets its contract.
 -- Assumes nothing.
-use mathlib.Core.Path.{_≡_, refl, ap, sym, _∙_}
+use mathlib.Core.Path.{ap}
 use mathlib.Core.Bool.{Bool, not, _&&_}
 use lib.Dec.{eqb}
 use Rattle.disassemble.specs.Putting.{hasBits}

@@ -1,6 +1,6 @@
 -- `disassemble::operands::put_bits` meets its contract: the lowest bit that is left, and its half.
 -- Assumes nothing.
-use mathlib.Core.Path.{_≡_, refl, ap, sym, _∙_}
+use mathlib.Core.Path.{refl}
 use Rattle.disassemble.proofs.Put.{going-length, going-room, going-ends}
 use Rattle.disassemble.proofs.Masks.{Masking, masking-starts, masking-on}
 use Rattle.disassemble.proofs.Texts.{bits-near, bits-more, bits-end}

@@ -1,6 +1,6 @@
 -- `disassemble::operands::put_name` meets its contract: the text that is found, or none.
 -- Assumes nothing.
-use mathlib.Core.Path.{_≡_, refl, ap, sym, _∙_}
+use mathlib.Core.Path.{sym}
 use Rattle.disassemble.proofs.Put.{wrote-none, wrote-as, room-as}
 use Rattle.disassemble.proofs.Texts.{name-found, name-none, name-inside}
 use borrow.Author.Needs.{needs}

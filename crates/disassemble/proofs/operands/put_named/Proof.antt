@@ -1,6 +1,6 @@
 -- `disassemble::operands::put_named` meets its contract: by its bits or by its value.
 -- Assumes nothing.
-use mathlib.Core.Path.{_≡_, refl, ap, sym, _∙_}
+use mathlib.Core.Path.{sym, _∙_}
 use Rattle.disassemble.proofs.Put.{wrote-as, room-as}
 use Rattle.disassemble.proofs.Texts.{named-bits, value-text}
 use borrow.Author.Needs.{needs}

@@ -1,6 +1,6 @@
 -- `disassemble::operands::put_narrow` meets its contract: by its kind.
 -- Assumes nothing.
-use mathlib.Core.Path.{_≡_, refl, ap, sym, _∙_}
+use mathlib.Core.Path.{sym}
 use Rattle.disassemble.proofs.Put.{room-first, room-next, wrote-both, wrote-as, room-as}
 use Rattle.disassemble.proofs.Texts.{narrow-id, narrow-number, narrow-float, narrow-name}
 use borrow.Author.Needs.{needs}

@@ -1,6 +1,6 @@
 -- `disassemble::operands::put_operand` meets its contract: by whether its kind has two words.
 -- Assumes nothing.
-use mathlib.Core.Path.{_≡_, refl, ap, sym, _∙_}
+use mathlib.Core.Path.{sym, _∙_}
 use Rattle.disassemble.proofs.Put.{wrote-as, room-as}
 use Rattle.disassemble.proofs.Texts.{one-text}
 use borrow.Author.Needs.{needs}

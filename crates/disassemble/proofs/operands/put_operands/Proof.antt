@@ -1,7 +1,6 @@
 -- `disassemble::operands::put_operands` meets its contract: a blank and an operand at a time.
 -- Assumes nothing.
-use mathlib.Core.Path.{_≡_, refl, ap, sym, _∙_}
-use mathlib.Core.List.{List, [], _∷_, _++_}
+use mathlib.Core.List.{[], _∷_}
 use Rattle.spec.specs.Disassembly.{operandText}
 use Rattle.records.specs.Good.{operandAt}
 use Rattle.disassemble.proofs.Put.{room-first, room-next, wrote-both, going-length, going-room, going-ends}

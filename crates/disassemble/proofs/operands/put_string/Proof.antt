@@ -1,6 +1,6 @@
 -- `disassemble::operands::put_string` meets its contract: a quote, each byte, a quote.
 -- Assumes nothing.
-use mathlib.Core.Path.{_≡_, refl, ap, sym, _∙_}
+use mathlib.Core.Path.{refl, sym, _∙_}
 use Prim.Native.Nat.{_-_}
 use lib.ListN.{length, drop}
 use Rattle.disassemble.proofs.Put.{room-first, room-next, wrote-both, wrote-as, room-as, Going, going-starts, going-length, going-room, going-on, going-ends}

@@ -1,6 +1,6 @@
 -- `disassemble::operands::put_string_byte` meets its contract: by the tests of a byte.
 -- Assumes nothing.
-use mathlib.Core.Path.{_≡_, refl, ap, sym, _∙_}
+use mathlib.Core.Path.{sym}
 use Rattle.disassemble.proofs.Put.{room-first, room-next, wrote-both, wrote-as, room-as}
 use Rattle.disassemble.proofs.Texts.{byte-marked, byte-plain, byte-hex}
 use borrow.Author.Needs.{needs}

@@ -1,6 +1,6 @@
 -- `disassemble::operands::put_two` meets its contract: a string, or a literal.
 -- Assumes nothing.
-use mathlib.Core.Path.{_≡_, refl, ap, sym, _∙_}
+use mathlib.Core.Path.{sym}
 use Rattle.disassemble.proofs.Put.{room-first, room-next, wrote-both, wrote-as, room-as}
 use Rattle.disassemble.proofs.Texts.{string-text, long-text, double-text, text-inside}
 use borrow.Author.Needs.{needs}

@@ -1,6 +1,6 @@
 -- `disassemble::order::first_tagged` meets its contract.
 -- Assumes nothing.
-use mathlib.Core.Path.{_≡_, refl, ap, sym, _∙_}
+use mathlib.Core.Path.{_≡_, refl}
 use Prim.Native.Nat.{_-_}
 use lib.ListN.{drop}
 use Rattle.assemble.specs.Placing.{instrsOf, tagged}

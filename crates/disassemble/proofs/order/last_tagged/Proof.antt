@@ -1,6 +1,6 @@
 -- `disassemble::order::last_tagged` meets its contract.
 -- Assumes nothing.
-use mathlib.Core.Path.{_≡_, refl, ap, sym, _∙_}
+use mathlib.Core.Path.{_≡_}
 use Prim.Native.Nat.{_≤_}
 use mathlib.Core.List.{[]}
 use lib.ListN.{drop}

@@ -1,6 +1,6 @@
 -- `disassemble::order::next_section` meets its contract.
 -- Assumes nothing.
-use mathlib.Core.Path.{_≡_, refl, ap, sym, _∙_}
+use mathlib.Core.Path.{_≡_, _∙_}
 use Prim.Native.Nat.{_-_}
 use Rattle.assemble.specs.Placing.{instrsOf}
 use Rattle.disassemble.specs.Listed.{sectionsLeft}

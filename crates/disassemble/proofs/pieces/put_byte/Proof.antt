@@ -1,6 +1,6 @@
 -- `disassemble::pieces::put_byte` meets its contract: stored where it is kept.
 -- Assumes nothing.
-use mathlib.Core.Path.{_≡_, refl, ap, sym, _∙_}
+use mathlib.Core.Path.{refl}
 use Rattle.disassemble.proofs.Put.{wrote-yes, wrote-no}
 use borrow.Author.Needs.{needs}
 use native.Mathlib.Omega.{arith}

@@ -1,6 +1,6 @@
 -- `disassemble::pieces::put_id` meets its contract.
 -- Assumes nothing.
-use mathlib.Core.List.{List, [], _∷_, _++_}
+use mathlib.Core.List.{[], _∷_}
 use Rattle.spec.specs.Digits.{decimal}
 use Rattle.spec.specs.Disassembly.{idText}
 use Rattle.disassemble.proofs.Put.{room-first, room-next, wrote-both}

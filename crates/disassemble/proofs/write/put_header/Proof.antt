@@ -1,6 +1,6 @@
 -- `disassemble::write::put_header` meets its contract.
 -- Assumes nothing.
-use mathlib.Core.Path.{_≡_, refl, ap, sym, _∙_}
+use mathlib.Core.Path.{sym}
 use Rattle.disassemble.proofs.Put.{room-first, room-next, wrote-both, wrote-as, room-as}
 use Rattle.disassemble.proofs.Wholes.{header-is}
 use borrow.Author.Needs.{needs}

@@ -1,6 +1,5 @@
 -- `disassemble::write::put_lines` meets its contract.
 -- Assumes nothing.
-use mathlib.Core.Path.{_≡_, refl, ap, sym, _∙_}
 use lib.ListN.{length}
 use Rattle.spec.specs.Write.{moduleOrder}
 use Rattle.spec.specs.Disassembly.{linesText}
