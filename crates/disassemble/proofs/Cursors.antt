@@ -113,11 +113,6 @@ last-none is count t i h e =
 pub follows-as : (is : List Placed) (count : ℕ) (x y : List Placed) (r : Next) → x ≡ y → Follows is count y r → Follows is count x r
 follows-as is count x y r e h = subst (λ (z : List Placed). Follows is count z r) (sym e) h
 
--- the next, and what is left after it
-pub follows-at : (is : List Placed) (count i : ℕ) (c : Cursor) (x : List Placed) → i < count → x ≡ oneAt is i ++ leftOf c is → Follows is count x (next.At i c)
-unfolding Follows
-follows-at is count i c x h e = (h, e)
-
 -- the end
 pub follows-end : (is : List Placed) (count : ℕ) (x : List Placed) → x ≡ [] → Follows is count x next.End
 unfolding Follows

@@ -19,28 +19,53 @@ abbrev μ-loop : tie.MeasureT-loop
 μ-loop instructions log strings count end id i₀ i = i
 
 loop-holds : tie.Need-loop-holds Inv-loop μ-loop
-loop-holds c = (omega arith, set-start _ _ _ _ (c .before .before .before .pre .0) _ _ (c .before .before .before .pre .1 .0) (c .before .before .before .pre .1 .1))
+loop-holds c =
+    let at-start = c .before .before .before in
+    (omega arith, set-start _ _ _ _ (at-start .pre .0) _ _ (at-start .pre .1 .0) (at-start .pre .1 .1))
 
 sub-i : tie.Need-sub-i Inv-loop μ-loop
 sub-i c = omega (arith, c .loop-test .taken)
 
 record-at-requires : tie.Need-record-at-requires Inv-loop μ-loop
-record-at-requires c κs = stores-in _ _ _ _ (c .before .before .before .before .before .pre .0) _ (under (c .loop-test .taken) (c .before .loop .inv .0) (c .before .before .before .before .before .pre .1 .0))
+record-at-requires c κs =
+    let at-start = c .before .before .before .before .before in
+    let at-loop = c .before in
+    stores-in _ _ _ _ (at-start .pre .0) _ (under (c .loop-test .taken) (at-loop .loop .inv .0) (at-start .pre .1 .0))
 
 import-of-requires : tie.Need-import-of-requires Inv-loop μ-loop
-import-of-requires c κs = (stores-at _ _ _ _ (c .before .before .before .before .before .before .pre .0) _ (under (c .before .loop-test .taken) (c .before .before .loop .inv .0) (c .before .before .before .before .before .before .pre .1 .0)) _ (c .record-at .ensures)) .sound .operands
+import-of-requires c κs =
+    let at-start = c .before .before .before .before .before .before in
+    let at-loop-test = c .before in
+    let at-loop = c .before .before in
+    (stores-at _ _ _ _ (at-start .pre .0) _ (under (at-loop-test .loop-test .taken) (at-loop .loop .inv .0) (at-start .pre .1 .0)) _ (c .record-at .ensures)) .sound .operands
 
 returns : tie.Need-returns Inv-loop μ-loop
-returns c = set-hit (stores-at _ _ _ _ (c .before .before .before .before .before .before .before .before .pre .0) _ (under (c .before .before .before .loop-test .taken) (c .before .before .before .before .loop .inv .0) (c .before .before .before .before .before .before .before .before .pre .1 .0)) _ (c .before .before .record-at .ensures)) _ _ (set-up _ _ _ (c .before .before .before .loop-test .taken) (c .before .before .before .before .loop .inv .1)) (c .before .import-of .ensures) (c .if1 .taken)
+returns c =
+    let at-start = c .before .before .before .before .before .before .before .before in
+    let at-loop-test = c .before .before .before in
+    let at-loop = c .before .before .before .before in
+    let at-record-at = c .before .before in
+    let at-import-of = c .before in
+    set-hit (stores-at _ _ _ _ (at-start .pre .0) _ (under (at-loop-test .loop-test .taken) (at-loop .loop .inv .0) (at-start .pre .1 .0)) _ (at-record-at .record-at .ensures)) _ _ (set-up _ _ _ (at-loop-test .loop-test .taken) (at-loop .loop .inv .1)) (at-import-of .import-of .ensures) (c .if1 .taken)
 
 loop-less : tie.Need-loop-less Inv-loop μ-loop
-loop-less c = omega (arith, c .before .before .before .loop-test .taken)
+loop-less c =
+    let at-loop-test = c .before .before .before in
+    omega (arith, at-loop-test .loop-test .taken)
 
 loop-again : tie.Need-loop-again Inv-loop μ-loop
-loop-again c = (omega (arith, c .before .before .before .before .loop .inv .0), set-miss (stores-at _ _ _ _ (c .before .before .before .before .before .before .before .before .pre .0) _ (under (c .before .before .before .loop-test .taken) (c .before .before .before .before .loop .inv .0) (c .before .before .before .before .before .before .before .before .pre .1 .0)) _ (c .before .before .record-at .ensures)) _ _ (set-up _ _ _ (c .before .before .before .loop-test .taken) (c .before .before .before .before .loop .inv .1)) (c .before .import-of .ensures) (c .if1 .left))
+loop-again c =
+    let at-loop = c .before .before .before .before in
+    let at-start = c .before .before .before .before .before .before .before .before in
+    let at-loop-test = c .before .before .before in
+    let at-record-at = c .before .before in
+    let at-import-of = c .before in
+    (omega (arith, at-loop .loop .inv .0), set-miss (stores-at _ _ _ _ (at-start .pre .0) _ (under (at-loop-test .loop-test .taken) (at-loop .loop .inv .0) (at-start .pre .1 .0)) _ (at-record-at .record-at .ensures)) _ _ (set-up _ _ _ (at-loop-test .loop-test .taken) (at-loop .loop .inv .1)) (at-import-of .import-of .ensures) (c .if1 .left))
 
 returns-2 : tie.Need-returns-2 Inv-loop μ-loop
-returns-2 c = set-nothing _ _ _ (c .loop-test .left) (c .before .loop .inv .1)
+returns-2 c =
+    let at-loop = c .before in
+    set-nothing _ _ _ (c .loop-test .left) (at-loop .loop .inv .1)
 
 pub set-of-spec : {M : Type 1} → statement M
 set-of-spec = tie.close (tie.spec Inv-loop μ-loop loop-holds sub-i record-at-requires import-of-requires returns loop-less loop-again returns-2)

@@ -9,19 +9,31 @@ use Rattle.disassemble.proofs.line.put_result.Statement.{statement}
 use Rattle.disassemble.proofs.line.put_result.Tie as tie
 
 put-id-requires : tie.Need-put-id-requires
-put-id-requires c κs = room-first _ _ (room-as _ _ (result-yes _ _ (c .before .if1 .taken)) (c .before .before .before .pre))
+put-id-requires c κs =
+    let at-if1 = c .before in
+    let at-start = c .before .before .before in
+    room-first _ _ (room-as _ _ (result-yes _ _ (at-if1 .if1 .taken)) (at-start .pre))
 
 slice-aggregate-put-bytes : tie.Need-slice-aggregate-put-bytes
 slice-aggregate-put-bytes c = search needs
 
 put-bytes-requires : tie.Need-put-bytes-requires
-put-bytes-requires c κs = room-next _ _ (room-as _ _ (result-yes _ _ (c .before .before .before .before .before .before .if1 .taken)) (c .before .before .before .before .before .before .before .before .pre)) (c .before .before .before .before .put-id .ensures)
+put-bytes-requires c κs =
+    let at-if1 = c .before .before .before .before .before .before in
+    let at-start = c .before .before .before .before .before .before .before .before in
+    let at-put-id = c .before .before .before .before in
+    room-next _ _ (room-as _ _ (result-yes _ _ (at-if1 .if1 .taken)) (at-start .pre)) (at-put-id .put-id .ensures)
 
 same-length : tie.Need-same-length
 same-length c = search needs
 
 returns : tie.Need-returns
-returns c = wrote-as _ _ (sym (result-yes _ _ (c .before .before .before .before .before .before .before .before .before .if1 .taken))) (wrote-both _ _ (room-as _ _ (result-yes _ _ (c .before .before .before .before .before .before .before .before .before .if1 .taken)) (c .before .before .before .before .before .before .before .before .before .before .before .pre)) (c .before .before .before .before .before .before .before .put-id .ensures) (c .before .before .put-bytes .ensures))
+returns c =
+    let at-if1 = c .before .before .before .before .before .before .before .before .before in
+    let at-start = c .before .before .before .before .before .before .before .before .before .before .before in
+    let at-put-id = c .before .before .before .before .before .before .before in
+    let at-put-bytes = c .before .before in
+    wrote-as _ _ (sym (result-yes _ _ (at-if1 .if1 .taken))) (wrote-both _ _ (room-as _ _ (result-yes _ _ (at-if1 .if1 .taken)) (at-start .pre)) (at-put-id .put-id .ensures) (at-put-bytes .put-bytes .ensures))
 
 returns-2 : tie.Need-returns-2
 returns-2 c = wrote-as _ _ (result-no _ _ (c .if1 .left)) (wrote-none _ _ _ (omega arith))

@@ -5,10 +5,14 @@ use Rattle.disassemble.proofs.named.bit_named.Statement.{statement}
 use Rattle.disassemble.proofs.named.bit_named.Tie as tie
 
 has-name-requires : tie.Need-has-name-requires
-has-name-requires c κs = c .before .before .before .pre
+has-name-requires c κs =
+    let at-start = c .before .before .before in
+    at-start .pre
 
 returns : tie.Need-returns
-returns c = bit-set _ _ _ _ (c .before .if1 .taken) (c .has-name .ensures)
+returns c =
+    let at-if1 = c .before in
+    bit-set _ _ _ _ (at-if1 .if1 .taken) (c .has-name .ensures)
 
 returns-2 : tie.Need-returns-2
 returns-2 c = bit-clear _ _ _ (c .if1 .left)

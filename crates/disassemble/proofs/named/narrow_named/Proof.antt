@@ -17,19 +17,33 @@ has-bits-requires : tie.Need-has-bits-requires
 has-bits-requires c κs = search needs
 
 bits-named-requires : tie.Need-bits-named-requires
-bits-named-requires c κs = c .before .before .before .before .before .pre
+bits-named-requires c κs =
+    let at-start = c .before .before .before .before .before in
+    at-start .pre
 
 returns-2 : tie.Need-returns-2
-returns-2 c = narrow-bits _ _ _ (c .before .before .before .if1 .left) (sym (c .before .before .has-bits .ensures) ∙ c .before .if2 .taken) (c .bits-named .ensures)
+returns-2 c =
+    let at-if1 = c .before .before .before in
+    let at-has-bits = c .before .before in
+    let at-if2 = c .before in
+    narrow-bits _ _ _ (at-if1 .if1 .left) (sym (at-has-bits .has-bits .ensures) ∙ at-if2 .if2 .taken) (c .bits-named .ensures)
 
 set-of-kind-requires : tie.Need-set-of-kind-requires
 set-of-kind-requires c κs = search needs
 
 has-name-requires : tie.Need-has-name-requires
-has-name-requires c κs = c .before .before .before .before .before .before .pre
+has-name-requires c κs =
+    let at-start = c .before .before .before .before .before .before in
+    at-start .pre
 
 returns-3 : tie.Need-returns-3
-returns-3 c = narrow-value _ _ _ (c .before .before .before .before .if1 .left) (sym (c .before .before .before .has-bits .ensures) ∙ c .before .before .if2 .left) (c .has-name .ensures ∙ ap (λ (s : ℕ). isThere (nameOf s (c .before .before .before .before .before .before .before .args .value))) (c .before .set-of-kind .ensures))
+returns-3 c =
+    let at-if1 = c .before .before .before .before in
+    let at-has-bits = c .before .before .before in
+    let at-if2 = c .before .before in
+    let at-start = c .before .before .before .before .before .before .before in
+    let at-set-of-kind = c .before in
+    narrow-value _ _ _ (at-if1 .if1 .left) (sym (at-has-bits .has-bits .ensures) ∙ at-if2 .if2 .left) (c .has-name .ensures ∙ ap (λ (s : ℕ). isThere (nameOf s (at-start .args .value))) (at-set-of-kind .set-of-kind .ensures))
 
 pub narrow-named-spec : {M : Type 1} → statement M
 narrow-named-spec = tie.close (tie.spec returns has-bits-requires bits-named-requires returns-2 set-of-kind-requires has-name-requires returns-3)

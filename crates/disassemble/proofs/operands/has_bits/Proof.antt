@@ -13,7 +13,9 @@ is-mask-requires c κs = search needs
 
 returns : tie.Need-returns
 unfolding hasBits
-returns c = ap (λ (m : Bool). m && not (eqb (c .before .args .value) 0)) (c .is-mask .ensures)
+returns c =
+    let at-start = c .before in
+    ap (λ (m : Bool). m && not (eqb (at-start .args .value) 0)) (c .is-mask .ensures)
 
 pub has-bits-spec : {M : Type 1} → statement M
 has-bits-spec = tie.close (tie.spec is-mask-requires returns)

@@ -11,25 +11,43 @@ has-bits-requires : tie.Need-has-bits-requires
 has-bits-requires c κs = search needs
 
 put-bits-requires : tie.Need-put-bits-requires
-put-bits-requires c κs = (c .before .before .before .before .before .before .pre .0, room-as _ _ (sym (named-bits _ _ (sym (c .before .before .has-bits .ensures) ∙ c .before .if1 .taken))) (c .before .before .before .before .before .before .pre .1))
+put-bits-requires c κs =
+    let at-start = c .before .before .before .before .before .before in
+    let at-has-bits = c .before .before in
+    let at-if1 = c .before in
+    (at-start .pre .0, room-as _ _ (sym (named-bits _ _ (sym (at-has-bits .has-bits .ensures) ∙ at-if1 .if1 .taken))) (at-start .pre .1))
 
 same-length : tie.Need-same-length
 same-length c = search needs
 
 returns : tie.Need-returns
-returns c = wrote-as _ _ (named-bits _ _ (sym (c .before .before .before .before .before .has-bits .ensures) ∙ c .before .before .before .before .if1 .taken)) (c .before .before .put-bits .ensures)
+returns c =
+    let at-has-bits = c .before .before .before .before .before in
+    let at-if1 = c .before .before .before .before in
+    let at-put-bits = c .before .before in
+    wrote-as _ _ (named-bits _ _ (sym (at-has-bits .has-bits .ensures) ∙ at-if1 .if1 .taken)) (at-put-bits .put-bits .ensures)
 
 set-of-kind-requires : tie.Need-set-of-kind-requires
 set-of-kind-requires c κs = search needs
 
 put-name-requires : tie.Need-put-name-requires
-put-name-requires c κs = (c .before .before .before .before .before .before .before .pre .0, room-as _ _ (sym (value-text _ _ _ (c .before .set-of-kind .ensures) (sym (c .before .before .before .has-bits .ensures) ∙ c .before .before .if1 .left))) (c .before .before .before .before .before .before .before .pre .1))
+put-name-requires c κs =
+    let at-start = c .before .before .before .before .before .before .before in
+    let at-set-of-kind = c .before in
+    let at-has-bits = c .before .before .before in
+    let at-if1 = c .before .before in
+    (at-start .pre .0, room-as _ _ (sym (value-text _ _ _ (at-set-of-kind .set-of-kind .ensures) (sym (at-has-bits .has-bits .ensures) ∙ at-if1 .if1 .left))) (at-start .pre .1))
 
 same-length-2 : tie.Need-same-length-2
 same-length-2 c = search needs
 
 returns-2 : tie.Need-returns-2
-returns-2 c = wrote-as _ _ (value-text _ _ _ (c .before .before .before .before .set-of-kind .ensures) (sym (c .before .before .before .before .before .before .has-bits .ensures) ∙ c .before .before .before .before .before .if1 .left)) (c .before .before .put-name .ensures)
+returns-2 c =
+    let at-set-of-kind = c .before .before .before .before in
+    let at-has-bits = c .before .before .before .before .before .before in
+    let at-if1 = c .before .before .before .before .before in
+    let at-put-name = c .before .before in
+    wrote-as _ _ (value-text _ _ _ (at-set-of-kind .set-of-kind .ensures) (sym (at-has-bits .has-bits .ensures) ∙ at-if1 .if1 .left)) (at-put-name .put-name .ensures)
 
 pub put-named-spec : {M : Type 1} → statement M
 put-named-spec = tie.close (tie.spec has-bits-requires put-bits-requires same-length returns set-of-kind-requires put-name-requires same-length-2 returns-2)

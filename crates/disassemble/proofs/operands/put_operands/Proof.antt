@@ -17,31 +17,59 @@ abbrev μ-loop : tie.MeasureT-loop
 μ-loop run index log strings first count out₀ start keep a₀ left₀ at₀ out a left at = left
 
 loop-holds : tie.Need-loop-holds Inv-loop μ-loop
-loop-holds c = spacing-starts _ _ _ _ _ _ _ (omega arith) (c .before .before .before .before .before .pre .1 .0) (c .before .before .before .before .before .pre .1 .1)
+loop-holds c =
+    let at-start = c .before .before .before .before .before in
+    spacing-starts _ _ _ _ _ _ _ (omega arith) (at-start .pre .1 .0) (at-start .pre .1 .1)
 
 put-byte-requires : tie.Need-put-byte-requires Inv-loop μ-loop
-put-byte-requires c κs = room-first (32 ∷ []) (operandText (operandAt (c .before .before .before .before .before .before .before .before .args .log .now) (c .before .before .before .before .before .before .before .before .args .strings .now) (c .before .before .loop .a))) (going-room (c .before .before .loop .inv .going) _ _ (spaced-more _ _ _ _ (c .before .loop-test .taken)))
+put-byte-requires c κs =
+    let at-start = c .before .before .before .before .before .before .before .before in
+    let at-loop = c .before .before in
+    let at-loop-test = c .before in
+    room-first (32 ∷ []) (operandText (operandAt (at-start .args .log .now) (at-start .args .strings .now) (at-loop .loop .a))) (going-room (at-loop .loop .inv .going) _ _ (spaced-more _ _ _ _ (at-loop-test .loop-test .taken)))
 
 put-operand-requires : tie.Need-put-operand-requires Inv-loop μ-loop
-put-operand-requires c κs = (c .before .before .before .before .before .before .before .before .before .before .before .before .pre .0, (readable-more _ _ _ _ (c .before .before .before .before .before .loop-test .taken) (c .before .before .before .before .before .before .loop .inv .readable) .0, room-next (32 ∷ []) (operandText (operandAt (c .before .before .before .before .before .before .before .before .before .before .before .before .args .log .now) (c .before .before .before .before .before .before .before .before .before .before .before .before .args .strings .now) (c .before .before .before .before .before .before .loop .a))) (going-room (c .before .before .before .before .before .before .loop .inv .going) _ _ (spaced-more _ _ _ _ (c .before .before .before .before .before .loop-test .taken))) (c .before .before .before .put-byte .ensures)))
+put-operand-requires c κs =
+    let at-start = c .before .before .before .before .before .before .before .before .before .before .before .before in
+    let at-loop-test = c .before .before .before .before .before in
+    let at-loop = c .before .before .before .before .before .before in
+    let at-put-byte = c .before .before .before in
+    (at-start .pre .0, (readable-more _ _ _ _ (at-loop-test .loop-test .taken) (at-loop .loop .inv .readable) .0, room-next (32 ∷ []) (operandText (operandAt (at-start .args .log .now) (at-start .args .strings .now) (at-loop .loop .a))) (going-room (at-loop .loop .inv .going) _ _ (spaced-more _ _ _ _ (at-loop-test .loop-test .taken))) (at-put-byte .put-byte .ensures)))
 
 after-requires : tie.Need-after-requires Inv-loop μ-loop
-after-requires c κs = readable-more _ _ _ _ (c .before .before .before .before .before .before .before .before .loop-test .taken) (c .before .before .before .before .before .before .before .before .before .loop .inv .readable) .0 .whole
+after-requires c κs =
+    let at-loop-test = c .before .before .before .before .before .before .before .before in
+    let at-loop = c .before .before .before .before .before .before .before .before .before in
+    readable-more _ _ _ _ (at-loop-test .loop-test .taken) (at-loop .loop .inv .readable) .0 .whole
 
 sub-left : tie.Need-sub-left Inv-loop μ-loop
-sub-left c = omega (arith, c .before .before .before .before .before .before .before .before .before .loop-test .taken)
+sub-left c =
+    let at-loop-test = c .before .before .before .before .before .before .before .before .before in
+    omega (arith, at-loop-test .loop-test .taken)
 
 loop-less : tie.Need-loop-less Inv-loop μ-loop
-loop-less c = omega (arith, c .before .before .before .before .before .before .before .before .before .loop-test .taken)
+loop-less c =
+    let at-loop-test = c .before .before .before .before .before .before .before .before .before in
+    omega (arith, at-loop-test .loop-test .taken)
 
 loop-again : tie.Need-loop-again Inv-loop μ-loop
-loop-again c = spacing-on (c .before .before .before .before .before .before .before .before .before .before .loop .inv) (c .before .before .before .before .before .before .before .before .before .loop-test .taken) _ (c .after .ensures) (wrote-both (32 ∷ []) (operandText (operandAt (c .before .before .before .before .before .before .before .before .before .before .before .before .before .before .before .before .args .log .now) (c .before .before .before .before .before .before .before .before .before .before .before .before .before .before .before .before .args .strings .now) (c .before .before .before .before .before .before .before .before .before .before .loop .a))) (going-room (c .before .before .before .before .before .before .before .before .before .before .loop .inv .going) _ _ (spaced-more _ _ _ _ (c .before .before .before .before .before .before .before .before .before .loop-test .taken))) (c .before .before .before .before .before .before .before .put-byte .ensures) (c .before .before .before .put-operand .ensures))
+loop-again c =
+    let at-loop = c .before .before .before .before .before .before .before .before .before .before in
+    let at-loop-test = c .before .before .before .before .before .before .before .before .before in
+    let at-start = c .before .before .before .before .before .before .before .before .before .before .before .before .before .before .before .before in
+    let at-put-byte = c .before .before .before .before .before .before .before in
+    let at-put-operand = c .before .before .before in
+    spacing-on (at-loop .loop .inv) (at-loop-test .loop-test .taken) _ (c .after .ensures) (wrote-both (32 ∷ []) (operandText (operandAt (at-start .args .log .now) (at-start .args .strings .now) (at-loop .loop .a))) (going-room (at-loop .loop .inv .going) _ _ (spaced-more _ _ _ _ (at-loop-test .loop-test .taken))) (at-put-byte .put-byte .ensures) (at-put-operand .put-operand .ensures))
 
 same-length : tie.Need-same-length Inv-loop μ-loop
-same-length c = going-length (c .before .loop .inv .going)
+same-length c =
+    let at-loop = c .before in
+    going-length (at-loop .loop .inv .going)
 
 returns : tie.Need-returns Inv-loop μ-loop
-returns c = going-ends (c .before .loop .inv .going) (spaced-none _ _ _ _ (c .loop-test .left))
+returns c =
+    let at-loop = c .before in
+    going-ends (at-loop .loop .inv .going) (spaced-none _ _ _ _ (c .loop-test .left))
 
 pub put-operands-spec : {M : Type 1} → statement M
 put-operands-spec = tie.close (tie.spec Inv-loop μ-loop loop-holds put-byte-requires put-operand-requires after-requires sub-left loop-less loop-again same-length returns)

@@ -5,16 +5,24 @@ use Rattle.disassemble.proofs.order.in_section.Statement.{statement}
 use Rattle.disassemble.proofs.order.in_section.Tie as tie
 
 last-tagged-requires : tie.Need-last-tagged-requires
-last-tagged-requires c κs = c .before .before .before .before .pre
+last-tagged-requires c κs =
+    let at-start = c .before .before .before .before in
+    at-start .pre
 
 returns : tie.Need-returns
-returns c = in-last _ _ _ _ _ (c .before .if1 .taken) (c .last-tagged .ensures)
+returns c =
+    let at-if1 = c .before in
+    in-last _ _ _ _ _ (at-if1 .if1 .taken) (c .last-tagged .ensures)
 
 first-tagged-requires : tie.Need-first-tagged-requires
-first-tagged-requires c κs = c .before .before .before .before .pre
+first-tagged-requires c κs =
+    let at-start = c .before .before .before .before in
+    at-start .pre
 
 returns-2 : tie.Need-returns-2
-returns-2 c = in-first _ _ _ _ _ (c .before .if1 .left) (c .first-tagged .ensures)
+returns-2 c =
+    let at-if1 = c .before in
+    in-first _ _ _ _ _ (at-if1 .if1 .left) (c .first-tagged .ensures)
 
 pub in-section-spec : {M : Type 1} → statement M
 in-section-spec = tie.close (tie.spec last-tagged-requires returns first-tagged-requires returns-2)

@@ -18,31 +18,54 @@ abbrev μ-loop : tie.MeasureT-loop
 μ-loop instructions log strings count tag i₀ i = i
 
 loop-holds : tie.Need-loop-holds Inv-loop μ-loop
-loop-holds c = last-starts _ _ _ _ (c .before .before .before .pre) _
+loop-holds c =
+    let at-start = c .before .before .before in
+    last-starts _ _ _ _ (at-start .pre) _
 
 sub-record-at : tie.Need-sub-record-at Inv-loop μ-loop
 sub-record-at c = omega (arith, c .loop-test .taken)
 
 record-at-requires : tie.Need-record-at-requires Inv-loop μ-loop
-record-at-requires c κs = stores-in _ _ _ _ (c .before .before .before .before .before .pre) _ (below (c .loop-test .taken) (c .before .loop .inv .0))
+record-at-requires c κs =
+    let at-start = c .before .before .before .before .before in
+    let at-loop = c .before in
+    stores-in _ _ _ _ (at-start .pre) _ (below (c .loop-test .taken) (at-loop .loop .inv .0))
 
 sub-result : tie.Need-sub-result Inv-loop μ-loop
-sub-result c = omega (arith, c .before .before .before .loop-test .taken)
+sub-result c =
+    let at-loop-test = c .before .before .before in
+    omega (arith, at-loop-test .loop-test .taken)
 
 returns : tie.Need-returns Inv-loop μ-loop
-returns c = last-yes (stores-at _ _ _ _ (c .before .before .before .before .before .before .before .before .pre) _ (below (c .before .before .before .loop-test .taken) (c .before .before .before .before .loop .inv .0)) _ (c .before .before .record-at .ensures)) _ (below (c .before .before .before .loop-test .taken) (c .before .before .before .before .loop .inv .0)) (up _ _ _ (c .before .before .before .loop-test .taken) (c .before .before .before .before .loop .inv .1)) (c .if1 .taken)
+returns c =
+    let at-start = c .before .before .before .before .before .before .before .before in
+    let at-loop-test = c .before .before .before in
+    let at-loop = c .before .before .before .before in
+    let at-record-at = c .before .before in
+    last-yes (stores-at _ _ _ _ (at-start .pre) _ (below (at-loop-test .loop-test .taken) (at-loop .loop .inv .0)) _ (at-record-at .record-at .ensures)) _ (below (at-loop-test .loop-test .taken) (at-loop .loop .inv .0)) (up _ _ _ (at-loop-test .loop-test .taken) (at-loop .loop .inv .1)) (c .if1 .taken)
 
 sub-i : tie.Need-sub-i Inv-loop μ-loop
-sub-i c = omega (arith, c .before .before .before .loop-test .taken)
+sub-i c =
+    let at-loop-test = c .before .before .before in
+    omega (arith, at-loop-test .loop-test .taken)
 
 loop-less : tie.Need-loop-less Inv-loop μ-loop
-loop-less c = omega (arith, c .before .before .before .loop-test .taken)
+loop-less c =
+    let at-loop-test = c .before .before .before in
+    omega (arith, at-loop-test .loop-test .taken)
 
 loop-again : tie.Need-loop-again Inv-loop μ-loop
-loop-again c = (omega (arith, c .before .before .before .before .loop .inv .0), last-no (stores-at _ _ _ _ (c .before .before .before .before .before .before .before .before .pre) _ (below (c .before .before .before .loop-test .taken) (c .before .before .before .before .loop .inv .0)) _ (c .before .before .record-at .ensures)) _ (up _ _ _ (c .before .before .before .loop-test .taken) (c .before .before .before .before .loop .inv .1)) (c .if1 .left))
+loop-again c =
+    let at-loop = c .before .before .before .before in
+    let at-start = c .before .before .before .before .before .before .before .before in
+    let at-loop-test = c .before .before .before in
+    let at-record-at = c .before .before in
+    (omega (arith, at-loop .loop .inv .0), last-no (stores-at _ _ _ _ (at-start .pre) _ (below (at-loop-test .loop-test .taken) (at-loop .loop .inv .0)) _ (at-record-at .record-at .ensures)) _ (up _ _ _ (at-loop-test .loop-test .taken) (at-loop .loop .inv .1)) (c .if1 .left))
 
 returns-2 : tie.Need-returns-2 Inv-loop μ-loop
-returns-2 c = last-none _ _ _ _ (c .loop-test .left) (c .before .loop .inv .1)
+returns-2 c =
+    let at-loop = c .before in
+    last-none _ _ _ _ (c .loop-test .left) (at-loop .loop .inv .1)
 
 pub last-tagged-spec : {M : Type 1} → statement M
 last-tagged-spec = tie.close (tie.spec Inv-loop μ-loop loop-holds sub-record-at record-at-requires sub-result returns sub-i loop-less loop-again returns-2)

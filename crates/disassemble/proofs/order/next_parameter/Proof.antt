@@ -20,34 +20,64 @@ loop-holds : tie.Need-loop-holds Inv-loop μ-loop
 loop-holds c = refl
 
 record-at-requires : tie.Need-record-at-requires Inv-loop μ-loop
-record-at-requires c κs = stores-in _ _ _ _ (c .before .before .before .before .before .pre) _ (c .loop-test .taken)
+record-at-requires c κs =
+    let at-start = c .before .before .before .before .before in
+    stores-in _ _ _ _ (at-start .pre) _ (c .loop-test .taken)
 
 next-function-requires : tie.Need-next-function-requires Inv-loop μ-loop
-next-function-requires c κs = c .before .before .before .before .before .before .before .before .pre
+next-function-requires c κs =
+    let at-start = c .before .before .before .before .before .before .before .before in
+    at-start .pre
 
 returns : tie.Need-returns Inv-loop μ-loop
-returns c = follows-as _ _ _ _ _ (parameter-end (stores-at _ _ _ _ (c .before .before .before .before .before .before .before .before .before .pre) _ (c .before .before .before .before .loop-test .taken) _ (c .before .before .before .record-at .ensures)) _ _ (c .before .before .before .before .before .loop .inv) (c .before .if1 .taken)) (c .next-function .ensures)
+returns c =
+    let at-start = c .before .before .before .before .before .before .before .before .before in
+    let at-loop-test = c .before .before .before .before in
+    let at-record-at = c .before .before .before in
+    let at-loop = c .before .before .before .before .before in
+    let at-if1 = c .before in
+    follows-as _ _ _ _ _ (parameter-end (stores-at _ _ _ _ (at-start .pre) _ (at-loop-test .loop-test .taken) _ (at-record-at .record-at .ensures)) _ _ (at-loop .loop .inv) (at-if1 .if1 .taken)) (c .next-function .ensures)
 
 add-t10 : tie.Need-add-t10 Inv-loop μ-loop
 add-t10 c = omega arith
 
 returns-2 : tie.Need-returns-2 Inv-loop μ-loop
-returns-2 c = parameter-yes (stores-at _ _ _ _ (c .before .before .before .before .before .before .before .before .before .before .pre) _ (c .before .before .before .before .before .loop-test .taken) _ (c .before .before .before .before .record-at .ensures)) _ _ (c .before .before .before .before .before .before .loop .inv) (c .before .before .if1 .left) (c .before .before .before .before .before .loop-test .taken) (c .if2 .taken)
+returns-2 c =
+    let at-start = c .before .before .before .before .before .before .before .before .before .before in
+    let at-loop-test = c .before .before .before .before .before in
+    let at-record-at = c .before .before .before .before in
+    let at-loop = c .before .before .before .before .before .before in
+    let at-if1 = c .before .before in
+    parameter-yes (stores-at _ _ _ _ (at-start .pre) _ (at-loop-test .loop-test .taken) _ (at-record-at .record-at .ensures)) _ _ (at-loop .loop .inv) (at-if1 .if1 .left) (at-loop-test .loop-test .taken) (c .if2 .taken)
 
 add-i : tie.Need-add-i Inv-loop μ-loop
 add-i c = omega arith
 
 loop-less : tie.Need-loop-less Inv-loop μ-loop
-loop-less c = omega (arith, c .before .before .before .before .before .loop-test .taken)
+loop-less c =
+    let at-loop-test = c .before .before .before .before .before in
+    omega (arith, at-loop-test .loop-test .taken)
 
 loop-again : tie.Need-loop-again Inv-loop μ-loop
-loop-again c = parameter-no (stores-at _ _ _ _ (c .before .before .before .before .before .before .before .before .before .before .pre) _ (c .before .before .before .before .before .loop-test .taken) _ (c .before .before .before .before .record-at .ensures)) _ _ (c .before .before .before .before .before .before .loop .inv) (c .before .before .if1 .left) (c .if2 .left)
+loop-again c =
+    let at-start = c .before .before .before .before .before .before .before .before .before .before in
+    let at-loop-test = c .before .before .before .before .before in
+    let at-record-at = c .before .before .before .before in
+    let at-loop = c .before .before .before .before .before .before in
+    let at-if1 = c .before .before in
+    parameter-no (stores-at _ _ _ _ (at-start .pre) _ (at-loop-test .loop-test .taken) _ (at-record-at .record-at .ensures)) _ _ (at-loop .loop .inv) (at-if1 .if1 .left) (c .if2 .left)
 
 next-function-requires-2 : tie.Need-next-function-requires-2 Inv-loop μ-loop
-next-function-requires-2 c κs = c .before .before .before .before .before .pre
+next-function-requires-2 c κs =
+    let at-start = c .before .before .before .before .before in
+    at-start .pre
 
 returns-3 : tie.Need-returns-3 Inv-loop μ-loop
-returns-3 c = follows-as _ _ _ _ _ (parameter-past _ _ _ _ (c .before .before .before .before .before .before .pre) _ _ _ (c .before .loop-test .left) (c .before .before .loop .inv)) (c .next-function2 .ensures)
+returns-3 c =
+    let at-start = c .before .before .before .before .before .before in
+    let at-loop-test = c .before in
+    let at-loop = c .before .before in
+    follows-as _ _ _ _ _ (parameter-past _ _ _ _ (at-start .pre) _ _ _ (at-loop-test .loop-test .left) (at-loop .loop .inv)) (c .next-function2 .ensures)
 
 pub next-parameter-spec : {M : Type 1} → statement M
 next-parameter-spec = tie.close (tie.spec Inv-loop μ-loop loop-holds record-at-requires next-function-requires returns add-t10 returns-2 add-i loop-less loop-again next-function-requires-2 returns-3)

@@ -45,7 +45,9 @@ put-hex-sub-put-hex : (t : ℕ) → put-hex-lts.Need-sub-put-hex (
   put-byte-reads.Asked,
   put-byte-reads.Learnt,
 ) (put-hex-at t) put-hex.Post
-put-hex-sub-put-hex t c = omega (arith, c .before .if1 .left)
+put-hex-sub-put-hex t c =
+    let at-if1 = c .before in
+    omega (arith, at-if1 .if1 .left)
 
 -- src/pieces.rt:80:9
 put-hex-put-hex-requires : (t : ℕ) → put-hex-lts.Need-put-hex-requires (
@@ -56,7 +58,10 @@ put-hex-put-hex-requires : (t : ℕ) → put-hex-lts.Need-put-hex-requires (
   put-byte-reads.Asked,
   put-byte-reads.Learnt,
 ) (put-hex-at t) put-hex.Post
-put-hex-put-hex-requires t c κs = (omega (arith, c .before .before .before .pre .0, c .before .if1 .left), room-first _ _ (room-as _ _ (hex-more _ _ (c .before .if1 .left)) (c .before .before .before .pre .1)))
+put-hex-put-hex-requires t c κs =
+    let at-start = c .before .before .before in
+    let at-if1 = c .before in
+    (omega (arith, at-start .pre .0, at-if1 .if1 .left), room-first _ _ (room-as _ _ (hex-more _ _ (at-if1 .if1 .left)) (at-start .pre .1)))
 
 -- src/pieces.rt:81:34
 put-hex-cast-hex-digit : (t : ℕ) → put-hex-lts.Need-cast-hex-digit (
@@ -89,7 +94,11 @@ put-hex-put-byte-requires : (t : ℕ) → put-hex-lts.Need-put-byte-requires (
   put-byte-reads.Asked,
   put-byte-reads.Learnt,
 ) (put-hex-at t) put-hex.Post
-put-hex-put-byte-requires t c κs = room-as _ _ (ap (λ (d : ℕ). d ∷ []) (sym (c .hex-digit .ensures))) (room-next _ _ (room-as _ _ (hex-more _ _ (c .before .before .before .before .before .before .if1 .left)) (c .before .before .before .before .before .before .before .before .pre .1)) (c .before .before .before .before .put-hex .ensures))
+put-hex-put-byte-requires t c κs =
+    let at-if1 = c .before .before .before .before .before .before in
+    let at-start = c .before .before .before .before .before .before .before .before in
+    let at-put-hex = c .before .before .before .before in
+    room-as _ _ (ap (λ (d : ℕ). d ∷ []) (sym (c .hex-digit .ensures))) (room-next _ _ (room-as _ _ (hex-more _ _ (at-if1 .if1 .left)) (at-start .pre .1)) (at-put-hex .put-hex .ensures))
 
 -- src/pieces.rt:73:1
 put-hex-same-length : (t : ℕ) → put-hex-lts.Need-same-length (
@@ -100,7 +109,10 @@ put-hex-same-length : (t : ℕ) → put-hex-lts.Need-same-length (
   put-byte-reads.Asked,
   put-byte-reads.Learnt,
 ) (put-hex-at t) put-hex.Post
-put-hex-same-length t c = c .before .before .put-byte .kept .0 ∙ c .before .before .before .before .before .before .before .put-hex .kept .0
+put-hex-same-length t c =
+    let at-put-byte = c .before .before in
+    let at-put-hex = c .before .before .before .before .before .before .before in
+    at-put-byte .put-byte .kept .0 ∙ at-put-hex .put-hex .kept .0
 
 -- src/pieces.rt:73:1
 put-hex-returns-2 : (t : ℕ) → put-hex-lts.Need-returns-2 (
@@ -111,7 +123,13 @@ put-hex-returns-2 : (t : ℕ) → put-hex-lts.Need-returns-2 (
   put-byte-reads.Asked,
   put-byte-reads.Learnt,
 ) (put-hex-at t) put-hex.Post
-put-hex-returns-2 t c = wrote-as _ _ (sym (hex-more _ _ (c .before .before .before .before .before .before .before .before .before .if1 .left))) (wrote-both _ _ (room-as _ _ (hex-more _ _ (c .before .before .before .before .before .before .before .before .before .if1 .left)) (c .before .before .before .before .before .before .before .before .before .before .before .pre .1)) (c .before .before .before .before .before .before .before .put-hex .ensures) (wrote-as _ _ (ap (λ (d : ℕ). d ∷ []) (c .before .before .before .hex-digit .ensures)) (c .before .before .put-byte .ensures)))
+put-hex-returns-2 t c =
+    let at-if1 = c .before .before .before .before .before .before .before .before .before in
+    let at-start = c .before .before .before .before .before .before .before .before .before .before .before in
+    let at-put-hex = c .before .before .before .before .before .before .before in
+    let at-hex-digit = c .before .before .before in
+    let at-put-byte = c .before .before in
+    wrote-as _ _ (sym (hex-more _ _ (at-if1 .if1 .left))) (wrote-both _ _ (room-as _ _ (hex-more _ _ (at-if1 .if1 .left)) (at-start .pre .1)) (at-put-hex .put-hex .ensures) (wrote-as _ _ (ap (λ (d : ℕ). d ∷ []) (at-hex-digit .hex-digit .ensures)) (at-put-byte .put-byte .ensures)))
 
 pub +put-hex-spec : {M : Type 1} → statement M
 +put-hex-spec = close μ-put-hex λ t. put-hex-lts.spec (

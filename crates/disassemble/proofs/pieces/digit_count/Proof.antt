@@ -15,16 +15,22 @@ loop-holds : tie.Need-loop-holds Inv-loop μ-loop
 loop-holds c = counting-starts _ (c .fits .v .fits)
 
 add-n : tie.Need-add-n Inv-loop μ-loop
-add-n c = omega (arith, counting-few (c .before .loop .inv))
+add-n c =
+    let at-loop = c .before in
+    omega (arith, counting-few (at-loop .loop .inv))
 
 loop-less : tie.Need-loop-less Inv-loop μ-loop
 loop-less c = omega (arith, c .loop-test .taken)
 
 loop-again : tie.Need-loop-again Inv-loop μ-loop
-loop-again c = counting-on (c .before .loop .inv) (c .loop-test .taken)
+loop-again c =
+    let at-loop = c .before in
+    counting-on (at-loop .loop .inv) (c .loop-test .taken)
 
 returns : tie.Need-returns Inv-loop μ-loop
-returns c = counting-ends (c .before .loop .inv) (c .loop-test .left)
+returns c =
+    let at-loop = c .before in
+    counting-ends (at-loop .loop .inv) (c .loop-test .left)
 
 pub digit-count-spec : {M : Type 1} → statement M
 digit-count-spec = tie.close (tie.spec Inv-loop μ-loop loop-holds add-n loop-less loop-again returns)

@@ -10,18 +10,27 @@ use Rattle.disassemble.proofs.pieces.put_id.Tie as tie
 
 put-byte-requires : tie.Need-put-byte-requires
 unfolding idText
-put-byte-requires c κs = room-first (37 ∷ []) (decimal _) (c .before .before .pre)
+put-byte-requires c κs =
+    let at-start = c .before .before in
+    room-first (37 ∷ []) (decimal _) (at-start .pre)
 
 put-number-requires : tie.Need-put-number-requires
 unfolding idText
-put-number-requires c κs = room-next (37 ∷ []) (decimal _) (c .before .before .before .before .before .before .pre) (c .before .before .before .put-byte .ensures)
+put-number-requires c κs =
+    let at-start = c .before .before .before .before .before .before in
+    let at-put-byte = c .before .before .before in
+    room-next (37 ∷ []) (decimal _) (at-start .pre) (at-put-byte .put-byte .ensures)
 
 same-length : tie.Need-same-length
 same-length c = search needs
 
 returns : tie.Need-returns
 unfolding idText
-returns c = wrote-both (37 ∷ []) (decimal _) (c .before .before .before .before .before .before .before .before .before .pre) (c .before .before .before .before .before .before .put-byte .ensures) (c .before .before .put-number .ensures)
+returns c =
+    let at-start = c .before .before .before .before .before .before .before .before .before in
+    let at-put-byte = c .before .before .before .before .before .before in
+    let at-put-number = c .before .before in
+    wrote-both (37 ∷ []) (decimal _) (at-start .pre) (at-put-byte .put-byte .ensures) (at-put-number .put-number .ensures)
 
 pub put-id-spec : {M : Type 1} → statement M
 put-id-spec = tie.close (tie.spec put-byte-requires put-number-requires same-length returns)

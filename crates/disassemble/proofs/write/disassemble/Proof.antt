@@ -26,10 +26,16 @@ at-most-requires-2 : tie.Need-at-most-requires-2
 at-most-requires-2 c κs = search needs
 
 slice-aggregate-log : tie.Need-slice-aggregate-log
-slice-aggregate-log c = most-length _ _ (c .before .before .before .before .before .before .before .before .before .before .before .args .log .now) (c .before .before .at-most .ensures)
+slice-aggregate-log c =
+    let at-start = c .before .before .before .before .before .before .before .before .before .before .before in
+    let at-at-most = c .before .before in
+    most-length _ _ (at-start .args .log .now) (at-at-most .at-most .ensures)
 
 slice-aggregate-strings : tie.Need-slice-aggregate-strings
-slice-aggregate-strings c = most-length _ _ (c .before .before .before .before .before .before .before .before .before .before .before .before .args .strings .now) (c .before .before .at-most2 .ensures)
+slice-aggregate-strings c =
+    let at-start = c .before .before .before .before .before .before .before .before .before .before .before .before in
+    let at-at-most2 = c .before .before in
+    most-length _ _ (at-start .args .strings .now) (at-at-most2 .at-most2 .ensures)
 
 slice-aggregate-named-count : tie.Need-slice-aggregate-named-count
 slice-aggregate-named-count c = search needs
@@ -38,7 +44,15 @@ slice-aggregate-named-count-2 : tie.Need-slice-aggregate-named-count-2
 slice-aggregate-named-count-2 c = search needs
 
 named-count-requires : tie.Need-named-count-requires
-named-count-requires c κs = (indexed-by _ _ (c .before .before .before .before .before .before .before .before .before .table .ensures) (c .before .before .before .before .before .before .before .before .prepared .ensures), call-told _ _ _ _ _ _ _ (c .before .before .before .before .before .before .before .check .ensures) _ _ (part-is (c .before .before .before .before .before .before .before .before .before .before .before .before .before .before .args .log .now) _ _ (c .before .before .before .before .before .at-most .ensures)) (part-is (c .before .before .before .before .before .before .before .before .before .before .before .before .before .before .args .strings .now) _ _ (c .before .before .before .before .at-most2 .ensures)) _ (c .before .before .before .before .before .before .before-bad .ensures))
+named-count-requires c κs =
+    let at-table = c .before .before .before .before .before .before .before .before .before in
+    let at-prepared = c .before .before .before .before .before .before .before .before in
+    let at-check = c .before .before .before .before .before .before .before in
+    let at-start = c .before .before .before .before .before .before .before .before .before .before .before .before .before .before in
+    let at-at-most = c .before .before .before .before .before in
+    let at-at-most2 = c .before .before .before .before in
+    let at-before-bad = c .before .before .before .before .before .before in
+    (indexed-by _ _ (at-table .table .ensures) (at-prepared .prepared .ensures), call-told _ _ _ _ _ _ _ (at-check .check .ensures) _ _ (part-is (at-start .args .log .now) _ _ (at-at-most .at-most .ensures)) (part-is (at-start .args .strings .now) _ _ (at-at-most2 .at-most2 .ensures)) _ (at-before-bad .before-bad .ensures))
 
 add-bad-record : tie.Need-add-bad-record
 add-bad-record c = omega (arith, c .if1 .taken)
@@ -47,7 +61,15 @@ bad-record-requires : tie.Need-bad-record-requires
 bad-record-requires c κs = search needs
 
 returns : tie.Need-returns
-returns c = call-unnamed _ _ _ _ _ _ _ (c .before .before .before .before .before .before .before .before .before .before .check .ensures) _ _ (part-is (c .before .before .before .before .before .before .before .before .before .before .before .before .before .before .before .before .before .args .log .now) _ _ (c .before .before .before .before .before .before .before .before .at-most .ensures)) (part-is (c .before .before .before .before .before .before .before .before .before .before .before .before .before .before .before .before .before .args .strings .now) _ _ (c .before .before .before .before .before .before .before .at-most2 .ensures)) _ (c .before .before .before .before .before .before .before .before .before .before-bad .ensures) _ (c .before .before .named-count .ensures) _ _ _ (c .before .if1 .taken) (c .bad-record .ensures)
+returns c =
+    let at-check = c .before .before .before .before .before .before .before .before .before .before in
+    let at-start = c .before .before .before .before .before .before .before .before .before .before .before .before .before .before .before .before .before in
+    let at-at-most = c .before .before .before .before .before .before .before .before in
+    let at-at-most2 = c .before .before .before .before .before .before .before in
+    let at-before-bad = c .before .before .before .before .before .before .before .before .before in
+    let at-named-count = c .before .before in
+    let at-if1 = c .before in
+    call-unnamed _ _ _ _ _ _ _ (at-check .check .ensures) _ _ (part-is (at-start .args .log .now) _ _ (at-at-most .at-most .ensures)) (part-is (at-start .args .strings .now) _ _ (at-at-most2 .at-most2 .ensures)) _ (at-before-bad .before-bad .ensures) _ (at-named-count .named-count .ensures) _ _ _ (at-if1 .if1 .taken) (c .bad-record .ensures)
 
 enum-known-checked : tie.Need-enum-known-checked
 enum-known-checked c = search needs
@@ -62,19 +84,47 @@ slice-aggregate-write-good-2 : tie.Need-slice-aggregate-write-good-2
 slice-aggregate-write-good-2 c = search needs
 
 write-good-requires : tie.Need-write-good-requires
-write-good-requires c κs = (indexed-by _ _ (c .before .before .before .before .before .before .before .before .before .before .before .before .before .before .before .before .table .ensures) (c .before .before .before .before .before .before .before .before .before .before .before .before .before .before .before .prepared .ensures), call-stores _ _ _ _ _ _ _ (c .before .before .before .before .before .before .before .before .before .before .before .before .before .before .check .ensures) _ _ (part-is (c .before .before .before .before .before .before .before .before .before .before .before .before .before .before .before .before .before .before .before .before .before .args .log .now) _ _ (c .before .before .before .before .before .before .before .before .before .before .before .before .at-most .ensures)) (part-is (c .before .before .before .before .before .before .before .before .before .before .before .before .before .before .before .before .before .before .before .before .before .args .strings .now) _ _ (c .before .before .before .before .before .before .before .before .before .before .before .at-most2 .ensures)) _ (c .before .before .before .before .before .before .before .before .before .before .before .before .before .before-bad .ensures) (c .before .before .before .enum-told .given .1))
+write-good-requires c κs =
+    let at-table = c .before .before .before .before .before .before .before .before .before .before .before .before .before .before .before .before in
+    let at-prepared = c .before .before .before .before .before .before .before .before .before .before .before .before .before .before .before in
+    let at-check = c .before .before .before .before .before .before .before .before .before .before .before .before .before .before in
+    let at-start = c .before .before .before .before .before .before .before .before .before .before .before .before .before .before .before .before .before .before .before .before .before in
+    let at-at-most = c .before .before .before .before .before .before .before .before .before .before .before .before in
+    let at-at-most2 = c .before .before .before .before .before .before .before .before .before .before .before in
+    let at-before-bad = c .before .before .before .before .before .before .before .before .before .before .before .before .before in
+    let at-enum-told = c .before .before .before in
+    (indexed-by _ _ (at-table .table .ensures) (at-prepared .prepared .ensures), call-stores _ _ _ _ _ _ _ (at-check .check .ensures) _ _ (part-is (at-start .args .log .now) _ _ (at-at-most .at-most .ensures)) (part-is (at-start .args .strings .now) _ _ (at-at-most2 .at-most2 .ensures)) _ (at-before-bad .before-bad .ensures) (at-enum-told .enum-told .given .1))
 
 same-length : tie.Need-same-length
 same-length c = search needs
 
 returns-2 : tie.Need-returns-2
-returns-2 c = call-good _ _ _ _ _ _ _ (c .before .before .before .before .before .before .before .before .before .before .before .before .before .before .before .before .before .check .ensures) _ _ (part-is (c .before .before .before .before .before .before .before .before .before .before .before .before .before .before .before .before .before .before .before .before .before .before .before .before .args .log .now) _ _ (c .before .before .before .before .before .before .before .before .before .before .before .before .before .before .before .at-most .ensures)) (part-is (c .before .before .before .before .before .before .before .before .before .before .before .before .before .before .before .before .before .before .before .before .before .before .before .before .args .strings .now) _ _ (c .before .before .before .before .before .before .before .before .before .before .before .before .before .before .at-most2 .ensures)) _ (c .before .before .before .before .before .before .before .before .before .before .before .before .before .before .before .before .before-bad .ensures) _ (c .before .before .before .before .before .before .before .before .before .named-count .ensures) _ _ _ _ (c .before .before .before .before .before .before .before .before .if1 .left) (c .before .before .before .before .before .before .enum-told .given .1) (c .before .before .write-good .ensures)
+returns-2 c =
+    let at-check = c .before .before .before .before .before .before .before .before .before .before .before .before .before .before .before .before .before in
+    let at-start = c .before .before .before .before .before .before .before .before .before .before .before .before .before .before .before .before .before .before .before .before .before .before .before .before in
+    let at-at-most = c .before .before .before .before .before .before .before .before .before .before .before .before .before .before .before in
+    let at-at-most2 = c .before .before .before .before .before .before .before .before .before .before .before .before .before .before in
+    let at-before-bad = c .before .before .before .before .before .before .before .before .before .before .before .before .before .before .before .before in
+    let at-named-count = c .before .before .before .before .before .before .before .before .before in
+    let at-if1 = c .before .before .before .before .before .before .before .before in
+    let at-enum-told = c .before .before .before .before .before .before in
+    let at-write-good = c .before .before in
+    call-good _ _ _ _ _ _ _ (at-check .check .ensures) _ _ (part-is (at-start .args .log .now) _ _ (at-at-most .at-most .ensures)) (part-is (at-start .args .strings .now) _ _ (at-at-most2 .at-most2 .ensures)) _ (at-before-bad .before-bad .ensures) _ (at-named-count .named-count .ensures) _ _ _ _ (at-if1 .if1 .left) (at-enum-told .enum-told .given .1) (at-write-good .write-good .ensures)
 
 bad-record-requires-2 : tie.Need-bad-record-requires-2
 bad-record-requires-2 c κs = search needs
 
 returns-3 : tie.Need-returns-3
-returns-3 c = call-bad _ _ _ _ _ _ _ (c .before .before .before .before .before .before .before .before .before .before .before .before .before .check .ensures) _ _ (part-is (c .before .before .before .before .before .before .before .before .before .before .before .before .before .before .before .before .before .before .before .before .args .log .now) _ _ (c .before .before .before .before .before .before .before .before .before .before .before .at-most .ensures)) (part-is (c .before .before .before .before .before .before .before .before .before .before .before .before .before .before .before .before .before .before .before .before .args .strings .now) _ _ (c .before .before .before .before .before .before .before .before .before .before .at-most2 .ensures)) _ (c .before .before .before .before .before .before .before .before .before .before .before .before .before-bad .ensures) _ (c .before .before .before .before .before .named-count .ensures) _ _ _ _ (c .before .before .before .before .if1 .left) (c .before .before .checked .given .1) (c .bad-record2 .ensures)
+returns-3 c =
+    let at-check = c .before .before .before .before .before .before .before .before .before .before .before .before .before in
+    let at-start = c .before .before .before .before .before .before .before .before .before .before .before .before .before .before .before .before .before .before .before .before in
+    let at-at-most = c .before .before .before .before .before .before .before .before .before .before .before in
+    let at-at-most2 = c .before .before .before .before .before .before .before .before .before .before in
+    let at-before-bad = c .before .before .before .before .before .before .before .before .before .before .before .before in
+    let at-named-count = c .before .before .before .before .before in
+    let at-if1 = c .before .before .before .before in
+    let at-checked = c .before .before in
+    call-bad _ _ _ _ _ _ _ (at-check .check .ensures) _ _ (part-is (at-start .args .log .now) _ _ (at-at-most .at-most .ensures)) (part-is (at-start .args .strings .now) _ _ (at-at-most2 .at-most2 .ensures)) _ (at-before-bad .before-bad .ensures) _ (at-named-count .named-count .ensures) _ _ _ _ (at-if1 .if1 .left) (at-checked .checked .given .1) (c .bad-record2 .ensures)
 
 pub disassemble-spec : {M : Type 1} → statement M
 disassemble-spec = tie.close (tie.spec table-requires prepared-requires check-requires before-bad-requires at-most-requires at-most-requires-2 slice-aggregate-log slice-aggregate-strings slice-aggregate-named-count slice-aggregate-named-count-2 named-count-requires add-bad-record bad-record-requires returns enum-known-checked enum-told slice-aggregate-write-good slice-aggregate-write-good-2 write-good-requires same-length returns-2 bad-record-requires-2 returns-3)

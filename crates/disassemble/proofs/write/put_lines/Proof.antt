@@ -20,10 +20,14 @@ abbrev μ-loop : tie.MeasureT-loop
 μ-loop run index instructions log strings asked out₀ start c₀ at₀ out c at = length (leftOf c (instrsOf instructions log strings (asked .count)))
 
 loop-holds : tie.Need-loop-holds Inv-loop μ-loop
-loop-holds c = lines-start _ _ _ _ (omega arith) (c .before .before .before .before .before .before .pre .1 .1 .1)
+loop-holds c =
+    let at-start = c .before .before .before .before .before .before in
+    lines-start _ _ _ _ (omega arith) (at-start .pre .1 .1 .1)
 
 advance-requires : tie.Need-advance-requires Inv-loop μ-loop
-advance-requires c κs = c .before .before .before .before .before .before .before .before .pre .1 .0
+advance-requires c κs =
+    let at-start = c .before .before .before .before .before .before .before .before in
+    at-start .pre .1 .0
 
 enum-known-step : tie.Need-enum-known-step Inv-loop μ-loop
 enum-known-step c = search needs
@@ -32,22 +36,49 @@ enum-told : tie.Need-enum-told Inv-loop μ-loop
 enum-told c = search needs
 
 same-length : tie.Need-same-length Inv-loop μ-loop
-same-length c = going-length (c .before .before .before .before .loop .inv)
+same-length c =
+    let at-loop = c .before .before .before .before in
+    going-length (at-loop .loop .inv)
 
 returns : tie.Need-returns Inv-loop μ-loop
-returns c = going-ends (c .before .before .before .before .loop .inv) (lines-end _ _ _ _ (c .before .before .advance .ensures) (c .enum-told .given .1))
+returns c =
+    let at-loop = c .before .before .before .before in
+    let at-advance = c .before .before in
+    going-ends (at-loop .loop .inv) (lines-end _ _ _ _ (at-advance .advance .ensures) (c .enum-told .given .1))
 
 record-at-requires : tie.Need-record-at-requires Inv-loop μ-loop
-record-at-requires c κs = stores-in _ _ _ _ (c .before .before .before .before .before .before .before .before .before .before .before .before .pre .1 .0) _ (next-told _ _ _ _ _ _ (c .before .before .before .advance .ensures) (c .before .step .given .1) .0)
+record-at-requires c κs =
+    let at-start = c .before .before .before .before .before .before .before .before .before .before .before .before in
+    let at-advance = c .before .before .before in
+    let at-step = c .before in
+    stores-in _ _ _ _ (at-start .pre .1 .0) _ (next-told _ _ _ _ _ _ (at-advance .advance .ensures) (at-step .step .given .1) .0)
 
 put-line-requires : tie.Need-put-line-requires Inv-loop μ-loop
-put-line-requires c κs = (c .before .before .before .before .before .before .before .before .before .before .before .before .before .before .pre .0, (c .before .before .before .before .before .before .before .before .before .before .before .before .before .before .pre .1 .0, (c .before .before .before .before .before .before .before .before .before .before .before .before .before .before .pre .1 .1 .0, ((stores-at _ _ _ _ (c .before .before .before .before .before .before .before .before .before .before .before .before .before .before .pre .1 .0) _ (next-told _ _ _ _ _ _ (c .before .before .before .before .before .advance .ensures) (c .before .before .before .step .given .1) .0) _ (c .before .record-at .ensures)) .sound .operands, going-room (c .before .before .before .before .before .before .before .loop .inv) _ _ (lines-more (stores-at _ _ _ _ (c .before .before .before .before .before .before .before .before .before .before .before .before .before .before .pre .1 .0) _ (next-told _ _ _ _ _ _ (c .before .before .before .before .before .advance .ensures) (c .before .before .before .step .given .1) .0) _ (c .before .record-at .ensures)) _ _ (next-told _ _ _ _ _ _ (c .before .before .before .before .before .advance .ensures) (c .before .before .before .step .given .1) .1))))))
+put-line-requires c κs =
+    let at-start = c .before .before .before .before .before .before .before .before .before .before .before .before .before .before in
+    let at-advance = c .before .before .before .before .before in
+    let at-step = c .before .before .before in
+    let at-record-at = c .before in
+    let at-loop = c .before .before .before .before .before .before .before in
+    (at-start .pre .0, (at-start .pre .1 .0, (at-start .pre .1 .1 .0, ((stores-at _ _ _ _ (at-start .pre .1 .0) _ (next-told _ _ _ _ _ _ (at-advance .advance .ensures) (at-step .step .given .1) .0) _ (at-record-at .record-at .ensures)) .sound .operands, going-room (at-loop .loop .inv) _ _ (lines-more (stores-at _ _ _ _ (at-start .pre .1 .0) _ (next-told _ _ _ _ _ _ (at-advance .advance .ensures) (at-step .step .given .1) .0) _ (at-record-at .record-at .ensures)) _ _ (next-told _ _ _ _ _ _ (at-advance .advance .ensures) (at-step .step .given .1) .1))))))
 
 loop-less : tie.Need-loop-less Inv-loop μ-loop
-loop-less c = lines-fewer (stores-at _ _ _ _ (c .before .before .before .before .before .before .before .before .before .before .before .before .before .before .before .before .before .pre .1 .0) _ (next-told _ _ _ _ _ _ (c .before .before .before .before .before .before .before .before .advance .ensures) (c .before .before .before .before .before .before .step .given .1) .0) _ (c .before .before .before .before .record-at .ensures)) _ _ (next-told _ _ _ _ _ _ (c .before .before .before .before .before .before .before .before .advance .ensures) (c .before .before .before .before .before .before .step .given .1) .1)
+loop-less c =
+    let at-start = c .before .before .before .before .before .before .before .before .before .before .before .before .before .before .before .before .before in
+    let at-advance = c .before .before .before .before .before .before .before .before in
+    let at-step = c .before .before .before .before .before .before in
+    let at-record-at = c .before .before .before .before in
+    lines-fewer (stores-at _ _ _ _ (at-start .pre .1 .0) _ (next-told _ _ _ _ _ _ (at-advance .advance .ensures) (at-step .step .given .1) .0) _ (at-record-at .record-at .ensures)) _ _ (next-told _ _ _ _ _ _ (at-advance .advance .ensures) (at-step .step .given .1) .1)
 
 loop-again : tie.Need-loop-again Inv-loop μ-loop
-loop-again c = going-on (c .before .before .before .before .before .before .before .before .before .before .loop .inv) _ _ (lines-more (stores-at _ _ _ _ (c .before .before .before .before .before .before .before .before .before .before .before .before .before .before .before .before .before .pre .1 .0) _ (next-told _ _ _ _ _ _ (c .before .before .before .before .before .before .before .before .advance .ensures) (c .before .before .before .before .before .before .step .given .1) .0) _ (c .before .before .before .before .record-at .ensures)) _ _ (next-told _ _ _ _ _ _ (c .before .before .before .before .before .before .before .before .advance .ensures) (c .before .before .before .before .before .before .step .given .1) .1)) (c .before .before .put-line .ensures)
+loop-again c =
+    let at-loop = c .before .before .before .before .before .before .before .before .before .before in
+    let at-start = c .before .before .before .before .before .before .before .before .before .before .before .before .before .before .before .before .before in
+    let at-advance = c .before .before .before .before .before .before .before .before in
+    let at-step = c .before .before .before .before .before .before in
+    let at-record-at = c .before .before .before .before in
+    let at-put-line = c .before .before in
+    going-on (at-loop .loop .inv) _ _ (lines-more (stores-at _ _ _ _ (at-start .pre .1 .0) _ (next-told _ _ _ _ _ _ (at-advance .advance .ensures) (at-step .step .given .1) .0) _ (at-record-at .record-at .ensures)) _ _ (next-told _ _ _ _ _ _ (at-advance .advance .ensures) (at-step .step .given .1) .1)) (at-put-line .put-line .ensures)
 
 same-length-2 : tie.Need-same-length-2 Inv-loop μ-loop
 same-length-2 c = never (c .loop-test .left)
