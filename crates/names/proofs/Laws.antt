@@ -1,6 +1,6 @@
 -- The names in their run: what stands at a place, that each name is at the place of its slot, and that each slot has a name's place.
 use mathlib.Core.Path.{_≡_, refl, sym, ap, _∙_}
-use mathlib.Core.Bool.{Bool, true, false, _&&_}
+use mathlib.Core.Bool.{Bool, true}
 use mathlib.Core.List.{List, [], _∷_, _++_}
 use mathlib.Core.Option.{Option, none, some}
 use Prim.Native.Nat.{ℕ, zero, suc, _+_, _-_, _/_, _%_, _≤_, _<_}
@@ -10,15 +10,15 @@ use borrow.Author.Tests.{eqb-true, eq-eqb}
 use lib.Dec.{eqb}
 use lib.ListN.{length, getD, take, drop, length-append, length-drop}
 use lib.Seq.{getD-drop, drop-drop, drop-at, take-append-seam}
-use Rattle.spec.specs.Base.{if_then_else_, joined, every}
-use Rattle.spec.specs.Words.{four, fourAt, bytesOf, front, frontOf}
+use Rattle.spec.specs.Base.{joined, every}
+use Rattle.spec.specs.Words.{four, fourAt, bytesOf, frontOf}
 use Rattle.spec.specs.NameTable.{Name, nameTable}
 use Rattle.spec.specs.Names.{isNameOf, named, nameOf}
 use Rattle.spec.proofs.Choice.{left, right, both, cases}
 use Rattle.words.proofs.Front.{front-got}
 use Rattle.names.specs.declared.Named.{Named}
 use Rattle.names.specs.declared.Named.the-variants.{At, Nothing}
-use Rattle.names.specs.Run.{nameBytes, nameRun, placeIn, slotted, placesFrom, hasPlace, placed, Indexed}
+use Rattle.names.specs.Run.{nameSize, nameBytes, nameRun, placeIn, slotted, placesFrom, hasPlace, placed, Indexed}
 use Rattle.names.specs.Find.{textFound, Inside}
 
 -- A NAME AT A PLACE
@@ -34,7 +34,7 @@ all-read = refl
 
 -- what is read at the place of a name
 record Has (run : List ℕ) (p : ℕ) (x : Name) : Type 0 where
-  pub inside : p + (6 + length (x .text)) ≤ length run
+  pub inside : p + nameSize x ≤ length run
   pub set : getD run p 0 ≡ x .set
   pub number : fourAt (p + 1) run ≡ x .number
   pub size : getD run (p + 5) 0 ≡ length (x .text)
@@ -46,13 +46,13 @@ module _ (run : List ℕ) (p : ℕ) (x : Name) (rest : List ℕ) (e : drop p run
   byte k = sym (getD-drop p run k 0) ∙ ap (λ (l : List ℕ). getD l k 0) e
 
   -- its bytes are in the run
-  room : p + (6 + length (x .text)) ≤ length run
+  room : p + nameSize x ≤ length run
   unfolding bytesOf
   room =
       let sized = sym (length-drop p run) ∙ ap length e in
       omega (arith, sized, length-append (x .text) rest)
 
-  -- the bytes that it begins with
+  -- what is read there
   has : isRead x ≡ true → Has run p x
   unfolding bytesOf frontOf
   has r =
@@ -72,12 +72,12 @@ module _ (run : List ℕ) (p : ℕ) (x : Name) (rest : List ℕ) (e : drop p run
 
 -- LOOKING UP AMONG NAMES
 
--- two tests of a name that hold
+-- the name of a number in a set has them
 name-told : (s n : ℕ) (x : Name) → isNameOf s n x ≡ true → (x .set ≡ s) × (x .number ≡ n)
 name-told s n x e =
     (eqb-true (x .set) s (left (eqb (x .set) s) (eqb (x .number) n) e), eqb-true (x .number) n (right (eqb (x .set) s) (eqb (x .number) n) e))
 
--- a text is there
+-- a text that is there is not none
 never : {A : Type 0} {t : List ℕ} → some t ≡ none → A
 never e = let z : _≡_ {A = ℕ} 0 1 = cc in absurd (omega arith)
 
@@ -97,11 +97,11 @@ record Listed (run : List ℕ) (p : ℕ) (xs : List Name) : Type 0 where
 
 module _ (run : List ℕ) where
   -- the run after a name
-  after : (at : ℕ) (x : Name) (xs : List Name) → drop at run ≡ joined nameBytes (x ∷ xs) → drop (at + (6 + length (x .text))) run ≡ joined nameBytes xs
+  after : (at : ℕ) (x : Name) (xs : List Name) → drop at run ≡ joined nameBytes (x ∷ xs) → drop (at + nameSize x) run ≡ joined nameBytes xs
   unfolding bytesOf
   after at x xs e =
-      let size : length (nameBytes x) ≡ 6 + length (x .text) = omega arith in
-      sym (drop-drop (6 + length (x .text)) at run) ∙ ap (drop (6 + length (x .text))) e ∙ drop-at (nameBytes x) (joined nameBytes xs) (6 + length (x .text)) size
+      let size : length (nameBytes x) ≡ nameSize x = omega arith in
+      sym (drop-drop (nameSize x) at run) ∙ ap (drop (nameSize x)) e ∙ drop-at (nameBytes x) (joined nameBytes xs) (nameSize x) size
 
   -- a name that is looked up stands where its slot says
   found : (index : List ℕ) (s n : ℕ) (t : List ℕ) (at : ℕ) (xs : List Name) → drop at run ≡ joined nameBytes xs → every isRead xs ≡ true → slotted index at xs ≡ true
@@ -110,15 +110,22 @@ module _ (run : List ℕ) where
   found index s n t at [] e r h f = let z : _≡_ {A = ℕ} 0 1 = cc in absurd (omega arith)
   found index s n t at (x ∷ xs) e r h f =
       cases (isNameOf s n x) this
-      (λ not. found index s n t (at + (6 + length (x .text))) xs (after at x xs e) (right (isRead x) (every isRead xs) r) (right (eqb (placeIn index (x .set) (x .number)) at) (slotted index (at + (6 + length (x .text))) xs) h) (rw not at f))
+      (λ not. found index s n t (at + nameSize x) xs (after at x xs e) (right (isRead x) (every isRead xs) r)
+      (right (eqb (placeIn index (x .set) (x .number)) at) (slotted index (at + nameSize x) xs) h) (rw not at f))
     where
       this : isNameOf s n x ≡ true → Found run (placeIn index s n) s n t
       this it =
           let told = name-told s n x it in
-          let here : placeIn index (x .set) (x .number) ≡ at = eqb-true _ at (left (eqb (placeIn index (x .set) (x .number)) at) (slotted index (at + (6 + length (x .text))) xs) h) in
+          let here : placeIn index (x .set) (x .number) ≡ at = eqb-true _ at (left (eqb (placeIn index (x .set) (x .number)) at) (slotted index (at + nameSize x) xs) h) in
           let place : at ≡ placeIn index s n = sym here ∙ rw (told .0, told .1) in
           let text : some (x .text) ≡ some t = rw it at f in
-          record { name = x; has = rw place at (has run at x (joined nameBytes xs) e (left (isRead x) (every isRead xs) r)); set = told .0; number = told .1; text = cc }
+          record {
+            name = x;
+            has = rw place at (has run at x (joined nameBytes xs) e (left (isRead x) (every isRead xs) r));
+            set = told .0;
+            number = told .1;
+            text = cc;
+          }
 
   -- a name stands at each place of a name
   standing : (p at : ℕ) (xs : List Name) → drop at run ≡ joined nameBytes xs → every isRead xs ≡ true → hasPlace p (placesFrom at xs) ≡ true → Listed run p xs
@@ -126,7 +133,7 @@ module _ (run : List ℕ) where
   standing p at [] e r h = let z : _≡_ {A = ℕ} 0 1 = cc in absurd (omega arith)
   standing p at (x ∷ xs) e r h =
       cases (eqb p at) this
-      (λ not. later (standing p (at + (6 + length (x .text))) xs (after at x xs e) (right (isRead x) (every isRead xs) r) (rw not at h)))
+      (λ not. later (standing p (at + nameSize x) xs (after at x xs e) (right (isRead x) (every isRead xs) r) (rw not at h)))
     where
       this : eqb p at ≡ true → Listed run p (x ∷ xs)
       this it =

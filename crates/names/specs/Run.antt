@@ -15,6 +15,10 @@ use Rattle.spec.specs.NameTable.{Name, nameTable}
 abbrev pub nameBytes : Name → List ℕ
 nameBytes x = x .set ∷ bytesOf (x .number) ++ (length (x .text) ∷ x .text)
 
+-- how many bytes those are
+abbrev pub nameSize : Name → ℕ
+nameSize x = 6 + length (x .text)
+
 -- the names as one run of bytes
 unfoldable pub nameRun : List ℕ
 nameRun = joined nameBytes nameTable
@@ -29,13 +33,13 @@ placeIn index s n = getD index (48 + (getD index s 0 + n) % 3021) 0
 unfoldable pub slotted : List ℕ → ℕ → List Name → Bool
 slotted index at [] = true
 slotted index at (x ∷ xs) =
-    let more = slotted index (at + (6 + length (x .text))) xs in
+    let more = slotted index (at + nameSize x) xs in
     eqb (placeIn index (x .set) (x .number)) at && more
 
 -- the places of names, of which the first stands at a place
 unfoldable pub placesFrom : ℕ → List Name → List ℕ
 placesFrom at [] = []
-placesFrom at (x ∷ xs) = at ∷ placesFrom (at + (6 + length (x .text))) xs
+placesFrom at (x ∷ xs) = at ∷ placesFrom (at + nameSize x) xs
 
 -- a test, or else another, which is looked at only then
 abbrev pub orElse : Bool → (Unit {0} → Bool) → Bool

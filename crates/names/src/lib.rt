@@ -38,7 +38,7 @@ fn wide(x: u16) -> usize
 }
 
 // A byte, as wide as a place.
-fn long(x: u8) -> usize
+fn wide_byte(x: u8) -> usize
     ensures { λ r. ⌜ (r ≡ x) × (r < 256) ⌝ }
 {
     x as usize
@@ -60,10 +60,11 @@ pub fn find(run: &[u8], index: &[u16], set: u8, number: u32) -> Named
     ensures { λ r. ⌜ Inside r (length (now (run .entry))) ⌝ }
 {
     let at = place_of(index, set, number);
+    let there = words::word_at(run, at + 1);
     if run[at] == set {
-        if words::word_at(run, at + 1) == number {
+        if there == number {
             let start = at + 6;
-            let end = start + long(run[at + 5]);
+            let end = start + wide_byte(run[at + 5]);
             return Named::At(start, end);
         }
     }
