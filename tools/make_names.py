@@ -165,7 +165,7 @@ def make_bytes(items):
 def make_code(items):
     """The file run.rt."""
     shown = ["".join(f"\\x{byte:02x}" for byte in key) + text for key, text in items]
-    return (CODE % (sum(len(key + text.encode("ascii")) for key, text in items), "\\\n".join(shown))).encode("utf-8")
+    return (CODE % (LENGTH, "\\\n".join(shown))).encode("utf-8")
 
 
 def make_shifts(sets):
