@@ -12,13 +12,13 @@ use Rattle.spec.specs.Base.{if_then_else_, only}
 use Rattle.spec.specs.Records.{Placed}
 use Rattle.spec.specs.Write.{hasTag, sectionOf, parametersIn, functions, moduleOrder}
 use Rattle.assemble.specs.Spelled.{saidBy}
-use Rattle.assemble.specs.Placing.{GoodStores, instrsOf, oneAt, tagged, lastTagged}
+use Rattle.assemble.specs.Placing.{GoodStores, instrsOf, oneAt, tagged}
 use Rattle.assemble.proofs.Stores.{At, one-is}
-use Rattle.assemble.proofs.Orders.{all-end, tagged-more, tagged-end, tagged-yes, tagged-no, sectionsFrom, sections-all, sections-more, sections-end, parameters-end, parameters-none, parameters-more, functions-more, part-definition, part-one, part-none, module-is}
+use Rattle.assemble.proofs.Orders.{all-end, tagged-more, tagged-yes, tagged-no, sectionsFrom, sections-all, sections-more, sections-end, parameters-end, parameters-none, parameters-more, functions-more, part-definition, part-one, part-none, module-is}
 use Rattle.disassemble.specs.declared.order.Cursor.{Cursor}
 use Rattle.disassemble.specs.declared.order.Next.{Next}
 use Rattle.disassemble.specs.declared.order.Next.the-variants as next
-use Rattle.disassemble.specs.Listed.{sectionFrom, sectionAfter, InSection, sectionsLeft, parametersLeft, leftOf, Follows}
+use Rattle.disassemble.specs.Listed.{lastTagged, sectionFrom, sectionAfter, InSection, sectionsLeft, parametersLeft, leftOf, Follows}
 
 -- A TAG
 
@@ -42,6 +42,11 @@ pub first-no : {ws log strings : List ℕ} {count i : ℕ} {f : Fields} (a : At 
 first-no {ws} {log} {strings} {count} {i} a t from e n =
     let is = instrsOf ws log strings count in
     e ∙ tagged-more t is i ∙ ap (λ (z : List Placed). z ++ tagged t (drop (i + 1) is)) (tagged-no a t n)
+
+-- none of none
+tagged-end : (t : ℕ) (is : List Placed) → is ≡ [] → tagged t is ≡ []
+unfolding tagged
+tagged-end t is e = ap (only (hasTag t)) e
 
 -- none
 pub first-none : (ws log strings : List ℕ) (count : ℕ) → GoodStores ws log strings count → (t from i : ℕ) → count ≤ i

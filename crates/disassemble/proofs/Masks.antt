@@ -8,7 +8,7 @@ use Rattle.spec.specs.Words.{bitsOf}
 use Rattle.spec.specs.Disassembly.{barred, operandText, spaced}
 use Rattle.records.specs.Good.{operandAt}
 use Rattle.assemble.specs.Spelled.{AllReadable, operandAfter, operandsFrom}
-use Rattle.assemble.specs.Placing.{largest}
+use Rattle.disassemble.specs.Putting.{largest}
 use Rattle.disassemble.specs.Putting.{Room, Wrote, bitText}
 use Rattle.disassemble.proofs.Put.{Going, going-starts, going-on}
 use Rattle.disassemble.proofs.Texts.{Bits, bits-start, bitsLeft, bits-more, bits-turn, spaced-more, readable-more}

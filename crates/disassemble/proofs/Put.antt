@@ -9,7 +9,7 @@ use lib.Seq.{sets}
 use Rattle.spec.proofs.Store.{sets-append}
 use Rattle.operand.specs.Log.{kept}
 use Rattle.operand.proofs.LogLaws.{kept-yes, kept-no, kept-nil, length-kept}
-use Rattle.assemble.specs.Placing.{largest}
+use Rattle.disassemble.specs.Putting.{largest}
 use Rattle.disassemble.specs.Putting.{Room, Wrote}
 
 -- nothing is written

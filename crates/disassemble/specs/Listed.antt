@@ -2,10 +2,10 @@
 use Prim.Native.Nat.{ℕ, zero, suc, _+_, _*_, _-_, _<_, _≤_}
 use mathlib.Core.Path.{_≡_}
 use mathlib.Core.Bool.{_&&_}
-use mathlib.Core.List.{List, [], _∷_, _++_}
+use mathlib.Core.List.{List, [], _∷_, _++_, reverse}
 use mathlib.Core.Option.{Option, none}
 use lib.Dec.{ltb, eqb}
-use lib.ListN.{length, drop}
+use lib.ListN.{length, take, drop}
 use Rattle.spec.specs.Base.{if_then_else_}
 use Rattle.spec.specs.Records.{Placed, recordSize, fieldsAt}
 use Rattle.spec.specs.Write.{hasTag, parametersIn, functions, Writing, putOr}
@@ -13,7 +13,7 @@ use Rattle.spec.specs.Disassembly.{isNamed, extName}
 use Rattle.records.specs.declared.Checked.{Checked as Answer}
 use Rattle.records.specs.declared.Checked.the-variants.{Good, Bad}
 use Rattle.assemble.specs.Spelled.{AllReadable, saidBy}
-use Rattle.assemble.specs.Placing.{oneAt, tagged, lastTagged}
+use Rattle.assemble.specs.Placing.{oneAt, tagged}
 use Rattle.assemble.proofs.Orders.{sectionsFrom}
 use Rattle.disassemble.specs.declared.order.Cursor.{Cursor}
 use Rattle.disassemble.specs.declared.order.Next.{Next}
@@ -58,6 +58,10 @@ unfoldable pub nameIn : List Placed → Placed → Option (List ℕ)
 nameIn is p = let name = extName is (p .instr .operands) in if eqb (p .instr .opcode) 12 && hasTag 15 p then name else none
 
 -- MODULE ORDER
+
+-- the last instruction with a tag
+unfoldable pub lastTagged : ℕ → List Placed → List Placed
+lastTagged t is = take 1 (reverse (tagged t is))
 
 -- what a section has from an index on; MemoryModel, which has one alone, has it whatever the index
 unfoldable pub sectionFrom : ℕ → ℕ → List Placed → List Placed

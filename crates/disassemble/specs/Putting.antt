@@ -11,7 +11,10 @@ use Rattle.spec.specs.Kinds.{isMask}
 use Rattle.spec.specs.Names.{nameOf}
 use Rattle.spec.specs.Disassembly.{idText, isThere, nameText, barred}
 use Rattle.operand.specs.Log.{kept}
-use Rattle.assemble.specs.Placing.{largest}
+
+-- the largest place
+abbrev pub largest : ℕ
+largest = 18446744073709551615
 
 -- an output has room at a place for a text, where it is kept
 pub record Room (keep : Bool) (out : List ℕ) (at : ℕ) (bs : List ℕ) : Type 0 where

@@ -5,9 +5,9 @@ ghost use Prim.Native.Nat.{_+_, _-_, _<_, _≤_};
 ghost use lib.ListN.{drop};
 ghost use Rattle.spec.specs.Records.{Placed};
 ghost use Rattle.spec.specs.Write.{functions};
-ghost use Rattle.assemble.specs.Placing.{GoodStores, instrsOf, oneAt, tagged, lastTagged};
+ghost use Rattle.assemble.specs.Placing.{GoodStores, instrsOf, oneAt, tagged};
 ghost use Rattle.assemble.proofs.Orders.{sectionsFrom};
-ghost use Rattle.disassemble.specs.Listed.{sectionAfter, InSection, sectionsLeft, parametersLeft, leftOf, Follows};
+ghost use Rattle.disassemble.specs.Listed.{lastTagged, sectionAfter, InSection, sectionsLeft, parametersLeft, leftOf, Follows};
 use records::record_at;
 use spec::tags;
 

@@ -1,13 +1,25 @@
 // Pieces of text, each kept in the output at a place or only measured: the leaves that test the flag.
 ghost use mathlib.Core.Path.{_≡_};
 ghost use mathlib.Core.List.{_∷_, []};
-ghost use Prim.Native.Nat.{_<_};
+ghost use Prim.Native.Nat.{_+_, _<_, min};
 ghost use lib.ListN.{length};
 ghost use Rattle.spec.specs.Digits.{decimal, hexDigits};
 ghost use Rattle.spec.specs.Digits.{hexDigit as hexDigitOf};
 ghost use Rattle.spec.specs.Disassembly.{idText};
-ghost use Rattle.disassemble.specs.Putting.{Room, Wrote};
-use assemble::further;
+ghost use Rattle.disassemble.specs.Putting.{largest, Room, Wrote};
+
+// The largest place.
+const LARGEST: usize = 18446744073709551615;
+
+// The place so many bytes further; the largest stands for all beyond it.
+fn further(at: usize, n: usize) -> usize
+    ensures { λ r. ⌜ r ≡ min (at + n) largest ⌝ }
+{
+    if LARGEST - at < n {
+        return LARGEST;
+    }
+    at + n
+}
 
 // A byte.
 pub fn put_byte(out: &mut [u8], at: usize, b: u8, keep: bool) -> usize
