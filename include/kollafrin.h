@@ -64,7 +64,8 @@ enum kollafrin_number {
     KOLLAFRIN_NO_ROOM_TYPES = 28,               /* No room in `types` for its type entry. Its instruction. */
     KOLLAFRIN_OUTPUT_SHORT = 29,                /* A writer's output is shorter than the bytes to write. */
     KOLLAFRIN_BAD_RECORDS = 30,                 /* The records break the store layout. Index: the first bad one, or count + 1. */
-    KOLLAFRIN_MODULE_TOO_LONG = 31              /* The module has more than 67,108,864 bytes. */
+    KOLLAFRIN_MODULE_TOO_LONG = 31,             /* The module has more than 67,108,864 bytes. */
+    KOLLAFRIN_TEXT_LONG = 32                    /* The output is shorter than the text. */
 };
 
 /* The sixteen words of a load's answer; words 13 to 15 are 0. */
@@ -95,6 +96,7 @@ enum kollafrin_stack {
     KOLLAFRIN_STACK_LOAD_BUILTIN_SHORT = 32000,
     KOLLAFRIN_STACK_WRITE_PARSE_ORDER = 1500,
     KOLLAFRIN_STACK_WRITE_MODULE_ORDER = 1500,
+    KOLLAFRIN_STACK_DISASSEMBLE = 42000,
     KOLLAFRIN_STACK_STANDING = 1500
 };
 
@@ -148,6 +150,17 @@ uint32_t kollafrin_write_module_order(const uint32_t header[5], const uint32_t *
                                       const uint8_t *log, size_t log_length, const uint8_t *strings, size_t strings_length,
                                       size_t instruction_count, size_t log_count, size_t string_count, uint8_t *out,
                                       size_t out_length, uint32_t answer[4]);
+
+/* Writes the records of a module as text, for people: four lines for the header, then a line for each instruction in module order, in ASCII,
+ * without a line feed at the end; docs/REFERENCE.md ("The listing") has an example. Returns 0, 30 or 32: 30 as module order does, and also for
+ * an opcode, an enumerant, a bit of a mask or an embedded opcode that has no name, whichever record comes first; 32 where the text does
+ * not fit `out`.
+ *
+ * `answer`: number; index of the first bad record from 1, or count + 1, after 30, else 0; bytes written, low word, then high word.
+ * A refusal changes no byte of `out` and writes 0 bytes; else `out` is unchanged past the bytes written. */
+uint32_t kollafrin_disassemble(const uint32_t header[5], const uint32_t *instructions, size_t instructions_length, const uint8_t *log,
+                               size_t log_length, const uint8_t *strings, size_t strings_length, size_t instruction_count,
+                               size_t log_count, size_t string_count, uint8_t *out, size_t out_length, uint32_t answer[4]);
 
 /* Whether the records of a module are standing: sections 1 to 11 first and in their order, no parameter after a label of its function,
  * exactly one OpMemoryModel, and no function without a label after one with a label. Both orders then write the same after the header.

@@ -100,6 +100,12 @@ static void write_module_order(struct lent *x) {
                                              x->load[KOLLAFRIN_LOAD_LOG], x->load[KOLLAFRIN_LOAD_STRINGS], x->out, x->length, x->answer);
 }
 
+static void disassemble(struct lent *x) {
+    x->number = kollafrin_disassemble(x->load + KOLLAFRIN_LOAD_HEADER, x->instructions, KOLLAFRIN_RECORD * x->words, x->log, 9 * x->words,
+                                      x->strings, 4 * x->words, x->load[KOLLAFRIN_LOAD_INSTRUCTIONS], x->load[KOLLAFRIN_LOAD_LOG],
+                                      x->load[KOLLAFRIN_LOAD_STRINGS], x->out, x->length, x->answer);
+}
+
 static void standing(struct lent *x) {
     x->number = kollafrin_standing(x->instructions, KOLLAFRIN_RECORD * x->words, x->log, 9 * x->words, x->strings, 4 * x->words,
                                    x->load[KOLLAFRIN_LOAD_INSTRUCTIONS], x->load[KOLLAFRIN_LOAD_LOG], x->load[KOLLAFRIN_LOAD_STRINGS],
@@ -113,7 +119,7 @@ struct call {
     unsigned runs;
 };
 
-enum { VERSION, BUILTIN, LOAD, LOAD_SHORT, LOAD_BUILTIN, LOAD_BUILTIN_SHORT, WRITE_PARSE_ORDER, WRITE_MODULE_ORDER, STANDING, CALLS };
+enum { VERSION, BUILTIN, LOAD, LOAD_SHORT, LOAD_BUILTIN, LOAD_BUILTIN_SHORT, WRITE_PARSE_ORDER, WRITE_MODULE_ORDER, DISASSEMBLE, STANDING, CALLS };
 
 static struct call calls[CALLS] = {
     {"kollafrin_version", version, KOLLAFRIN_STACK_VERSION, 0, 0},
@@ -124,6 +130,7 @@ static struct call calls[CALLS] = {
     {"kollafrin_load_builtin, short module", load_builtin, KOLLAFRIN_STACK_LOAD_BUILTIN_SHORT, 0, 0},
     {"kollafrin_write_parse_order", write_parse_order, KOLLAFRIN_STACK_WRITE_PARSE_ORDER, 0, 0},
     {"kollafrin_write_module_order", write_module_order, KOLLAFRIN_STACK_WRITE_MODULE_ORDER, 0, 0},
+    {"kollafrin_disassemble", disassemble, KOLLAFRIN_STACK_DISASSEMBLE, 0, 0},
     {"kollafrin_standing", standing, KOLLAFRIN_STACK_STANDING, 0, 0},
 };
 
@@ -246,6 +253,9 @@ static void hold_null(const uint8_t *module, size_t length) {
                && kollafrin_write_module_order(header, NULL, 0, NULL, 0, NULL, 0, 1, 1, 1, NULL, 0, answer) == KOLLAFRIN_BAD_RECORDS
                && kollafrin_write_module_order(header, NULL, 0, NULL, 0, NULL, 0, 0, 0, 0, out, 20, answer) == 0 && answer[2] == 20,
            "null: kollafrin_write_module_order");
+    expect(kollafrin_disassemble(header, NULL, 0, NULL, 0, NULL, 0, 0, 0, 0, NULL, 0, answer) == KOLLAFRIN_TEXT_LONG
+               && kollafrin_disassemble(header, NULL, 0, NULL, 0, NULL, 0, 1, 1, 1, NULL, 0, answer) == KOLLAFRIN_BAD_RECORDS,
+           "null: kollafrin_disassemble");
     expect(kollafrin_standing(NULL, 0, NULL, 0, NULL, 0, 0, 0, 0, answer) == 0 && answer[2] == 0
                && kollafrin_standing(NULL, 0, NULL, 0, NULL, 0, 1, 1, 1, answer) == KOLLAFRIN_BAD_RECORDS,
            "null: kollafrin_standing");

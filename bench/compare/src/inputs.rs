@@ -437,6 +437,7 @@ pub fn round(judge: &mut Judge, builtin: &Grammar, shaders: &[Vec<u8>], seed: u6
     random_grammars(judge, &mut grower.rng);
     for m in grown.iter().take(30) {
         random_records(judge, &mut grower.rng, m);
+        unnamed_records(judge, &mut grower.rng, m);
     }
 }
 
@@ -661,4 +662,26 @@ fn random_records(judge: &mut Judge, rng: &mut Rng, module: &[u8]) {
         _ => ample + rng.below(9),
     };
     judge.records("random records", load.header, &s, output);
+}
+
+/// The records of a module with other values in operands, and with other opcodes in blocks: their layout is good, and names are missing.
+fn unnamed_records(judge: &mut Judge, rng: &mut Rng, module: &[u8]) {
+    let load = load_with(module, judge.builtin, enough(module));
+    let mut s = Stores::of(&load);
+    let ample = 20 + 4 * load.instructions.iter().map(|r| r[7] as usize).sum::<usize>();
+    for _ in 0..if load.instructions.is_empty() { 0 } else { 1 + rng.below(3) } {
+        let n = rng.below(load.instructions.len());
+        let record = load.instructions[n];
+        if record[1] == 15 && rng.chance(50) {
+            // an opcode that the layout does not know either stands in a block as any other
+            s.instructions[RECORD * n] = record[0] & !0xFFFF | rng.pick(&[13, 330, 400, 0x3FFF, 0x7000, 0xFFFF]);
+        } else if record[6] > 0 {
+            let value = record[5] as usize + 1;
+            let word = rng.pick(&[0, 1, 2, 3, 8, 24, 0x30, 0x100, 0x3F00, 0x8000, 5283, 6000, 0x1_0000, 0x8000_0000, u32::MAX]);
+            if s.log[value - 1] != 40 {
+                s.log[value..value + 4].copy_from_slice(&word.to_le_bytes());
+            }
+        }
+    }
+    judge.records("records without names", load.header, &s, 8 * ample + rng.below(9));
 }

@@ -1,9 +1,10 @@
 //! Each input is put to the library and to its judges, and what happened is counted.
 
-use crate::library::{self, byte_before, word_before, Loaded, Order};
+use crate::library::{self, byte_before, word_before, Form, Loaded};
 use compare::grow::enough;
 use compare::krate;
 use compare::reading::{self, layout, layout_kind, Grammar, Kind, Load, State, Stores, RECORD};
+use compare::text;
 use std::collections::BTreeMap;
 
 /// Inputs of a group, and how many of them the library accepted.
@@ -19,7 +20,7 @@ pub struct Tally {
     pub with_crate: u64,
     pub differences: u64,
     pub shown: Vec<String>,
-    pub numbers: [u64; 32],
+    pub numbers: [u64; 33],
     pub cells: [[u64; 3]; 19],
     pub kinds: [u64; 46],
     pub let_through: BTreeMap<&'static str, u64>,
@@ -37,7 +38,7 @@ impl Default for Tally {
             with_crate: 0,
             differences: 0,
             shown: vec![],
-            numbers: [0; 32],
+            numbers: [0; 33],
             cells: [[0; 3]; 19],
             kinds: [0; 46],
             let_through: BTreeMap::new(),
@@ -255,9 +256,19 @@ impl Judge<'_> {
         store("types (crate)", &loaded.types, &said.types, word_before)?;
         if number == 0 {
             let wanted = said.module.ok_or("the crate gave no module-order bytes")?;
-            let written = library::write(Order::Module, header, &stores_of(loaded), wanted.len() + 5);
+            let written = library::write(Form::Module, header, &stores_of(loaded), wanted.len() + 5);
             differ("module order's answer (crate)", (written.returned, written.answer), (0, [0, 0, wanted.len() as u32, 0]))?;
             store("module-order bytes (crate)", &written.out, &wanted, byte_before)?;
+            let wanted = said.text.ok_or("the crate gave no text")?;
+            let written = library::write(Form::Text, header, &stores_of(loaded), wanted.len() + self.tally.inputs as usize % 3);
+            differ("the text's answer (crate)", (written.returned, written.answer), (0, [0, 0, wanted.len() as u32, 0]))?;
+            store("the text (crate)", &written.out, &wanted, byte_before)?;
+            for short in [wanted.len() - 1, 0] {
+                let written = library::write(Form::Text, header, &stores_of(loaded), short);
+                self.number(written.returned);
+                differ("a text that does not fit", (written.returned, written.answer), (32, [32, 0, 0, 0]))?;
+                store("the output of a text that does not fit", &written.out, &[], byte_before)?;
+            }
         }
         Ok(())
     }
@@ -308,7 +319,7 @@ impl Judge<'_> {
         if loaded.number() == 0 {
             let plain = reading::is_plain(module, by_reading);
             self.tally.plain += u64::from(plain);
-            let parse = if short { library::write(Order::Parse, loaded.header(), &stores, needed) } else { parse };
+            let parse = if short { library::write(Form::Parse, loaded.header(), &stores, needed) } else { parse };
             let back = parse.returned == 0 && parse.out.get(..parse.answer[2] as usize) == Some(module);
             differ("parse order gives the module back exactly when it is plain", back, plain)?;
         }
@@ -351,14 +362,19 @@ impl Judge<'_> {
         }
     }
 
-    /// The answer of the parse-order writer, all three being as the reading has it.
+    /// The answer of the parse-order writer, it and the others being as the reading has it.
     fn same_records(&mut self, header: [u32; 5], stores: &Stores, output: usize) -> Result<library::Written, Difference> {
-        let parse = library::write(Order::Parse, header, stores, output);
+        let parse = library::write(Form::Parse, header, stores, output);
         self.number(parse.returned);
         same_written("parse order", &parse, &reading::write_parse_order(header, stores, output))?;
-        let module = library::write(Order::Module, header, stores, output);
+        let module = library::write(Form::Module, header, stores, output);
         self.number(module.returned);
         same_written("module order", &module, &reading::write_module_order(header, stores, output))?;
+        let wanted = text::disassemble(header, stores, usize::MAX);
+        let needed = if self.tally.inputs % 2 == 0 { wanted.bytes.len() } else { output };
+        let listed = library::write(Form::Text, header, stores, needed);
+        self.number(listed.returned);
+        same_written("the text", &listed, &text::disassemble(header, stores, needed))?;
         let standing = library::standing(stores);
         let wanted = match reading::standing(stores) {
             Ok(kept) => {

@@ -7,9 +7,9 @@ use std::cell::Cell;
 mod oracle {
     include!(concat!(env!("OUT_DIR"), "/oracle.rs"));
 
-    /// The oracle's line for a module, then its lines of records and of module-order bytes.
+    /// The oracle's line for a module, then its lines of records, of module-order bytes and of the text.
     pub fn answer(bytes: &[u8]) -> String {
-        run(bytes, &Options { full: true, disas: false, records: true })
+        run(bytes, &Options { full: true, disas: true, records: true })
     }
 
     /// Whether the crate's decoder knows a value of an enumerant kind.
@@ -33,6 +33,49 @@ mod oracle {
 
     pub fn decoder_calls(bytes: &[u8], script: &str) -> String {
         ops(bytes, script)
+    }
+
+    /// The name of an opcode in the crate's table.
+    pub fn opcode_name(opcode: u16) -> Option<&'static str> {
+        Some(grammar::CoreInstructionTable::lookup_opcode(opcode)?.opname)
+    }
+
+    /// The name of an opcode as an operand of OpSpecConstantOp.
+    pub fn embedded_name(opcode: u32) -> Option<String> {
+        Some(format!("{:?}", grammar::CoreInstructionTable::lookup_opcode(u16::try_from(opcode).ok()?)?.opcode))
+    }
+
+    /// The name of an instruction in one of the two sets that are recognised.
+    pub fn extended_name(set: &[u8], number: u32) -> Option<&'static str> {
+        Some(match set {
+            b"GLSL.std.450" => grammar::GlslStd450InstructionTable::lookup_opcode(number)?.opname,
+            _ => grammar::OpenCLStd100InstructionTable::lookup_opcode(number)?.opname,
+        })
+    }
+
+    /// The name of a value of an enumerant kind, or the names of a mask's bits.
+    pub fn enumerant_name(kind: u8, value: u32) -> Option<String> {
+        let bytes = value.to_le_bytes();
+        let mut decoder = Decoder::new(&bytes);
+        macro_rules! names {
+            (masks: $($mask:literal $bits:ident,)* values: $($kind:literal $value:ident,)*) => {
+                match kind {
+                    $($mask => decoder.$bits().ok().map(|v| v.disassemble()),)*
+                    $($kind => decoder.$value().ok().map(|v| format!("{v:?}")),)*
+                    _ => None,
+                }
+            };
+        }
+        names!(
+            masks: 1 image_operands, 2 fp_fast_math_mode, 3 selection_control, 4 loop_control, 5 function_control, 6 memory_semantics,
+                7 memory_access, 8 kernel_profiling_info, 41 ray_flags, 45 fragment_shading_rate,
+            values: 9 source_language, 10 execution_model, 11 addressing_model, 12 memory_model, 13 execution_mode, 14 storage_class,
+                15 dim, 16 sampler_addressing_mode, 17 sampler_filter_mode, 18 image_format, 19 image_channel_order,
+                20 image_channel_data_type, 21 fp_rounding_mode, 22 linkage_type, 23 access_qualifier,
+                24 function_parameter_attribute, 25 decoration, 26 built_in, 27 scope, 28 group_operation, 29 kernel_enqueue_flags,
+                30 capability, 42 ray_query_intersection, 43 ray_query_committed_intersection_type,
+                44 ray_query_candidate_intersection_type,
+        )
     }
 }
 
@@ -76,6 +119,8 @@ pub struct Answer {
     pub types: Vec<u32>,
     /// Module-order bytes of an accepted module.
     pub module: Option<Vec<u8>>,
+    /// The text of an accepted module.
+    pub text: Option<Vec<u8>>,
     /// The oracle's first line.
     pub line: String,
 }
@@ -126,6 +171,13 @@ pub fn answer(bytes: &[u8]) -> Result<Answer, String> {
             "strings" => all.strings = unhex(rest),
             "type" => all.types.extend(numbers(rest)),
             "module" => all.module = Some(unhex(rest)),
+            "|" => match &mut all.text {
+                None => all.text = Some(rest.into()),
+                Some(text) => {
+                    text.push(b'\n');
+                    text.extend(rest.bytes());
+                }
+            },
             _ => (), // the dump of an instruction, which the records repeat
         }
     }
@@ -147,3 +199,6 @@ pub fn rows() -> Vec<Row> {
 pub fn decoder_calls(bytes: &[u8], script: &str) -> String {
     asking(|| oracle::decoder_calls(bytes, script))
 }
+
+/// Names as the crate's text has them.
+pub use oracle::{embedded_name, enumerant_name, extended_name, opcode_name};

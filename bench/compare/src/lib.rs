@@ -10,6 +10,9 @@ pub mod krate;
 /// A separate reading of what a load and a write are to do.
 pub mod reading;
 
+/// A separate reading of the listing for the cutters.
+pub mod text;
+
 /// Seeded inputs: modules grown from a grammar, damaged copies.
 pub mod grow;
 

@@ -103,16 +103,19 @@ pub struct Written {
     pub out: Vec<u8>,
 }
 
+/// What is written: bytes in one of the two orders, or the text.
 #[derive(Clone, Copy, Debug, PartialEq, Eq)]
-pub enum Order {
+pub enum Form {
     Parse,
     Module,
+    Text,
 }
 
-pub fn write(order: Order, header: [u32; 5], s: &Stores, output: usize) -> Written {
-    let call = match order {
-        Order::Parse => c::kollafrin_write_parse_order,
-        Order::Module => c::kollafrin_write_module_order,
+pub fn write(form: Form, header: [u32; 5], s: &Stores, output: usize) -> Written {
+    let call = match form {
+        Form::Parse => c::kollafrin_write_parse_order,
+        Form::Module => c::kollafrin_write_module_order,
+        Form::Text => c::kollafrin_disassemble,
     };
     let mut out = bytes(output);
     let mut answer = [ANSWER_BEFORE; 4];

@@ -68,6 +68,21 @@ extern "C" {
         out_length: usize,
         answer: *mut [u32; 4],
     ) -> u32;
+    pub fn kollafrin_disassemble(
+        header: *const [u32; 5],
+        instructions: *const u32,
+        instructions_length: usize,
+        log: *const u8,
+        log_length: usize,
+        strings: *const u8,
+        strings_length: usize,
+        instruction_count: usize,
+        log_count: usize,
+        string_count: usize,
+        out: *mut u8,
+        out_length: usize,
+        answer: *mut [u32; 4],
+    ) -> u32;
     pub fn kollafrin_standing(
         instructions: *const u32,
         instructions_length: usize,

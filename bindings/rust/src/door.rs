@@ -122,6 +122,27 @@ pub fn write_module_order(module: &Module, out: &mut [u8], answer: &mut [u32; 4]
     })
 }
 
+pub fn disassemble(module: &Module, out: &mut [u8], answer: &mut [u32; 4]) -> Result<u32, Error> {
+    same_version()?;
+    Ok(unsafe {
+        c::kollafrin_disassemble(
+            &module.header,
+            module.instructions.as_ptr(),
+            module.instructions.len(),
+            module.log.as_ptr(),
+            module.log.len(),
+            module.strings.as_ptr(),
+            module.strings.len(),
+            module.instructions.len() / c::RECORD,
+            module.log.len(),
+            module.strings.len(),
+            out.as_mut_ptr(),
+            out.len(),
+            answer,
+        )
+    })
+}
+
 pub fn standing(module: &Module, answer: &mut [u32; 4]) -> Result<u32, Error> {
     same_version()?;
     Ok(unsafe {

@@ -16,7 +16,7 @@
 //! ```
 //!
 //! A call takes stack, on x86-64 up to 120,000 bytes for [`Module::load`] and 92,000 for [`Module::load_builtin`] (60,000 and 32,000
-//! for a module of 16,384 bytes or less), 1,500 for the writers and [`Module::standing`], 500 for any other function of the
+//! for a module of 16,384 bytes or less), 1,500 for the writers and [`Module::standing`], 42,000 for [`Module::disassemble`], 500 for any other function of the
 //! library; this crate's own functions come on top. A thread that has less left ends with a fault.
 //!
 //! Linking needs the archive `libkollafrin.a`, made by `rt staticlib kollafrin` for x86-64. It is looked for in the folder
@@ -149,6 +149,23 @@ impl Module {
                 Ok(bytes)
             }
             number => Err(refused(number, answer)),
+        }
+    }
+
+    /// The module as text, for people: four lines for the header, then a line for each instruction in module order, by its names
+    /// (docs/REFERENCE.md, "The listing"). 30 where a record breaks the layout or lacks a name.
+    pub fn disassemble(&self) -> Result<String, Error> {
+        let mut room = 256 + 4 * (self.instructions.len() + self.log.len() + self.strings.len());
+        loop {
+            let (mut bytes, mut answer) = (room::zeros(room)?, [0; 4]);
+            match door::disassemble(self, &mut bytes, &mut answer)? {
+                0 => {
+                    bytes.truncate(answer[2] as usize + ((answer[3] as usize) << 32));
+                    return Ok(String::from_utf8_lossy(&bytes).into_owned());
+                }
+                32 => room = room.saturating_mul(2),
+                number => return Err(refused(number, answer)),
+            }
         }
     }
 

@@ -6,11 +6,11 @@ use std::fmt;
 /// Why an input is refused.
 #[derive(Clone, Copy, Debug, PartialEq, Eq, Hash)]
 pub struct Refusal {
-    /// The number of the refusal, 1 to 31; [`sentence`] says what it means.
+    /// The number of the refusal, 1 to 32; [`sentence`] says what it means.
     pub number: u32,
-    /// The place: a byte offset into the module. 0 for 2, 3, 24 and 29 to 31.
+    /// The place: a byte offset into the module. 0 for 2, 3, 24 and 29 to 32.
     pub offset: u32,
-    /// The instruction or record, from 1; 0 where the header or the grammar is at fault, and for 29 and 31. After 30, count + 1
+    /// The instruction or record, from 1; 0 where the header or the grammar is at fault, and for 29, 31 and 32. After 30, count + 1
     /// means that log or string bytes are left over, or that the records end inside a function.
     pub index: u32,
     /// For 5 the opcode, for 10 the enumerant, else 0.
@@ -42,7 +42,7 @@ impl fmt::Display for Refusal {
 
 impl Error for Refusal {}
 
-/// A sentence for each number, 0 to 31.
+/// A sentence for each number, 0 to 32.
 pub fn sentence(number: u32) -> &'static str {
     match number {
         0 => "the input is accepted",
@@ -75,8 +75,9 @@ pub fn sentence(number: u32) -> &'static str {
         27 => "there is no room for the string's bytes",
         28 => "there is no room for another type entry",
         29 => "the output is too short",
-        30 => "a record breaks the layout of the stores",
+        30 => "a record breaks the layout of the stores, or has no name in a listing",
         31 => "the module has more than 67,108,864 bytes",
+        32 => "the output is too short for the text",
         _ => "this number is not given",
     }
 }

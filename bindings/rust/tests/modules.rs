@@ -124,6 +124,18 @@ fn records_from_elsewhere_are_checked() {
 }
 
 #[test]
+fn a_module_as_text() {
+    let loaded = Module::load_builtin(&module(&[0x0003_000E, 0, 1, 0x0003_0007, 1, 0x0022_5C0A])).unwrap();
+    let text = "; SPIR-V\n; Version: 1.0\n; Generator: rspirv\n; Bound: 0\nOpMemoryModel Logical GLSL450\n%1 = OpString \"\\x0A\\\\\\\"\"";
+    assert_eq!(loaded.disassemble().as_deref(), Ok(text));
+    // an addressing model that has no name
+    let mut log = loaded.log().to_vec();
+    log[1] = 9;
+    let other = Module::from_stores(loaded.header(), loaded.instruction_words().to_vec(), log, loaded.strings().to_vec(), vec![]);
+    assert_eq!(other.disassemble(), Err(Error::Refused(Refusal { number: 30, offset: 0, index: 1, value: 0 })));
+}
+
+#[test]
 fn no_records_are_a_header() {
     let header = [0x0723_0203, 0x0001_0000, 0, 0, 0];
     let empty = Module::from_stores(header, vec![], vec![], vec![], vec![]);

@@ -20,6 +20,7 @@ use Rattle.spec.specs.Records.{Operand, Placed, fieldsAt, recordSize}
 use Rattle.spec.specs.Layout.{layoutOf, endNumber}
 use Rattle.spec.specs.Check.{Given, lower, recordsOf, missing, fieldsGood, fieldsFault, Left, placedOf, wordsGood, takeRecord, Scan, onRecord, scanFrom, onTag, tagsFault, recordsIn, scanOf, faultOf, Checked, bad, good, checkedBy, check}
 use Rattle.spec.specs.Write.{parseBytes, moduleBytes, writeParse, writeModule, Writing, writeBy, standing, standsBy}
+use Rattle.spec.specs.Disassembly.{moduleText, isNamed, unnamed, checkNamed, listBy, disassemble}
 use Rattle.spec.proofs.Choice.{either, IfSome}
 use Rattle.spec.proofs.Faultless.{fields-told, Said, record-said}
 
@@ -156,18 +157,33 @@ missing-most count fs e = either AtMost (eqb (length fs) count) none (some (leng
 
 -- THE INDEX
 
+-- an index is there, or there may be one and the records are few
+data Low (o : Option ℕ) (end : ℕ) : Type 0 where
+  isThere : There o → Low o end
+  fewer : AtMost o → end ≤ most → Low o end
+
 -- the lowest of four, by what fields and scan find
-lowest-most : (lacks fields scan tags : Option ℕ) (end : ℕ) → Soon fields scan end → (end ≤ most → AtMost lacks × AtMost tags)
-    → AtMost (lower lacks (lower fields (lower scan tags)))
-lowest-most lacks fields scan tags end (badFields p) others =
-    there-most (lower lacks (lower fields (lower scan tags)))
-    (lower-second lacks (lower fields (lower scan tags)) (lower-first fields (lower scan tags) p))
-lowest-most lacks fields scan tags end (badScan p) others =
-    there-most (lower lacks (lower fields (lower scan tags)))
-    (lower-second lacks (lower fields (lower scan tags)) (lower-second fields (lower scan tags) (lower-first scan tags p)))
-lowest-most lacks fields scan tags end (few p q e) others =
-    lower-most lacks (lower fields (lower scan tags)) (others e .0)
-    (lower-most fields (lower scan tags) p (lower-most scan tags q (others e .1)))
+lowest-low : (lacks fields scan tags : Option ℕ) (end : ℕ) → Soon fields scan end → (end ≤ most → AtMost lacks × AtMost tags)
+    → Low (lower lacks (lower fields (lower scan tags))) end
+lowest-low lacks fields scan tags end (badFields p) others =
+    isThere (lower-second lacks (lower fields (lower scan tags)) (lower-first fields (lower scan tags) p))
+lowest-low lacks fields scan tags end (badScan p) others =
+    isThere (lower-second lacks (lower fields (lower scan tags)) (lower-second fields (lower scan tags) (lower-first scan tags p)))
+lowest-low lacks fields scan tags end (few p q e) others =
+    fewer
+    (lower-most lacks (lower fields (lower scan tags)) (others e .0)
+    (lower-most fields (lower scan tags) p (lower-most scan tags q (others e .1))))
+    e
+
+-- it is at most that
+low-most : (o : Option ℕ) (end : ℕ) → Low o end → AtMost o
+low-most o end (isThere p) = there-most o p
+low-most o end (fewer p e) = p
+
+-- and so is the lower of it and another, where that is so of few records
+low-lower : (o names : Option ℕ) (end : ℕ) → Low o end → (end ≤ most → AtMost names) → AtMost (lower o names)
+low-lower o names end (isThere p) others = there-most (lower o names) (lower-first o names p)
+low-lower o names end (fewer p e) others = lower-most o names p (others e)
 
 -- an index that a check names is at most that
 abbrev BadSoon : Checked → Type 0
@@ -179,15 +195,21 @@ checked-soon : (o : Option ℕ) (is : List Placed) → AtMost o → BadSoon (che
 checked-soon none is p = tt
 checked-soon (some i) is p = p
 
--- a check of stores whose words are of 32 bits
-check-soon : (size : ℕ) (whole : Bool) (x : Given) → WordsFit (x .instructions) → BadSoon (check size whole x)
-unfolding check faultOf
-check-soon size whole x fit =
+-- the first fault in stores whose words are of 32 bits
+fault-low : (size : ℕ) (whole : Bool) (x : Given) → WordsFit (x .instructions)
+    → Low (faultOf size whole x) (1 + length (recordsIn size x))
+unfolding faultOf
+fault-low size whole x fit =
     let fs : List Fields = recordsIn size x in
-    checked-soon (faultOf size whole x) (scanOf size x .instrs)
-    (lowest-most (missing (x .count) fs) (fieldsFault 1 20 fs) (scanOf size x .fault) (tagsFault whole 1 Outside fs) (1 + length fs)
+    lowest-low (missing (x .count) fs) (fieldsFault 1 20 fs) (scanOf size x .fault) (tagsFault whole 1 Outside fs) (1 + length fs)
     (soon (x .logCount) (x .stringCount) fs 1 20 _ (offsets-fit size (x .count) (x .instructions) fit) (omega arith) (omega arith))
-    (λ e. (missing-most (x .count) fs e, tags-most whole fs 1 Outside e)))
+    (λ e. (missing-most (x .count) fs e, tags-most whole fs 1 Outside e))
+
+-- a check of them
+check-soon : (size : ℕ) (whole : Bool) (x : Given) → WordsFit (x .instructions) → BadSoon (check size whole x)
+unfolding check
+check-soon size whole x fit =
+    checked-soon (faultOf size whole x) (scanOf size x .instrs) (low-most (faultOf size whole x) _ (fault-low size whole x fit))
 
 -- an index of 32 bits, by a check
 written-fits : (c : Checked) (f : List Placed → List ℕ) (out : List ℕ) → BadSoon c → writeBy c f out .said .index < 4294967296
@@ -213,3 +235,43 @@ standing-index x fit = by (check recordSize true x) (check-soon recordSize true 
     by : (c : Checked) → BadSoon c → standsBy c .index < 4294967296
     by (bad i) p = omega arith
     by (good is) p = omega arith
+
+-- THE LISTING
+
+-- a scan says no more instructions than there are records
+scan-few : (logCount stringCount : ℕ) (fs : List Fields) (index : ℕ) (l : Left)
+    → length (scanFrom logCount stringCount index l fs .instrs) ≤ length fs
+unfolding scanFrom
+scan-few logCount stringCount [] index l = omega arith
+scan-few logCount stringCount (f ∷ fs) index l = by (takeRecord f l) (λ m. scan-few logCount stringCount fs (suc index) m)
+  where
+    by : (o : Option (Placed × Left)) → ((m : Left) → length (scanFrom logCount stringCount (suc index) m fs .instrs) ≤ length fs)
+        → length (onRecord index o (λ m. scanFrom logCount stringCount (suc index) m fs) .instrs) ≤ length (f ∷ fs)
+    by none later = omega arith
+    by (some x) later = omega (arith, later (x .1))
+
+-- the first of some instructions that lacks a name
+unnamed-most : (is : List Placed) (index : ℕ) → index + length is ≤ most → AtMost (unnamed index is)
+unfolding unnamed
+unnamed-most [] index e = tt
+unnamed-most (p ∷ ps) index e =
+    either AtMost (isNamed p) (unnamed (suc index) ps) (some index)
+    (λ t. unnamed-most ps (suc index) (omega arith)) (λ t. omega arith)
+
+-- the index of the listing
+pub text-index : (h : List ℕ) (x : Given) (out : List ℕ) → WordsFit (x .instructions) → disassemble h x out .said .index < 4294967296
+unfolding disassemble checkNamed
+text-index h x out fit =
+    let fs : List Fields = recordsIn recordSize x in
+    let is : List Placed = scanOf recordSize x .instrs in
+    let few : length is ≤ length fs = scan-few (x .logCount) (x .stringCount) fs 1 _ in
+    by (checkedBy (lower (faultOf recordSize true x) (unnamed 1 is)) is)
+    (checked-soon (lower (faultOf recordSize true x) (unnamed 1 is)) is
+    (low-lower (faultOf recordSize true x) (unnamed 1 is) (1 + length fs) (fault-low recordSize true x fit)
+    (λ e. unnamed-most is 1 (omega (arith, few, e)))))
+  where
+    by : (c : Checked) → BadSoon c → listBy c h out .said .index < 4294967296
+    by (bad i) p = omega arith
+    by (good is) p =
+        either (λ (w : Writing). w .said .index < 4294967296) (ltb (length out) (length (moduleText h is))) _ _ (λ e. omega arith)
+        (λ e. omega arith)

@@ -12,6 +12,7 @@ ghost use Rattle.spec.specs.Base.{if_then_else_};
 ghost use Rattle.spec.specs.Builtin.{builtin};
 ghost use Rattle.spec.specs.Load.{lent, Small};
 ghost use Rattle.spec.specs.Write.{writeParse, writeModule, standing as standingOf};
+ghost use Rattle.spec.specs.Disassembly.{disassemble as disassembleOf};
 ghost use Rattle.records.specs.Steps.{given};
 ghost use Rattle.kollafrin.specs.Answers.{version, loadAnswer, LoadAnswers, writeAnswer, WriteAnswers, StandAnswers, laidIn};
 use spec::Loaded;
@@ -202,6 +203,38 @@ pub extern "C" fn kollafrin_write_module_order(
 {
     let words = *header;
     let x = assemble::write_module_order(
+        words,
+        instructions,
+        log,
+        strings,
+        instruction_count,
+        log_count,
+        string_count,
+        out,
+    );
+    say_written(x, answer)
+}
+
+// Writes the records of a module as text, for people.
+#[no_mangle]
+pub extern "C" fn kollafrin_disassemble(
+    header: &[u32; 5],
+    instructions: &[u32],
+    log: &[u8],
+    strings: &[u8],
+    instruction_count: usize,
+    log_count: usize,
+    string_count: usize,
+    out: &mut [u8],
+    answer: &mut [u32; 4],
+) -> u32
+    ensures { λ r. ⌜ WriteAnswers
+        (disassembleOf (now (header .entry)) (given (now (instructions .entry)) (now (log .entry)) (now (strings .entry))
+        «instruction_count» «log_count» «string_count») (now (out .entry)))
+        (now (out .exit)) (now (answer .exit)) r ⌝ }
+{
+    let words = *header;
+    let x = disassemble::disassemble(
         words,
         instructions,
         log,

@@ -38,7 +38,11 @@ use Rattle.operand.proofs.record_length as record-length-call
 use Rattle.operand.proofs.keep_record as keep-record-call
 use Rattle.words.proofs.put_bytes as put-bytes-call
 use Rattle.operand.proofs.keep_bytes as keep-bytes-call
-use Rattle.listed.proofs.decimal as decimal-call
+use Rattle.names.proofs.table as names-table-call
+use Rattle.records.proofs.at_most as at-most-call
+use Rattle.texts.proofs.put as put-call
+use Rattle.texts.proofs.digits as digits-call
+use Rattle.texts.proofs.decimal as decimal-call
 use Rattle.listed.proofs.listing as listing-call
 use Rattle.pledge.proofs.Offered.{Determined, both, and}
 
@@ -174,6 +178,22 @@ put-bytes = λ κs a x y after other ask p q. (refl, and (both p q) refl)
 -- bytes kept in a store where they fit
 pub keep-bytes : Determined keep-bytes-call.Kinds.ps keep-bytes-call.Kinds.r keep-bytes-call.Reads.Asked keep-bytes-call.Reads.Learnt
 keep-bytes = λ κs a x y after other ask p q. (refl, and (both p q) refl)
+
+-- the names as one run of bytes
+pub names-table : Determined names-table-call.Kinds.ps names-table-call.Kinds.r names-table-call.Reads.Asked names-table-call.Reads.Learnt
+names-table = λ κs a x y after other ask p q. (both p q, refl)
+
+-- the lower of two numbers
+pub at-most : Determined at-most-call.Kinds.ps at-most-call.Kinds.r at-most-call.Reads.Asked at-most-call.Reads.Learnt
+at-most = λ κs a x y after other ask p q. (both p q, refl)
+
+-- a byte, put into a buffer
+pub put : Determined put-call.Kinds.ps put-call.Kinds.r put-call.Reads.Asked put-call.Reads.Learnt
+put = λ κs a x y after other ask p q. (both (p .ends) (q .ends), and (both (p .is) (q .is)) refl)
+
+-- digits of a number, at most so many
+pub digits : Determined digits-call.Kinds.ps digits-call.Kinds.r digits-call.Reads.Asked digits-call.Reads.Learnt
+digits = λ κs a x y after other ask p q. (both (p .ends) (q .ends), and (both (p .is) (q .is)) refl)
 
 -- a number in decimal, written into a buffer
 pub decimal : Determined decimal-call.Kinds.ps decimal-call.Kinds.r decimal-call.Reads.Asked decimal-call.Reads.Learnt

@@ -47,6 +47,7 @@ use Rattle.loader.proofs.load_builtin as load-builtin-call
 use Rattle.assemble.proofs.write_parse_order as parse-call
 use Rattle.assemble.proofs.write_module_order as module-call
 use Rattle.assemble.proofs.standing as standing-call
+use Rattle.disassemble.proofs.disassemble as disassemble-call
 use Rattle.round_trip.proofs.round_trip as round-trip-call
 use Rattle.kollafrin.proofs.kollafrin_version as door-version-call
 use Rattle.kollafrin.proofs.kollafrin_builtin as door-builtin-call
@@ -54,6 +55,7 @@ use Rattle.kollafrin.proofs.kollafrin_load as door-load-call
 use Rattle.kollafrin.proofs.kollafrin_load_builtin as door-load-builtin-call
 use Rattle.kollafrin.proofs.kollafrin_write_parse_order as door-write-parse-call
 use Rattle.kollafrin.proofs.kollafrin_write_module_order as door-write-module-call
+use Rattle.kollafrin.proofs.kollafrin_disassemble as door-disassemble-call
 use Rattle.kollafrin.proofs.kollafrin_standing as door-standing-call
 use Rattle.pledge.proofs.Offered.{Offered, OfferedLent, both, and, both-lent}
 
@@ -253,6 +255,15 @@ write-module-order =
           (both (p .said) (q .said), ap (λ (o : List ℕ). (tt, (tt, (tt, (tt, (tt, (tt, (tt, (o, tt))))))))) (both (p .output) (q .output)));
     }
 
+-- a listing: the answer and the output after it
+pub disassemble : Offered disassemble-call.Kinds.ps disassemble-call.Kinds.r disassemble-call.Reads.Asked disassemble-call.Reads.Learnt
+disassemble =
+    record {
+      free = λ κs a. tt;
+      one = λ κs a x y after other p q.
+          (both (p .said) (q .said), ap (λ (o : List ℕ). (tt, (tt, (tt, (tt, (tt, (tt, (tt, (o, tt))))))))) (both (p .output) (q .output)));
+    }
+
 -- whether records stand, or the refusal
 pub standing : Offered standing-call.Kinds.ps standing-call.Kinds.r standing-call.Reads.Asked standing-call.Reads.Learnt
 standing = record { free = λ κs a. tt; one = λ κs a x y after other p q. (both p q, refl) }
@@ -327,6 +338,19 @@ door-write-parse =
 pub door-write-module :
     Offered door-write-module-call.Kinds.ps door-write-module-call.Kinds.r door-write-module-call.Reads.Asked door-write-module-call.Reads.Learnt
 door-write-module =
+    record {
+      free = λ κs a. tt;
+      one = λ κs a x y after other p q. (
+        both (p .number) (q .number),
+        ap₂ (λ (o : List ℕ) (w : List ℕ). (tt, (tt, (tt, (tt, (tt, (tt, (tt, (o, (w, tt)))))))))) (both (p .output) (q .output))
+            (both (p .words) (q .words)),
+      );
+    }
+
+-- the same as a listing
+pub door-disassemble :
+    Offered door-disassemble-call.Kinds.ps door-disassemble-call.Kinds.r door-disassemble-call.Reads.Asked door-disassemble-call.Reads.Learnt
+door-disassemble =
     record {
       free = λ κs a. tt;
       one = λ κs a x y after other p q. (
