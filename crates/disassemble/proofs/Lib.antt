@@ -1,5 +1,4 @@
 pub mod Put
-pub mod Digits
 pub mod Texts
 pub mod Judged
 pub mod Cursors

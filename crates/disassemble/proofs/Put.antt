@@ -6,11 +6,13 @@ use mathlib.Core.List.{List, [], _++_, append-assoc, append-nil}
 use native.Mathlib.Omega.{arith}
 use lib.ListN.{length, length-append}
 use lib.Seq.{sets}
+use Rattle.spec.specs.Digits.{hexDigits}
 use Rattle.spec.proofs.Store.{sets-append}
 use Rattle.operand.specs.Log.{kept}
 use Rattle.operand.proofs.LogLaws.{kept-yes, kept-no, kept-nil, length-kept}
-use Rattle.disassemble.specs.Putting.{largest}
-use Rattle.disassemble.specs.Putting.{Room, Wrote}
+use Rattle.texts.specs.Wrote.{Wrote as WroteText}
+use Rattle.texts.proofs.Filling.{hex-length}
+use Rattle.disassemble.specs.Putting.{largest, Room, Wrote}
 
 -- nothing is written
 pub wrote-none : (keep : Bool) (out : List ℕ) (at : ℕ) → at ≤ largest → Wrote keep out at [] at out
@@ -61,9 +63,22 @@ pub wrote-yes : (keep : Bool) (out : List ℕ) (at : ℕ) (bs : List ℕ) (r : �
     → Wrote keep out at bs r out'
 wrote-yes keep out at bs r out' e p s = record { place = p; stored = kept-yes keep out at bs out' e s }
 
+-- a text in a buffer is kept
+pub text-yes : (keep : Bool) (out : List ℕ) (at : ℕ) (bs : List ℕ) (r : ℕ) (out' : List ℕ) → Room keep out at bs → keep ≡ true → WroteText out out' at r bs
+    → Wrote keep out at bs r out'
+text-yes keep out at bs r out' h e w = wrote-yes keep out at bs r out' e (omega (arith, w .ends, h .room e, h .small)) (w .is)
+
 -- a text that is not
 pub wrote-no : (keep : Bool) (out : List ℕ) (at : ℕ) (bs : List ℕ) (r : ℕ) → keep ≡ false → r ≡ min (at + length bs) largest → Wrote keep out at bs r out
 wrote-no keep out at bs r e p = record { place = p; stored = kept-no keep out at bs e }
+
+-- hexadecimal digits have room where so many bytes have it
+pub hex-room : (keep : Bool) (out : List ℕ) (at n v : ℕ) → Room keep out at (hexDigits n v) → keep ≡ true → at + n ≤ length out
+hex-room keep out at n v h e = omega (arith, h .room e, hex-length n v)
+
+-- hexadecimal digits that are not kept
+pub hex-no : (keep : Bool) (out : List ℕ) (at n v r : ℕ) → keep ≡ false → r ≡ min (at + n) largest → Wrote keep out at (hexDigits n v) r out
+hex-no keep out at n v r e p = wrote-no keep out at (hexDigits n v) r e (omega (arith, p, hex-length n v))
 
 -- A WALK
 

@@ -21,14 +21,14 @@ use Rattle.operand.specs.Log.{kept}
 use Rattle.records.specs.declared.Checked.{Checked as Answer}
 use Rattle.records.specs.declared.Checked.the-variants.{Good, Bad}
 use Rattle.assemble.specs.Spelled.{saidBy}
-use Rattle.assemble.specs.Placing.{GoodStores, instrsOf, oneAt, largest}
+use Rattle.assemble.specs.Placing.{GoodStores, instrsOf, oneAt}
 use Rattle.assemble.specs.Writes.{Writes}
 use Rattle.assemble.proofs.Spell.{joined-append}
 use Rattle.assemble.proofs.Stores.{At, one-is, stores-in}
 use Rattle.disassemble.specs.declared.order.Cursor.{Cursor}
 use Rattle.disassemble.specs.declared.order.Next.{Next}
 use Rattle.disassemble.specs.declared.order.Next.the-variants as next
-use Rattle.disassemble.specs.Putting.{Room, Wrote}
+use Rattle.disassemble.specs.Putting.{largest, Room, Wrote}
 use Rattle.disassemble.specs.Listed.{leftOf, Follows, BadFromOne, beforeBad, textOver}
 use Rattle.disassemble.proofs.Put.{Going, going-starts}
 use Rattle.disassemble.proofs.Cursors.{left-all}

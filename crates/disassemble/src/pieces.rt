@@ -1,10 +1,9 @@
 // Pieces of text, each kept in the output at a place or only measured: the leaves that test the flag.
 ghost use mathlib.Core.Path.{_≡_};
 ghost use mathlib.Core.List.{_∷_, []};
-ghost use Prim.Native.Nat.{_+_, _<_, min};
+ghost use Prim.Native.Nat.{_+_, min};
 ghost use lib.ListN.{length};
 ghost use Rattle.spec.specs.Digits.{decimal, hexDigits};
-ghost use Rattle.spec.specs.Digits.{hexDigit as hexDigitOf};
 ghost use Rattle.spec.specs.Disassembly.{idText};
 ghost use Rattle.disassemble.specs.Putting.{largest, Room, Wrote};
 
@@ -45,40 +44,16 @@ pub fn put_bytes(out: &mut [u8], at: usize, s: &[u8], keep: bool) -> usize
     further(at, s.len())
 }
 
-// How many decimal digits a number has.
-fn digit_count(v: u64) -> usize
-    ensures { λ r. ⌜ r ≡ length (decimal v) ⌝ }
-{
-    let mut n = 1;
-    let mut rest = v;
-    while 10 <= rest {
-        rest = rest / 10;
-        n += 1;
-    }
-    n
-}
-
 // A number in decimal.
 pub fn put_number(out: &mut [u8], at: usize, v: u64, keep: bool) -> usize
     requires { ⌜ Room keep (now out) at (decimal v) ⌝ }
     ensures { λ r. ⌜ Wrote keep (now (out .entry)) at (decimal v) r (now (out .exit)) ⌝ }
 {
-    let n = digit_count(v);
+    let n = texts::digit_count(v);
     if keep {
         return texts::digits(out, at, n, v);
     }
     further(at, n)
-}
-
-// A hexadecimal digit.
-fn hex_digit(d: u8) -> u8
-    requires { ⌜ d < 16 ⌝ }
-    ensures { λ r. ⌜ r ≡ hexDigitOf d ⌝ }
-{
-    if d < 10 {
-        return 48 + d;
-    }
-    55 + d
 }
 
 // The last n hexadecimal digits of a number.
@@ -86,11 +61,10 @@ pub fn put_hex(out: &mut [u8], at: usize, n: usize, v: u64, keep: bool) -> usize
     requires { ⌜ Room keep (now out) at (hexDigits n v) ⌝ }
     ensures { λ r. ⌜ Wrote keep (now (out .entry)) at (hexDigits n v) r (now (out .exit)) ⌝ }
 {
-    if n == 0 {
-        return at;
+    if keep {
+        return texts::hex(out, at, n, v);
     }
-    let end = put_hex(out, at, n - 1, v / 16, keep);
-    put_byte(out, end, hex_digit((v % 16) as u8), keep)
+    further(at, n)
 }
 
 // An id.

@@ -41,8 +41,10 @@ use Rattle.operand.proofs.keep_bytes as keep-bytes-call
 use Rattle.names.proofs.table as names-table-call
 use Rattle.records.proofs.at_most as at-most-call
 use Rattle.texts.proofs.put as put-call
+use Rattle.texts.proofs.digit_count as digit-count-call
 use Rattle.texts.proofs.digits as digits-call
 use Rattle.texts.proofs.decimal as decimal-call
+use Rattle.texts.proofs.hex as hex-call
 use Rattle.listed.proofs.listing as listing-call
 use Rattle.pledge.proofs.Offered.{Determined, both, and}
 
@@ -191,13 +193,21 @@ at-most = λ κs a x y after other ask p q. (both p q, refl)
 pub put : Determined put-call.Kinds.ps put-call.Kinds.r put-call.Reads.Asked put-call.Reads.Learnt
 put = λ κs a x y after other ask p q. (both (p .ends) (q .ends), and (both (p .is) (q .is)) refl)
 
--- digits of a number, at most so many
+-- how many digits a number has
+pub digit-count : Determined digit-count-call.Kinds.ps digit-count-call.Kinds.r digit-count-call.Reads.Asked digit-count-call.Reads.Learnt
+digit-count = λ κs a x y after other ask p q. (both p q, refl)
+
+-- the digits of a number, as many as it has
 pub digits : Determined digits-call.Kinds.ps digits-call.Kinds.r digits-call.Reads.Asked digits-call.Reads.Learnt
 digits = λ κs a x y after other ask p q. (both (p .ends) (q .ends), and (both (p .is) (q .is)) refl)
 
 -- a number in decimal, written into a buffer
 pub decimal : Determined decimal-call.Kinds.ps decimal-call.Kinds.r decimal-call.Reads.Asked decimal-call.Reads.Learnt
 decimal = λ κs a x y after other ask p q. (both (p .ends) (q .ends), and (both (p .is) (q .is)) refl)
+
+-- the last hexadecimal digits of a number
+pub hex : Determined hex-call.Kinds.ps hex-call.Kinds.r hex-call.Reads.Asked hex-call.Reads.Learnt
+hex = λ κs a x y after other ask p q. (both (p .ends) (q .ends), and (both (p .is) (q .is)) refl)
 
 -- a module's listing, written into a buffer
 pub listing : Determined listing-call.Kinds.ps listing-call.Kinds.r listing-call.Reads.Asked listing-call.Reads.Learnt

@@ -1,11 +1,10 @@
 -- Laws of texts written into a buffer, one after the other, and of how far they reach.
-use Prim.Native.Nat.{ℕ, zero, suc, _+_, _-_, _/_, _%_, _≤_, _<_}
+use Prim.Native.Nat.{ℕ, zero, suc, _+_, _/_, _%_, _≤_}
 use mathlib.Core.Path.{_≡_, refl, ap, sym, _∙_}
 use mathlib.Core.Bool.{Bool, true, false}
 use mathlib.Core.List.{List, [], _∷_, _++_}
 use native.Mathlib.Omega.{arith}
 use native.Mathlib.Nat.{add-zero}
-use borrow.Author.Tests.{lt-ltb, le-ltb}
 use lib.Dec.{ltb}
 use lib.ListN.{length, length-append}
 use lib.Seq.{sets, length-sets}
@@ -43,29 +42,6 @@ reach {a} {b} {i} {j} {s} n w h =
     record { near = omega (arith, w .ends); same = ap length (w .is) ∙ length-sets a i s }
 
 -- DIGITS
-
--- no digit
-pub digits-none : (l : List ℕ) (at n v : ℕ) → n ≡ 0 → Wrote l l at at (digitsFrom n v)
-unfolding digitsFrom
-digits-none l at zero v e = wrote-none l at
-digits-none l at (suc n) v e = absurd (omega arith)
-
--- one digit
-pub digits-one : {a b : List ℕ} {at end : ℕ} (n v : ℕ) → (n ≡ 0 → ⊥) → v < 10 → Wrote a b at end ((48 + v) ∷ [])
-    → Wrote a b at end (digitsFrom n v)
-unfolding digitsFrom
-digits-one zero v z h w = absurd (z refl)
-digits-one (suc n) v z h w = simp (lt-ltb v 10 h) w
-
--- the last digit, after the others
-pub digits-more : {a b c : List ℕ} {at mid end : ℕ} (n v : ℕ) → (n ≡ 0 → ⊥) → 10 ≤ v → Wrote a b at mid (digitsFrom (n - 1) (v / 10))
-    → Wrote b c mid end ((48 + v % 10) ∷ [])
-    → Wrote a c at end (digitsFrom n v)
-unfolding digitsFrom
-digits-more zero v z h p q = absurd (z refl)
-digits-more {a} {b} {c} {at} {mid} {end} (suc n) v z h p q =
-    let e : suc n - 1 ≡ n = omega arith in
-    simp (le-ltb v 10 h) (wrote-then (rw e at p) q)
 
 -- at most one digit more, by a test
 few-by : (t : Bool) (n d e : ℕ) (more : List ℕ) → length more ≤ n → length (if t then d ∷ [] else more ++ (e ∷ [])) ≤ suc n

@@ -1,7 +1,6 @@
 -- `disassemble::pieces::put_number` meets its contract: as many digits as were counted.
 -- Assumes nothing.
-use Rattle.disassemble.proofs.Put.{wrote-no}
-use Rattle.disassemble.proofs.Digits.{number-yes}
+use Rattle.disassemble.proofs.Put.{text-yes, wrote-no}
 use borrow.Author.Needs.{needs}
 use native.Mathlib.Omega.{arith}
 use Rattle.disassemble.proofs.pieces.put_number.Statement.{statement}
@@ -15,7 +14,7 @@ digits-requires c κs =
     let at-start = c .before .before .before .before in
     let at-if1 = c .before in
     let at-digit-count = c .before .before in
-    omega (arith, at-start .pre .room (at-if1 .if1 .taken), at-digit-count .digit-count .ensures)
+    (at-digit-count .digit-count .ensures, omega (arith, at-start .pre .room (at-if1 .if1 .taken), at-digit-count .digit-count .ensures))
 
 same-length : tie.Need-same-length
 same-length c = search needs
@@ -24,9 +23,8 @@ returns : tie.Need-returns
 returns c =
     let at-start = c .before .before .before .before .before .before .before in
     let at-if1 = c .before .before .before .before in
-    let at-digit-count = c .before .before .before .before .before in
     let at-digits = c .before .before in
-    number-yes _ _ _ _ _ _ _ (at-start .pre) (at-if1 .if1 .taken) (at-digit-count .digit-count .ensures) (at-digits .digits .ensures)
+    text-yes _ _ _ _ _ _ (at-start .pre) (at-if1 .if1 .taken) (at-digits .digits .ensures)
 
 further-requires : tie.Need-further-requires
 further-requires c κs = search needs

@@ -1,9 +1,9 @@
--- `disassemble::pieces::hex_digit` meets its contract.
+-- `texts::hex_digit` meets its contract.
 -- Assumes nothing.
-use Rattle.disassemble.proofs.Digits.{hex-low, hex-high}
+use Rattle.texts.proofs.Filling.{hex-low, hex-high}
 use borrow.Author.Needs.{needs}
-use Rattle.disassemble.proofs.pieces.hex_digit.Statement.{statement}
-use Rattle.disassemble.proofs.pieces.hex_digit.Tie as tie
+use Rattle.texts.proofs.hex_digit.Statement.{statement}
+use Rattle.texts.proofs.hex_digit.Tie as tie
 
 add-result : tie.Need-add-result
 add-result c = search needs

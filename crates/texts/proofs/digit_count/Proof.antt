@@ -1,9 +1,9 @@
--- `disassemble::pieces::digit_count` meets its contract: a tenth has one digit less.
+-- `texts::digit_count` meets its contract: a tenth has one digit less.
 -- Assumes nothing.
-use Rattle.disassemble.proofs.Digits.{Counting, counting-starts, counting-on, counting-few, counting-ends}
+use Rattle.texts.proofs.Filling.{Counting, counting-starts, counting-on, counting-few, counting-ends}
 use native.Mathlib.Omega.{arith}
-use Rattle.disassemble.proofs.pieces.digit_count.Statement.{statement}
-use Rattle.disassemble.proofs.pieces.digit_count.Tie as tie
+use Rattle.texts.proofs.digit_count.Statement.{statement}
+use Rattle.texts.proofs.digit_count.Tie as tie
 
 abbrev Inv-loop : tie.InvT-loop
 Inv-loop v n₀ rest₀ n rest = Counting v n rest
