@@ -11,6 +11,7 @@ pub record Rising (e : Ends) : Type 0 where
   pub strings : e .log ≤ e .strings
   pub types : e .strings ≤ e .types
   pub order : e .types ≤ e .order
+  pub text : e .order ≤ e .text
 
 -- an entry ends not past the sample's end, with one difference at most
 unfoldable pub Follows : ℕ → Turn → Type 0

@@ -1,5 +1,5 @@
-// Replays the sample (data/README.md): loads each of its modules by the built-in grammar, writes an accepted one in module order, and
-// compares all with the answers kept there. Writes a line for each module that differs, then how many there were of both.
+// Replays the sample (data/README.md): loads each of its modules by the built-in grammar, writes an accepted one in module order and as
+// text, and compares all with the answers kept there. Writes a line for each module that differs, then how many there were of both.
 ghost use Prim.Native.Nat.{_+_, _≤_};
 ghost use lib.ListN.{length};
 ghost use Rattle.replay.specs.Entries.{Follows};
@@ -58,7 +58,7 @@ fn entry(s: &[u8], at: usize, i: usize) -> Turn
     let from = at + HEAD;
     let head = head_at(s, at);
     let ends = ends_of(head);
-    let size = ends.order;
+    let size = ends.text;
     if s.len() - from < size {
         return Turn::Cut;
     }
@@ -95,10 +95,10 @@ fn replay(s: &[u8]) {
     say_all(count, differences);
 }
 
-// The sample is the file `sample.bin`, of which 131,072 bytes are read at most.
+// The sample is the file `sample.bin`, of which 196,608 bytes are read at most.
 fn main() {
     let file = os::open_read(b"sample.bin");
-    let mut sample = [0u8; 131072];
+    let mut sample = [0u8; 196608];
     let n = io::read_full(file, &mut sample);
     replay(&sample[..n]);
 }

@@ -1,11 +1,11 @@
-// The parts of an entry: fifteen words, then the module and what was kept of its answer, without gaps.
+// The parts of an entry: sixteen words, then the module and what was kept of its answer, without gaps.
 ghost use Prim.Native.Nat.{_+_, _≤_, _<_};
 ghost use lib.ListN.{length};
 ghost use Rattle.replay.specs.Entries.{Rising};
 use words::word_at;
 
 // How many bytes the words take.
-pub const HEAD: usize = 60;
+pub const HEAD: usize = 64;
 
 // How many bytes an instruction record takes, and a type entry.
 const RECORD: usize = 4 * records::RECORD;
@@ -20,6 +20,7 @@ pub struct Ends {
     pub strings: usize,
     pub types: usize,
     pub order: usize,
+    pub text: usize,
 }
 
 // A word as a length.
@@ -29,13 +30,13 @@ pub fn wide(x: u32) -> usize
     x as usize
 }
 
-// The fifteen words at a place.
-pub fn head_at(s: &[u8], at: usize) -> [u32; 15]
-    requires { ⌜ at + 60 ≤ length (now s) ⌝ }
+// The sixteen words at a place.
+pub fn head_at(s: &[u8], at: usize) -> [u32; 16]
+    requires { ⌜ at + 64 ≤ length (now s) ⌝ }
 {
-    let mut head = [0u32; 15];
+    let mut head = [0u32; 16];
     let mut i = 0;
-    while i < 15 {
+    while i < 16 {
         head[i] = word_at(s, at + 4 * i);
         i = i + 1;
     }
@@ -43,7 +44,7 @@ pub fn head_at(s: &[u8], at: usize) -> [u32; 15]
 }
 
 // Where the parts end, by the lengths and counts among the words.
-pub fn ends_of(head: [u32; 15]) -> Ends
+pub fn ends_of(head: [u32; 16]) -> Ends
     ensures { λ r. ⌜ Rising r ⌝ }
 {
     let module = wide(head[0]);
@@ -52,6 +53,7 @@ pub fn ends_of(head: [u32; 15]) -> Ends
     let strings = log + wide(head[7]);
     let types = strings + ENTRY * wide(head[8]);
     let order = types + wide(head[9]);
+    let text = order + wide(head[15]);
     Ends {
         module,
         instructions,
@@ -59,5 +61,6 @@ pub fn ends_of(head: [u32; 15]) -> Ends
         strings,
         types,
         order,
+        text,
     }
 }

@@ -13,9 +13,10 @@ use compare::GRAMMAR;
 use std::cmp::Reverse;
 use std::collections::{BTreeMap, BinaryHeap, HashSet};
 
-/// The longest module taken, and the most bytes of the whole file.
+/// The longest module and the longest text taken, and the most bytes of the whole file.
 const MOST_MODULE: usize = 256;
-const MOST_FILE: usize = 99_000;
+const MOST_TEXT: usize = 1_000;
+const MOST_FILE: usize = 150_000;
 
 /// What a module shows, in words: `number 6`, `cell 3 block`, `kind 40`.
 type Feature = String;
@@ -33,6 +34,9 @@ impl Candidate {
         }
         let answer = krate::answer(&module).expect("the oracle's two loads agree");
         answer.number?; // a panic is no answer
+        if answer.text.as_ref().is_some_and(|text| text.len() > MOST_TEXT) {
+            return None;
+        }
         let mut features = features(&module, &answer);
         features.sort();
         features.dedup();
@@ -42,6 +46,7 @@ impl Candidate {
     fn bytes(&self) -> Vec<u8> {
         let a = &self.answer;
         let order: &[u8] = a.module.as_deref().unwrap_or(&[]);
+        let text: &[u8] = a.text.as_deref().unwrap_or(&[]);
         let mut header = [0; 5];
         if let Some((major, minor, bound)) = a.header {
             let words: Vec<u32> = self.module[..20].chunks(4).map(|b| u32::from_le_bytes(b.try_into().unwrap())).collect();
@@ -62,12 +67,14 @@ impl Candidate {
         ];
         let mut all = bytes_of(&numbers);
         all.extend(bytes_of(&header));
+        all.extend(bytes_of(&[text.len() as u32]));
         all.extend(&self.module);
         all.extend(bytes_of(&a.instructions));
         all.extend(&a.log);
         all.extend(&a.strings);
         all.extend(bytes_of(&a.types));
         all.extend(order);
+        all.extend(text);
         all
     }
 }

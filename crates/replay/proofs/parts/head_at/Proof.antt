@@ -7,10 +7,10 @@ use Rattle.replay.proofs.parts.head_at.Statement.{statement}
 use Rattle.replay.proofs.parts.head_at.Tie as tie
 
 abbrev Inv-loop : tie.InvT-loop
-Inv-loop s at head₀ i₀ head i = (i ≤ 15) × (length head ≡ 15)
+Inv-loop s at head₀ i₀ head i = (i ≤ 16) × (length head ≡ 16)
 
 abbrev μ-loop : tie.MeasureT-loop
-μ-loop s at head₀ i₀ head i = 15 - i
+μ-loop s at head₀ i₀ head i = 16 - i
 
 pub head-at-spec : {M : Type 1} → statement M
 head-at-spec =
