@@ -17,6 +17,7 @@ pub struct Stores {
 pub enum Order {
     Parse,
     Module,
+    Text,
 }
 
 impl Stores {
@@ -71,11 +72,12 @@ impl Stores {
         }
     }
 
-    /// Writes what was loaded: the number, and how many bytes.
+    /// Writes what was loaded, as a module or as text: the number, and how many bytes.
     pub fn write(&self, order: Order, out: &mut [u8]) -> (u32, usize) {
         let call = match order {
             Order::Parse => c::kollafrin_write_parse_order,
             Order::Module => c::kollafrin_write_module_order,
+            Order::Text => c::kollafrin_disassemble,
         };
         let header = [8, 9, 10, 11, 12].map(|n| self.answer[n]);
         let [records, log, strings] = [4, 5, 6].map(|n| self.answer[n] as usize);

@@ -12,7 +12,7 @@ mod grow;
 mod reading;
 
 use library::{Order, Stores};
-use rspirv::binary::Assemble;
+use rspirv::binary::{Assemble, Disassemble};
 use std::hint::black_box;
 use std::process::{exit, Command};
 use std::sync::atomic::{AtomicBool, Ordering};
@@ -20,8 +20,18 @@ use std::time::{Duration, Instant};
 use std::{env, fs, thread};
 
 /// The functions measured.
-const MEASURED: [&str; 8] =
-    ["crate-load", "crate-load-drop", "load-builtin", "load", "load-builtin-new", "crate-assemble", "parse-order", "module-order"];
+const MEASURED: [&str; 10] = [
+    "crate-load",
+    "crate-load-drop",
+    "load-builtin",
+    "load",
+    "load-builtin-new",
+    "crate-assemble",
+    "parse-order",
+    "module-order",
+    "crate-disassemble",
+    "disassemble",
+];
 
 /// A case that takes more nanoseconds than this is stopped.
 const LONGEST: i64 = 20_000_000_000;
@@ -137,6 +147,21 @@ fn ready(function: &str, bytes: Vec<u8>) -> Box<dyn FnMut() -> Took> {
             assert_eq!(stores.write(order, &mut out), (0, bytes.len()));
             assert!(out == must_be, "other bytes than the module's, or than the crate's");
             Box::new(move || timed(|| assert_eq!(black_box(&stores).write(order, &mut out).0, 0)))
+        }
+        "crate-disassemble" => {
+            let module = krate(&bytes);
+            Box::new(move || {
+                let mut held = String::new();
+                let time = timed(|| held = black_box(&module).disassemble());
+                assert!(held.starts_with("; SPIR-V"));
+                time
+            })
+        }
+        "disassemble" => {
+            let stores = loaded(&bytes);
+            // no text is longer than sixteen times its module here; else the call says so
+            let mut out = vec![0; 16 * bytes.len() + 256];
+            Box::new(move || timed(|| assert_eq!(black_box(&stores).write(Order::Text, &mut out).0, 0)))
         }
         // a module with a header alone: what each call costs before the first instruction
         "load-header" => {
@@ -279,10 +304,11 @@ fn said(file: &str) -> Said {
     let mut all: Said = vec![];
     for line in fs::read_to_string(file).expect("what was measured").lines() {
         let [name, bytes, function, said] = line.split('\t').collect::<Vec<_>>()[..] else { continue };
-        if all.last().map_or(true, |last| last.0 != name) {
+        let at = all.iter().position(|one| one.0 == name).unwrap_or_else(|| {
             all.push((name.into(), bytes.into(), vec![]));
-        }
-        all.last_mut().expect("one at least").2.push((function.into(), said.into()));
+            all.len() - 1
+        });
+        all[at].2.push((function.into(), said.into()));
     }
     all
 }
@@ -303,9 +329,10 @@ fn show(before: Said, after: Said) {
         (Some(Ok(a)), Some(Ok(b))) => format!("{:.2}", a / b),
         _ => "–".to_string(),
     };
-    let tables: [(&[&str], &[&str]); 2] = [
+    let tables: [(&[&str], &[&str]); 3] = [
         (&["crate-load", "crate-load-drop"], &["load", "load-builtin", "load-builtin-new"]),
         (&["crate-assemble"], &["parse-order", "module-order"]),
+        (&["crate-disassemble", "spirv-tools"], &["disassemble"]),
     ];
     for (krate, library) in tables {
         print!("| input | bytes | {}", krate.join(" | "));
