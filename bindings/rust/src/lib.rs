@@ -16,7 +16,7 @@
 //! ```
 //!
 //! A call takes stack, on x86-64 up to 120,000 bytes for [`Module::load`] and 92,000 for [`Module::load_builtin`] (60,000 and 32,000
-//! for a module of 16,384 bytes or less), 1,500 for the writers and [`Module::standing`], 42,000 for [`Module::disassemble`], 500 for any other function of the
+//! for a module of 16,384 bytes or less), 1,500 for the writers and [`Module::standing`], 47,000 for [`Module::disassemble`], 500 for any other function of the
 //! library; this crate's own functions come on top. A thread that has less left ends with a fault.
 //!
 //! Linking needs the archive `libkollafrin.a`, made by `rt staticlib kollafrin` for x86-64. It is looked for in the folder
