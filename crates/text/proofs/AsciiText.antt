@@ -49,7 +49,7 @@ no-zero (b ∷ s) h =
     ap (λ (t : Bool). not t && every (λ x. not (eqb x 0)) s) (ne-eqb b 0 (λ e. omega (arith, u .0))) ∙ no-zero s (u .2)
 
 -- a byte of ASCII is a whole character
-whole-byte : (b : ℕ) → b < 128 → dueAfter (due 0 128 191) b ≡ some (due 0 128 191)
+pub whole-byte : (b : ℕ) → b < 128 → dueAfter (due 0 128 191) b ≡ some (due 0 128 191)
 unfolding dueAfter leadOf
 whole-byte b h =
     ap (λ (t : Bool). if t then some (due 0 128 191) else leadOf b (drop 1 utf8Table))

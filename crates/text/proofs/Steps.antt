@@ -1,63 +1,72 @@
 -- Laws of the UTF-8 test: its steps and its loop, by the definitions of what is due.
 use Prim.Native.Nat.{ℕ, zero, suc, _+_, _-_, _<_, _≤_}
 use mathlib.Core.Path.{_≡_, refl, ap, sym, _∙_}
-use mathlib.Core.Bool.{Bool, true, false, _&&_, false≢true}
-use mathlib.Core.List.{List, []}
+use mathlib.Core.Bool.{Bool, true, false}
+use mathlib.Core.List.{List, [], _∷_, map}
 use mathlib.Core.Option.{Option, none, some}
 use native.Mathlib.Omega.{arith}
-use borrow.Author.Tests.{le-leb, lt-leb, ne-eqb, eqb-true}
+use native.Mathlib.Numerals.{add-one}
+use borrow.Author.Tests.{ne-eqb}
 use lib.Dec.{eqb}
 use lib.ListN.{length, drop, getD, drop-of-length-le}
 use Rattle.spec.specs.Base.{if_then_else_, within}
-use Rattle.spec.specs.Text.{Due, due, utf8Table, leadOf, dueAfter, onDue, utf8From, isUtf8}
+use Rattle.spec.specs.Text.{Utf8Row, lead, Due, due, utf8Table, leadOf, dueAfter, onDue, utf8From, isUtf8}
 use Rattle.text.specs.declared.Pending.{Pending}
 use Rattle.text.specs.declared.Step.{Step}
 use Rattle.text.specs.declared.Step.the-variants.{Bad, More}
-use Rattle.text.specs.Steps.{dueOf, stepTo, firstOf, stepOf}
+use Rattle.text.specs.Steps.{rowOf, utf8Rows, dueOf, stepTo, firstOf}
 use Rattle.text.proofs.Laws.{rest}
-use Rattle.spec.proofs.Choice.{left, right}
-use Rattle.spec.proofs.Range.{all, each}
+use Rattle.text.proofs.AsciiText.{whole-byte}
 
--- THE FIRST BYTE: each range of the code by the table, computed
+-- THE FIRST BYTE: a walk of the rows
 
--- are two answers the same
-unfoldable pub same : Step → Step → Bool
-same Bad Bad = true
-same Bad (More q) = false
-same (More p) Bad = false
-same (More p) (More q) = eqb (p .left) (q .left) && (eqb (p .low) (q .low) && eqb (p .high) (q .high))
+-- a number of a row, as the code has the rows
+abbrev number : List (List ℕ) → ℕ → ℕ → ℕ
+number rows i k = getD (getD rows i []) k 0
 
--- three numbers that are a state's are the state
-fields : (n lo hi : ℕ) (q : Pending) → n ≡ q .left → lo ≡ q .low → hi ≡ q .high → record { left = n; low = lo; high = hi } ≡ q
-fields n lo hi q e f g = simp (e, f, g)
+-- what the rows from one on say: what it asks for where the byte is in its range, else what those after it say
+row-here : (b : ℕ) (rows : List Utf8Row) (i : ℕ) → i < length rows → (t : Bool)
+    → within (number (map rowOf rows) i 0) b (number (map rowOf rows) i 1) ≡ t
+    → leadOf b (drop i rows)
+    ≡ (if t then some (due (number (map rowOf rows) i 2) (number (map rowOf rows) i 3) (number (map rowOf rows) i 4))
+    else leadOf b (drop (suc i) rows))
+unfolding leadOf
+row-here b [] i h t e = absurd (omega arith)
+row-here b (lead from to n lo hi ∷ rows) zero h t e = simp e
+row-here b (r ∷ rows) (suc i) h t e = row-here b rows i (omega arith) t e
 
--- answers that are the same are equal
-same-eq : (x y : Step) → same x y ≡ true → x ≡ y
-unfolding same
-same-eq Bad Bad t = refl
-same-eq Bad (More q) t = absurd (false≢true t)
-same-eq (More p) Bad t = absurd (false≢true t)
-same-eq (More p) (More q) t =
-    let a = eqb (p .left) (q .left) in
-    let b = eqb (p .low) (q .low) in
-    let c = eqb (p .high) (q .high) in
-    let u = right a (b && c) t in
-    ap More
-    (fields (p .left) (p .low) (p .high) q
-    (eqb-true (p .left) (q .left) (left a (b && c) t))
-    (eqb-true (p .low) (q .low) (left b c u))
-    (eqb-true (p .high) (q .high) (right b c u)))
+-- the rows before one do not have the byte
+pub record Walked (b i : ℕ) : Type 0 where
+  pub answer : leadOf b utf8Table ≡ leadOf b (drop i utf8Table)
 
--- is this the table's answer at a first byte
-abbrev pub gives : Step → ℕ → Bool
-gives x b = same x (stepTo (leadOf b utf8Table))
+-- before the first row
+pub walk-starts : (b : ℕ) → Walked b 0
+walk-starts b = record { answer = refl }
 
--- an answer that is the table's at each first byte from a to before e is so at one of them
-pub row : (x : Step) (a e : ℕ) → all (gives x) a (e - a) ≡ true → (b : ℕ) → a ≤ b → b < e → x ≡ firstOf b
-unfolding firstOf
-row x a e t b h g = same-eq x (firstOf b) (each (gives x) a (e - a) t b h (omega arith))
+module _ {b i : ℕ} (w : Walked b i) (rows : List (List ℕ)) (e : rows ≡ utf8Rows) where
+  -- the row at i decides
+  here-row : i < 9 → (t : Bool) → within (number rows i 0) b (number rows i 1) ≡ t
+      → leadOf b utf8Table
+      ≡ (if t then some (due (number rows i 2) (number rows i 3) (number rows i 4)) else leadOf b (drop (suc i) utf8Table))
+  unfolding utf8Rows
+  here-row h t f = rw e (w .answer ∙ row-here b utf8Table i h t (rw e at f))
 
--- A STEP
+  -- at a row that has the byte
+  pub walk-finds : i < 9 → within (number rows i 0) b (number rows i 1) ≡ true
+      → More (record { left = number rows i 2; low = number rows i 3; high = number rows i 4 }) ≡ firstOf b
+  unfolding firstOf stepTo
+  walk-finds h f = sym (ap stepTo (here-row h true f))
+
+  -- past a row that does not
+  pub walk-goes-on : i < 9 → within (number rows i 0) b (number rows i 1) ≡ false → Walked b (i + 1)
+  walk-goes-on h f = record { answer = rw (add-one i) (here-row h false f) }
+
+-- after the last row
+pub walk-ends : {b i : ℕ} → Walked b i → 9 ≤ i → Bad ≡ firstOf b
+unfolding firstOf stepTo leadOf
+walk-ends {b} w h = sym (ap stepTo (w .answer ∙ ap (leadOf b) (drop-of-length-le utf8Table h)))
+
+-- WHAT A BYTE LEADS TO
 
 -- where nothing is due, a byte is a first byte
 due-first : (n lo hi b : ℕ) → n ≡ 0 → dueAfter (due n lo hi) b ≡ leadOf b utf8Table
@@ -72,32 +81,6 @@ due-next zero lo hi b t z e = absurd (z refl)
 due-next (suc n) lo hi b t z e =
     let q : n ≡ suc n - 1 = omega arith in
     simp e (ap (λ (m : ℕ). if t then some (due m 128 191) else none) q)
-
--- a first byte
-pub step-first : (p : Pending) (b : ℕ) (x : Step) → p .left ≡ 0 → x ≡ firstOf b → x ≡ stepOf p b
-unfolding stepOf firstOf
-step-first p b x z e = e ∙ ap stepTo (sym (due-first (p .left) (p .low) (p .high) b z))
-
-module _ (p : Pending) (b : ℕ) (z : p .left ≡ 0 → ⊥) where
-  -- the range decides
-  step-by : (t : Bool) → within (p .low) b (p .high) ≡ t → stepTo (if t then some (due (p .left - 1) 128 191) else none) ≡ stepOf p b
-  unfolding stepOf
-  step-by t e = ap stepTo (sym (due-next (p .left) (p .low) (p .high) b t z e))
-
-  -- a byte below the range
-  pub step-low : b < p .low → Bad ≡ stepOf p b
-  unfolding stepTo
-  step-low h = step-by false (simp (lt-leb (p .low) b h))
-
-  -- a byte above the range
-  pub step-high : p .low ≤ b → p .high < b → Bad ≡ stepOf p b
-  unfolding stepTo
-  step-high h g = step-by false (simp (le-leb (p .low) b h, lt-leb b (p .high) g))
-
-  -- a byte in the range
-  pub step-in : (x : Step) → p .low ≤ b → b ≤ p .high → x ≡ More (record { left = p .left - 1; low = 128; high = 191 }) → x ≡ stepOf p b
-  unfolding stepTo
-  step-in x h g e = e ∙ step-by true (simp (le-leb (p .low) b h, le-leb b (p .high) g))
 
 -- where the answer is that more is due, so much is due
 step-more : (o : Option Due) (p : Pending) → stepTo o ≡ More p → o ≡ some (dueOf p)
@@ -130,22 +113,59 @@ unfolding utf8From
 utf8-nil zero lo hi = refl
 utf8-nil (suc n) lo hi = sym (ne-eqb (suc n) 0 (λ e. omega arith))
 
+-- where nothing is due, the range does not matter
+idle : (n lo hi : ℕ) → n ≡ 0 → (bs : List ℕ) → utf8From (due 0 128 191) bs ≡ utf8From (due n lo hi) bs
+unfolding utf8From dueAfter
+idle zero lo hi z [] = refl
+idle zero lo hi z (b ∷ bs) = refl
+idle (suc n) lo hi z bs = absurd (omega arith)
+
 module _ {s : List ℕ} {p : Pending} {i : ℕ} (r : Tested s p i) where
-  -- what is due after the byte at i decides
-  here : i < length s → (o : Option Due) → dueAfter (dueOf p) (getD s i 0) ≡ o → isUtf8 s ≡ onDue o (λ d. utf8From d (drop (i + 1) s))
-  unfolding utf8From
-  here h o e = r .answer ∙ ap (utf8From (dueOf p)) (rest s i h) ∙ ap (λ (o : Option Due). onDue o (λ d. utf8From d (drop (i + 1) s))) e
-
-  -- past a byte after which so much is due
-  pub test-goes-on : i < length s → (x : Step) (q : Pending) → x ≡ stepOf p (getD s i 0) → x ≡ More q → Tested s q (i + 1)
-  unfolding stepOf
-  test-goes-on h x q e f = record { answer = here h (some (dueOf q)) (step-more _ q (sym e ∙ f)) }
-
-  -- at a byte that may not stand
-  pub test-fails : i < length s → (x : Step) → x ≡ stepOf p (getD s i 0) → x ≡ Bad → false ≡ isUtf8 s
-  unfolding stepOf
-  test-fails h x e f = sym (here h none (step-bad _ (sym e ∙ f)))
-
   -- at the end
   pub test-ends : length s ≤ i → eqb (p .left) 0 ≡ isUtf8 s
   test-ends h = sym (r .answer ∙ ap (utf8From (dueOf p)) (drop-of-length-le s h) ∙ utf8-nil (p .left) (p .low) (p .high))
+
+  module _ (h : i < length s) where
+    -- what is due after the byte at i decides
+    here : (o : Option Due) → dueAfter (dueOf p) (getD s i 0) ≡ o → isUtf8 s ≡ onDue o (λ d. utf8From d (drop (i + 1) s))
+    unfolding utf8From
+    here o e = r .answer ∙ ap (utf8From (dueOf p)) (rest s i h) ∙ ap (λ (o : Option Due). onDue o (λ d. utf8From d (drop (i + 1) s))) e
+
+    module _ (z : p .left ≡ 0) where
+      -- so does the table, where nothing is due
+      leads : dueAfter (dueOf p) (getD s i 0) ≡ leadOf (getD s i 0) utf8Table
+      leads = due-first (p .left) (p .low) (p .high) (getD s i 0) z
+
+      -- past a byte of the first row
+      pub test-passes : (rows : List (List ℕ)) → rows ≡ utf8Rows → getD s i 0 ≤ number rows 0 1 → Tested s p (i + 1)
+      unfolding utf8Rows dueAfter
+      test-passes rows e g =
+          let q : getD s i 0 ≤ 127 = rw e at g in
+          record {
+            answer =
+                here (some (due 0 128 191)) (leads ∙ whole-byte (getD s i 0) (omega (arith, q)))
+                ∙ idle (p .left) (p .low) (p .high) z (drop (i + 1) s);
+          }
+
+      -- past a first byte after which so much is due
+      pub test-leads : (x : Step) (q : Pending) → x ≡ firstOf (getD s i 0) → x ≡ More q → Tested s q (i + 1)
+      unfolding firstOf
+      test-leads x q e f = record { answer = here (some (dueOf q)) (leads ∙ step-more _ q (sym e ∙ f)) }
+
+      -- at a first byte that may not stand
+      pub test-fails : (x : Step) → x ≡ firstOf (getD s i 0) → x ≡ Bad → false ≡ isUtf8 s
+      unfolding firstOf
+      test-fails x e f = sym (here none (leads ∙ step-bad _ (sym e ∙ f)))
+
+    module _ (z : p .left ≡ 0 → ⊥) where
+      -- where something is due, the range decides
+      follows : (t : Bool) → within (p .low) (getD s i 0) (p .high) ≡ t → dueAfter (dueOf p) (getD s i 0) ≡ (if t then some (due (p .left - 1) 128 191) else none)
+      follows t e = due-next (p .left) (p .low) (p .high) (getD s i 0) t z e
+
+      -- past a byte in the range
+      pub test-goes-on : within (p .low) (getD s i 0) (p .high) ≡ true → Tested s (record { left = p .left - 1; low = 128; high = 191 }) (i + 1)
+      test-goes-on e = record { answer = here (some (due (p .left - 1) 128 191)) (follows true e) }
+
+      -- at a byte out of it
+      pub test-stops : within (p .low) (getD s i 0) (p .high) ≡ false → false ≡ isUtf8 s
+      test-stops e = sym (here none (follows false e))
