@@ -10,12 +10,12 @@ use lib.Dec.{leb, ltb, eqb}
 use lib.ListN.{length, take, drop, getD, drop-of-length-le}
 use lib.Seq.{drop-cons}
 use Rattle.spec.specs.declared.Fields.{Fields}
-use Rattle.spec.specs.Base.{if_then_else_, orZero, ascii}
+use Rattle.spec.specs.Base.{if_then_else_, orZero, orElse, same, ascii}
 use Rattle.spec.specs.Words.{fourAt}
 use Rattle.spec.specs.Kinds.{isLong, isText}
 use Rattle.spec.specs.Records.{Operand, narrow, wide, text, Placed, recordSize, fieldsAt}
 use Rattle.spec.specs.Check.{bitsIn, fieldIn, placedOf}
-use Rattle.spec.specs.Disassembly.{same, setNamed, setIn, isId, importOf, orElse, setOf}
+use Rattle.spec.specs.Disassembly.{setNamed, setIn, isId, importOf, setOf}
 use Rattle.operand.specs.Parts.{isTwo}
 use Rattle.records.specs.Good.{operandBy, operandAt}
 use Rattle.records.proofs.Good.{operand-is}

@@ -2,10 +2,9 @@
 ghost use mathlib.Core.Path.{_≡_};
 ghost use Prim.Native.Nat.{_*_, _≤_};
 ghost use lib.ListN.{length};
-ghost use Rattle.spec.specs.Base.{orZero};
+ghost use Rattle.spec.specs.Base.{orZero, same as sameAs};
 ghost use Rattle.spec.specs.Records.{recordSize};
 ghost use Rattle.spec.specs.Disassembly.{setNamed, importOf, setOf};
-ghost use Rattle.spec.specs.Disassembly.{same as sameAs};
 ghost use Rattle.assemble.specs.Spelled.{AllReadable, saidBy};
 ghost use Rattle.assemble.specs.Placing.{GoodStores, instrsOf};
 ghost use Rattle.disassemble.specs.Listed.{ImportsEnd};

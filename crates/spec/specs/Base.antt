@@ -42,6 +42,18 @@ abbrev pub andThen : {A B : Type 0} → Option A → (A → Option B) → Option
 andThen none f = none
 andThen (some a) f = f a
 
+-- the first that is there
+abbrev pub orElse : {A : Type 0} → Option A → Option A → Option A
+orElse none b = b
+orElse (some a) b = some a
+
+-- are they the same numbers
+abbrev pub same : List ℕ → List ℕ → Bool
+same [] [] = true
+same [] (y ∷ ys) = false
+same (x ∷ xs) [] = false
+same (x ∷ xs) (y ∷ ys) = eqb x y && same xs ys
+
 -- each element's list, one after the other
 abbrev pub joined : {A B : Type 0} → (A → List B) → List A → List B
 joined f [] = []

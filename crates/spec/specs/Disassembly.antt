@@ -9,7 +9,7 @@ use mathlib.Core.List.{List, [], _∷_, _++_}
 use mathlib.Core.Option.{Option, none, some}
 use lib.Dec.{eqb}
 use lib.ListN.{take, drop, getD}
-use Rattle.spec.specs.Base.{if_then_else_, within, isIn, has, andThen as _>>=_, joined, every, ascii}
+use Rattle.spec.specs.Base.{if_then_else_, within, isIn, has, andThen as _>>=_, orElse, same, joined, every, ascii}
 use Rattle.spec.specs.Words.{major, minor, bitsFrom, bitsOf}
 use Rattle.spec.specs.Digits.{digitsFrom, decimal, hexDigit, hexDigits}
 use Rattle.spec.specs.Kinds.{isMask}
@@ -96,13 +96,6 @@ operandNamed (text s) = true
 
 -- EXTENDED INSTRUCTION SETS: `ExtInstSetTracker`
 
--- do two texts agree
-abbrev pub same : List ℕ → List ℕ → Bool
-same [] [] = true
-same [] (y ∷ ys) = false
-same (x ∷ xs) [] = false
-same (x ∷ xs) (y ∷ ys) = eqb x y && same xs ys
-
 -- the set of a name, where it is recognised
 unfoldable pub setNamed : List ℕ → Option ℕ
 setNamed s =
@@ -125,11 +118,6 @@ isId id (some i) = eqb i id
 -- the set that an instruction imports under an id, where it is an OpExtInstImport, as those of tag 3 are
 unfoldable pub importOf : ℕ → Placed → Option ℕ
 importOf id p = if hasTag 3 p && isId id (p .instr .resultId) then setIn (p .instr .operands) else none
-
--- the first that is there
-abbrev pub orElse : Option ℕ → Option ℕ → Option ℕ
-orElse none b = b
-orElse (some a) b = some a
 
 -- the set of an id: the last import that is recognised holds
 unfoldable pub setOf : ℕ → List Placed → Option ℕ

@@ -16,6 +16,7 @@ pub mod Plain
 pub mod Check
 pub mod Write
 pub mod Digits
+pub mod Join
 pub mod Listing
 pub mod NameTable
 pub mod Names

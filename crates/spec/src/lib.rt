@@ -85,3 +85,11 @@ pub struct Stands {
     pub index: usize,
     pub yes: bool,
 }
+
+// What joining two grammars answers: the number (0 joined), its place and value, the bytes written.
+pub struct Joined {
+    pub number: u32,
+    pub place: u32,
+    pub value: u32,
+    pub bytes: usize,
+}

@@ -51,3 +51,7 @@ pub const BAD_RECORDS: u32 = 30;
 pub const MODULE_TOO_LONG: u32 = 31;
 
 pub const TEXT_LONG: u32 = 32;
+
+pub const GRAMMARS_CLASH: u32 = 34;
+
+pub const JOINED_SHORT: u32 = 35;

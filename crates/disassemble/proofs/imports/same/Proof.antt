@@ -3,7 +3,7 @@
 use mathlib.Core.Path.{_≡_, refl}
 use Prim.Native.Nat.{_-_}
 use lib.ListN.{length, drop}
-use Rattle.spec.specs.Disassembly.{same}
+use Rattle.spec.specs.Base.{same}
 use Rattle.disassemble.proofs.Sets.{same-none, same-bad, same-on, same-ends}
 use native.Mathlib.Omega.{arith}
 use Rattle.disassemble.proofs.imports.same.Statement.{statement}
