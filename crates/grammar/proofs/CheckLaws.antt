@@ -29,7 +29,7 @@ use Rattle.grammar.proofs.ItemLaws.{items-read, items-end}
 use Rattle.grammar.proofs.SearchLaws.{kind-rises}
 use Rattle.grammar.proofs.MarkLaws.{isFine, enum-least, fine-there}
 use Rattle.grammar.proofs.IndexLaws.{guess-put, places-length}
-use Rattle.grammar.proofs.FlatLaws.{in-both, note, noting-start, noting-row, noting-enumerant, noting-end}
+use Rattle.grammar.proofs.FlatLaws.{in-both, note, noting-start, noting-row, noting-enumerant, noting-end, noted-flat}
 
 -- WHERE A ROW OR AN ENUMERANT MAY OPEN
 
@@ -319,14 +319,15 @@ module _ {g : List ℕ} {j u from : ℕ} {owners used owners′ used′ : List B
 -- ONE ROW OR ENUMERANT MORE
 
 -- before the first
-pub check-start : (g index : List ℕ) → Checking g index (replicate 256 false) (replicate 256 false) 0 (mark 0 0 0) 0
+pub check-start : (g index : List ℕ) (owners used : List Bool) → owners ≡ replicate 256 false → used ≡ replicate 256 false
+    → Checking g index owners used 0 (mark 0 0 0) 0
 unfolding placesIn marksOf
-check-start g index = record {
+check-start g index owners used o u = record {
   rules = opens-start 0 0 (items g);
   places = refl;
   few = omega arith;
   inside = omega arith;
-  noting = noting-start g;
+  noting = rw (o, u) (noting-start g);
 }
 
 -- an item that is neither a row nor an enumerant may not stand where one may open
@@ -471,7 +472,7 @@ module _ {g index : List ℕ} {owners used : List Bool} {count : ℕ} {m : Mark}
     unfolding wellFormed wellFormedItems opens
     check-end =
         let rules : rulesFrom start (items g) ≡ true = c .rules ∙ rw (items-end g at h) in
-        rw (rules, le-leb (length g) 65535 small) (asked ∙ noting-end (c .noting) h)
+        rw (rules, le-leb (length g) 65535 small) (asked ∙ noted-flat (noting-end (c .noting) h))
 
     -- and the index, with the count put, is an index of it
     pub check-indexed : 23382 ≤ length index → t ≡ true → Indexed g (set index 1536 count)

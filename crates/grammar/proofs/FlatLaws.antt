@@ -11,7 +11,7 @@ use lib.Seq.{drop-cons, getD-set-same, getD-set-other}
 use Rattle.spec.specs.Base.{has, every, implies, isIn, joined}
 use Rattle.spec.specs.Grammar.{items, Enumerant, enumerantsOf, parameterless, allFlat}
 use Rattle.spec.proofs.Choice.{left, right, both, cases}
-use Rattle.grammar.specs.Check.{NotedBy, isOwner, parametersIn, isApart, Noting}
+use Rattle.grammar.specs.Check.{NotedBy, isOwner, parametersIn, isApart, Noting, Noted, flatOver}
 use Rattle.grammar.proofs.ItemLaws.{items-end}
 
 -- LISTS
@@ -158,15 +158,25 @@ apart-every f l o u owned used =
     let r = apart-not o u e in
     every-out f l (r .0) (sym (used (r .0)) ∙ r .2) (not-true (f (r .0)) (sym (owned (r .0)) ∙ r .1)) h)
 
--- past the last enumerant: where no kind is both, all are flat
-pub noting-end : {g : List ℕ} {owners used : List Bool} {at : ℕ} → Noting g owners used at → length g ≤ at → isApart owners used ≡ allFlat (enumerantsOf (items g))
-unfolding allFlat enumerantsOf parametersIn
+-- past the last enumerant: all are noted
+pub noting-end : {g : List ℕ} {owners used : List Bool} {at : ℕ} → Noting g owners used at → length g ≤ at → Noted g owners used
+unfolding enumerantsOf
 noting-end {g} {owners} {used} {at} r h =
-    let es = r .seen in
-    let all : enumerantsOf (items g) ≡ es = r .all ∙ rw (items-end g at h) (append-nil es) in
-    rw all
-    (apart-every (parameterless es) (parametersIn es) owners used (r .owned) (r .taken)
-    ∙ every-joined (parameterless es) (λ e. e .parameters) es)
+    let all : enumerantsOf (items g) ≡ r .seen = r .all ∙ rw (items-end g at h) (append-nil (r .seen)) in
+    record { sizes = r .sizes; owned = rw all (r .owned); taken = rw all (r .taken) }
+
+-- where no kind is noted in both, the parameters of one grammar are of kinds that have none in the other
+pub noted-apart : {a b : List ℕ} {owners used owners′ used′ : List Bool} → Noted a owners used → Noted b owners′ used′
+    → isApart owners used′ ≡ flatOver (enumerantsOf (items a)) (enumerantsOf (items b))
+unfolding flatOver parametersIn
+noted-apart {a} {b} {owners} {used} {owners′} {used′} r s =
+    apart-every (parameterless (enumerantsOf (items a))) (parametersIn (enumerantsOf (items b))) owners used′ (r .owned) (s .taken)
+    ∙ every-joined (parameterless (enumerantsOf (items a))) (λ e. e .parameters) (enumerantsOf (items b))
+
+-- in one grammar all are flat then
+pub noted-flat : {g : List ℕ} {owners used : List Bool} → Noted g owners used → isApart owners used ≡ allFlat (enumerantsOf (items g))
+unfolding allFlat flatOver
+noted-flat r = noted-apart r r
 
 -- KIND BY KIND
 

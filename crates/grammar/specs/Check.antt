@@ -7,7 +7,7 @@ use lib.Dec.{eqb}
 use lib.ListN.{length, getD, drop}
 use Rattle.spec.specs.declared.Found.{Found}
 use Rattle.spec.specs.declared.Found.the-variants.{At, Nothing}
-use Rattle.spec.specs.Base.{if_then_else_, has, isIn, joined}
+use Rattle.spec.specs.Base.{if_then_else_, has, isIn, joined, every}
 use Rattle.spec.specs.Grammar.{Item, row, operand, enumerant, parameter, broken, items, start, inRow, inEnumerant, enumerantRule, rises, rulesFrom, Enumerant, parametersOf, enumerantsOf, parameterless}
 use Rattle.grammar.specs.declared.index.Mark.{Mark}
 use Rattle.grammar.specs.Index.{marksFrom, marksOf, placesOf, placesIn}
@@ -81,6 +81,16 @@ pub record Noting (g : List ℕ) (owners used : List Bool) (at : ℕ) : Type 0 w
   pub sizes : (length owners ≡ 256) × (length used ≡ 256)
   pub owned : (k : ℕ) → getD owners k false ≡ not (parameterless seen k)
   pub taken : (k : ℕ) → getD used k false ≡ isIn k (parametersIn seen)
+
+-- of all enumerants the kinds are noted that have parameters, and the kinds of these
+pub record Noted (g : List ℕ) (owners used : List Bool) : Type 0 where
+  pub sizes : (length owners ≡ 256) × (length used ≡ 256)
+  pub owned : (k : ℕ) → getD owners k false ≡ not (parameterless (enumerantsOf (items g)) k)
+  pub taken : (k : ℕ) → getD used k false ≡ isIn k (parametersIn (enumerantsOf (items g)))
+
+-- the parameters of some enumerants are of kinds that have none in others
+unfoldable pub flatOver : List Enumerant → List Enumerant → Bool
+flatOver others es = every (λ e. every (parameterless others) (e .parameters)) es
 
 -- THE PASS
 

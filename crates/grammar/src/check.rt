@@ -1,15 +1,15 @@
 // One pass over a grammar that checks it and fills its index: row by row with its operands, enumerant by enumerant with its parameters.
 ghost use mathlib.Core.Path.{_≡_};
-ghost use mathlib.Core.Bool.{true};
+ghost use mathlib.Core.Bool.{true, false};
 ghost use mathlib.Core.List.{List};
 ghost use Prim.Native.Nat.{_≤_, _<_};
 ghost use lib.Dec.{eqb};
-ghost use lib.ListN.{length, set};
+ghost use lib.ListN.{length, set, replicate};
 ghost use Rattle.spec.specs.Grammar.{Slot, rowEnd, wellFormed};
 ghost use Rattle.grammar.specs.Items.{itemIs, itemAt};
 ghost use Rattle.grammar.specs.Rules.{passedOf};
 ghost use Rattle.grammar.specs.Index.{markOf, Indexed};
-ghost use Rattle.grammar.specs.Check.{endsWhere, follows, Operands, Parameters, isApart, Checking, Entered};
+ghost use Rattle.grammar.specs.Check.{endsWhere, follows, Operands, Parameters, isApart, Noted, Checking, Entered};
 use crate::index::GUESSES;
 use crate::index::Mark;
 use crate::index::SIZE;
@@ -144,7 +144,7 @@ fn enter(
 }
 
 // No kind that is noted here is noted there.
-fn are_apart(owners: &[bool; 256], used: &[bool; 256]) -> bool
+pub fn are_apart(owners: &[bool; 256], used: &[bool; 256]) -> bool
     requires { ⌜ (length (now owners) ≡ 256) × (length (now used) ≡ 256) ⌝ }
     ensures { λ r. ⌜ r ≡ isApart (now (owners .entry)) (now (used .entry)) ⌝ }
 {
@@ -158,17 +158,16 @@ fn are_apart(owners: &[bool; 256], used: &[bool; 256]) -> bool
     true
 }
 
-// Checks a grammar and fills its index, in one pass over its items: whether it is well-formed.
-pub fn prepare(g: &[u8], index: &mut [u16]) -> bool
-    requires { ⌜ 23382 ≤ length (now index) ⌝ }
+// Checks a grammar, fills its index and notes its kinds, in one pass over its items: whether it is well-formed.
+fn pass(g: &[u8], index: &mut [u16], owners: &mut [bool; 256], used: &mut [bool; 256]) -> bool
+    requires { ⌜ (23382 ≤ length (now index)) × (now owners ≡ replicate 256 false) × (now used ≡ replicate 256 false) ⌝ }
     ensures { λ r. ⌜ r ≡ wellFormed (now (g .entry)) ⌝ }
     ensures { λ r. ⌜ (r ≡ true → Indexed (now (g .entry)) (now (index .exit))) ⌝ }
+    ensures { λ r. ⌜ (r ≡ true → Noted (now (g .entry)) (now (owners .exit)) (now (used .exit))) ⌝ }
 {
     if 65535 < g.len() {
         return false;
     }
-    let mut owners = [false; 256];
-    let mut used = [false; 256];
     let mut last = Mark {
         kind: 0,
         value: 0,
@@ -178,7 +177,7 @@ pub fn prepare(g: &[u8], index: &mut [u16]) -> bool
     let mut at: usize = 0;
     while at < g.len() {
         let x = item_at(g, at);
-        let end = enter(g, index, count, last, x, at, &mut owners, &mut used);
+        let end = enter(g, index, count, last, x, at, owners, used);
         let Found::At(next) = end else {
             return false;
         };
@@ -187,7 +186,28 @@ pub fn prepare(g: &[u8], index: &mut [u16]) -> bool
         at = next;
     }
     index[GUESSES] = count as u16;
-    are_apart(&owners, &used)
+    are_apart(owners, used)
+}
+
+// Checks a grammar and fills its index: whether it is well-formed.
+pub fn prepare(g: &[u8], index: &mut [u16]) -> bool
+    requires { ⌜ 23382 ≤ length (now index) ⌝ }
+    ensures { λ r. ⌜ r ≡ wellFormed (now (g .entry)) ⌝ }
+    ensures { λ r. ⌜ (r ≡ true → Indexed (now (g .entry)) (now (index .exit))) ⌝ }
+{
+    let mut owners = [false; 256];
+    let mut used = [false; 256];
+    pass(g, index, &mut owners, &mut used)
+}
+
+// Checks a grammar and notes the kinds that have parameters, and the kinds of these: whether it is well-formed.
+pub fn note_kinds(g: &[u8], owners: &mut [bool; 256], used: &mut [bool; 256]) -> bool
+    requires { ⌜ (now owners ≡ replicate 256 false) × (now used ≡ replicate 256 false) ⌝ }
+    ensures { λ r. ⌜ r ≡ wellFormed (now (g .entry)) ⌝ }
+    ensures { λ r. ⌜ (r ≡ true → Noted (now (g .entry)) (now (owners .exit)) (now (used .exit))) ⌝ }
+{
+    let mut index = [0u16; SIZE];
+    pass(g, &mut index, owners, used)
 }
 
 // "Well-formed: at most 65,535 bytes", and every rule.

@@ -7,6 +7,8 @@ mod kinds;
 mod read;
 mod rules;
 
+pub use check::are_apart;
+pub use check::note_kinds;
 pub use check::prepare;
 pub use check::well_formed;
 pub use find::ParameterAt;

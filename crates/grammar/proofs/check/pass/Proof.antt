@@ -1,5 +1,6 @@
--- `grammar::check::prepare` meets its contract.
+-- `grammar::check::pass` meets its contract.
 use Rattle.grammar.proofs.CheckLaws.{check-start, check-long, check-broken, check-few, check-end, check-indexed}
+use Rattle.grammar.proofs.FlatLaws.{noting-end}
 use Rattle.grammar.specs.Check.{Checking, Entered}
 use mathlib.Core.Bool.{false≢true}
 use mathlib.Core.Path.{_≡_, refl, _∙_}
@@ -7,8 +8,8 @@ use lib.ListN.{length, length-set}
 use Prim.Native.Nat.{_-_}
 use native.Mathlib.Omega.{arith}
 use borrow.Author.Needs.{needs}
-use Rattle.grammar.proofs.check.prepare.Statement.{statement}
-use Rattle.grammar.proofs.check.prepare.Tie as tie
+use Rattle.grammar.proofs.check.pass.Statement.{statement}
+use Rattle.grammar.proofs.check.pass.Tie as tie
 
 abbrev Inv-loop : tie.InvT-loop
 Inv-loop g index₀ owners₀ used₀ last₀ count₀ at₀ index owners used last count at =
@@ -18,10 +19,12 @@ abbrev μ-loop : tie.MeasureT-loop
 μ-loop g index₀ owners₀ used₀ last₀ count₀ at₀ index owners used last count at = length g - at
 
 returns : tie.Need-returns Inv-loop μ-loop
-returns c = (check-long _ (c .if1 .taken), λ e. absurd (false≢true e))
+returns c = (check-long _ (c .if1 .taken), ((λ e. absurd (false≢true e)), (λ e. absurd (false≢true e))))
 
 loop-holds : tie.Need-loop-holds Inv-loop μ-loop
-loop-holds c = (check-start _ _, refl)
+loop-holds c =
+    let at-start = c .before .before .before in
+    (check-start _ _ _ _ (at-start .pre .1) (at-start .pre .2), refl)
 
 enter-requires : tie.Need-enter-requires Inv-loop μ-loop
 enter-requires c κs =
@@ -41,7 +44,7 @@ returns-2 : tie.Need-returns-2 Inv-loop μ-loop
 unfolding Entered
 returns-2 c =
     let at-enter = c .before .before .before .before in
-    (check-broken _ (rw (c .enum-told .given .1) at (at-enter .enter .ensures)), λ e. absurd (false≢true e))
+    (check-broken _ (rw (c .enum-told .given .1) at (at-enter .enter .ensures)), ((λ e. absurd (false≢true e)), (λ e. absurd (false≢true e))))
 
 add-count : tie.Need-add-count Inv-loop μ-loop
 add-count c =
@@ -88,10 +91,10 @@ returns-3 c =
     let checking = at-loop .loop .inv .0 in
     let end = at-loop-test .loop-test .left in
     let small = at-if1 .if1 .left in
-    (check-end checking end small _ (c .are-apart .ensures), check-indexed checking end small _ (c .are-apart .ensures) (omega arith))
+    (check-end checking end small _ (c .are-apart .ensures), (check-indexed checking end small _ (c .are-apart .ensures) (omega arith), λ e. noting-end (checking .noting) end))
 
-pub prepare-spec : {M : Type 1} → statement M
-prepare-spec =
+pub pass-spec : {M : Type 1} → statement M
+pass-spec =
     tie.close
     (tie.spec
     Inv-loop
