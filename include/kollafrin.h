@@ -65,7 +65,9 @@ enum kollafrin_number {
     KOLLAFRIN_OUTPUT_SHORT = 29,                /* A writer's output is shorter than the bytes to write. */
     KOLLAFRIN_BAD_RECORDS = 30,                 /* The records break the store layout. Index: the first bad one, or count + 1. */
     KOLLAFRIN_MODULE_TOO_LONG = 31,             /* The module has more than 67,108,864 bytes. */
-    KOLLAFRIN_TEXT_LONG = 32                    /* The output is shorter than the text. */
+    KOLLAFRIN_TEXT_LONG = 32,                   /* The output is shorter than the text. */
+    KOLLAFRIN_GRAMMARS_CLASH = 34,              /* Two grammars have a row or an enumerant each in its own way. */
+    KOLLAFRIN_JOINED_SHORT = 35                 /* The output is shorter than the two grammars joined. */
 };
 
 /* The sixteen words of a load's answer; words 13 to 15 are 0. */
@@ -97,7 +99,8 @@ enum kollafrin_stack {
     KOLLAFRIN_STACK_WRITE_PARSE_ORDER = 1500,
     KOLLAFRIN_STACK_WRITE_MODULE_ORDER = 1500,
     KOLLAFRIN_STACK_DISASSEMBLE = 47000,
-    KOLLAFRIN_STACK_STANDING = 1500
+    KOLLAFRIN_STACK_STANDING = 1500,
+    KOLLAFRIN_STACK_JOIN = 60000
 };
 
 /* The version of the library, which is KOLLAFRIN_VERSION of its header. */
@@ -170,6 +173,20 @@ uint32_t kollafrin_disassemble(const uint32_t header[5], const uint32_t *instruc
 uint32_t kollafrin_standing(const uint32_t *instructions, size_t instructions_length, const uint8_t *log, size_t log_length,
                             const uint8_t *strings, size_t strings_length, size_t instruction_count, size_t log_count,
                             size_t string_count, uint32_t answer[4]);
+
+/* Joins two grammars into one, written to `out`: the rows of both in rising opcodes, then the enumerants of both in rising kinds and values,
+ * each with its operands or parameters as they came. One that is in both is taken once, where it is equal in every byte. At most
+ * 65,535 bytes are written.
+ *
+ * Returns 0, 24, 34 or 35, the first that holds of: 24, the first grammar is not well-formed; 24, the second is not; 34, a row or an
+ * enumerant is in both and not equal in every byte; 24, both together are not well-formed, since they have more than 65,535 bytes or a
+ * parameter in one is of a kind that has parameters in the other; 35, they do not fit `out`.
+ *
+ * `answer`: number; place and value, which are after 34 either 0 and the lowest opcode that clashes or, where no rows clash, the kind and
+ * the value of the lowest enumerant that does, else 0; bytes written. A refusal changes no byte of `out` and writes 0 bytes; else `out` is
+ * unchanged past the bytes written. */
+uint32_t kollafrin_join(const uint8_t *first, size_t first_length, const uint8_t *second, size_t second_length, uint8_t *out,
+                        size_t out_length, uint32_t answer[4]);
 
 #ifdef __cplusplus
 }

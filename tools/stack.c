@@ -112,6 +112,11 @@ static void standing(struct lent *x) {
                                    x->answer);
 }
 
+/* The built-in grammar with itself, which is the longest union that is at hand. */
+static void join(struct lent *x) {
+    x->number = kollafrin_join(grammar, grammar_length, grammar, grammar_length, x->out, x->length + grammar_length, x->answer);
+}
+
 struct call {
     const char *name;
     void (*make)(struct lent *);
@@ -119,7 +124,7 @@ struct call {
     unsigned runs;
 };
 
-enum { VERSION, BUILTIN, LOAD, LOAD_SHORT, LOAD_BUILTIN, LOAD_BUILTIN_SHORT, WRITE_PARSE_ORDER, WRITE_MODULE_ORDER, DISASSEMBLE, STANDING, CALLS };
+enum { VERSION, BUILTIN, LOAD, LOAD_SHORT, LOAD_BUILTIN, LOAD_BUILTIN_SHORT, WRITE_PARSE_ORDER, WRITE_MODULE_ORDER, DISASSEMBLE, STANDING, JOIN, CALLS };
 
 static struct call calls[CALLS] = {
     {"kollafrin_version", version, KOLLAFRIN_STACK_VERSION, 0, 0},
@@ -132,6 +137,7 @@ static struct call calls[CALLS] = {
     {"kollafrin_write_module_order", write_module_order, KOLLAFRIN_STACK_WRITE_MODULE_ORDER, 0, 0},
     {"kollafrin_disassemble", disassemble, KOLLAFRIN_STACK_DISASSEMBLE, 0, 0},
     {"kollafrin_standing", standing, KOLLAFRIN_STACK_STANDING, 0, 0},
+    {"kollafrin_join", join, KOLLAFRIN_STACK_JOIN, 0, 0},
 };
 
 /* A THREAD WITH SO MUCH STACK */
@@ -211,6 +217,8 @@ static void hold_all(const uint8_t *module, size_t length) {
     expect(x.number == KOLLAFRIN_VERSION, "the version is another one");
     hold(BUILTIN, &x);
     expect(x.number == grammar_length && memcmp(x.out, grammar, grammar_length) == 0, "the grammar is another one");
+    hold(JOIN, &x);
+    expect(x.number == 0 && x.answer[3] == grammar_length && memcmp(x.out, grammar, grammar_length) == 0, "the grammar joined with itself is not itself");
     take_back(&x);
 }
 
@@ -259,6 +267,9 @@ static void hold_null(const uint8_t *module, size_t length) {
     expect(kollafrin_standing(NULL, 0, NULL, 0, NULL, 0, 0, 0, 0, answer) == 0 && answer[2] == 0
                && kollafrin_standing(NULL, 0, NULL, 0, NULL, 0, 1, 1, 1, answer) == KOLLAFRIN_BAD_RECORDS,
            "null: kollafrin_standing");
+    expect(kollafrin_join(NULL, 0, NULL, 0, NULL, 0, answer) == 0 && answer[3] == 0
+               && kollafrin_join(grammar, grammar_length, NULL, 0, NULL, 0, answer) == KOLLAFRIN_JOINED_SHORT,
+           "null: kollafrin_join");
 }
 
 /* SEVERAL THREADS */

@@ -3,6 +3,7 @@
 use crate::judge::Judge;
 use compare::cases::{self, Input};
 use compare::grow::*;
+use compare::joining;
 use compare::reading::*;
 use std::sync::Arc;
 
@@ -435,6 +436,7 @@ pub fn round(judge: &mut Judge, builtin: &Grammar, shaders: &[Vec<u8>], seed: u6
     random_functions(judge, &mut grower.rng);
     random_strings(judge, &mut grower.rng);
     random_grammars(judge, &mut grower.rng);
+    random_joins(judge, &mut grower.rng);
     for m in grown.iter().take(30) {
         random_records(judge, &mut grower.rng, m);
         unnamed_records(judge, &mut grower.rng, m);
@@ -594,18 +596,128 @@ fn random_grammars(judge: &mut Judge, rng: &mut Rng) {
             last = m;
         }
         for _ in 0..4 {
-            let mut changed = bytes.clone();
-            let at = rng.below(changed.len());
-            match rng.below(4) {
-                0 => changed[at] = rng.below(60) as u8,
-                1 => {
-                    changed.remove(at);
-                }
-                2 => changed.insert(at, rng.below(5) as u8),
-                _ => changed.truncate(at),
-            }
+            let changed = damaged_grammar(rng, &bytes);
             judge.load("broken grammars", &last, Some(&changed), enough(&last));
         }
+    }
+}
+
+/// Two grammars joined, into outputs exactly long enough, a byte short, longer and empty.
+fn join_all(judge: &mut Judge, group: &'static str, first: &[u8], second: &[u8]) {
+    let needed = joining::join(first, second, usize::MAX).bytes.len();
+    for output in [needed, needed.saturating_sub(1), needed + 5, 0] {
+        judge.join(group, first, second, output);
+    }
+}
+
+/// Some of the rows and enumerants of a grammar, each with this chance in a hundred, as bytes.
+fn part(rng: &mut Rng, grammar: &Grammar, percent: usize) -> Vec<u8> {
+    let rows: Vec<(u16, &[(u8, u8)])> = grammar.rows.iter().filter(|_| rng.chance(percent)).map(|r| (r.opcode, &r.operands[..])).collect();
+    let values: Vec<(u8, u32, &[u8])> =
+        grammar.enumerants.iter().filter(|_| rng.chance(percent)).map(|e| (e.kind, e.value, &e.parameters[..])).collect();
+    grammar_bytes(&rows, &values)
+}
+
+/// A grammar with some of its rows and enumerants given other operands and parameters, and so one that mostly clashes with it.
+fn other_ways(rng: &mut Rng, grammar: &Grammar, percent: usize) -> Vec<u8> {
+    let mut other = grammar.clone();
+    for row in &mut other.rows {
+        if rng.chance(percent) && !matches!(row.opcode, 21 | 22) {
+            row.operands.push((rng.pick(&[33, 34, 9]), rng.pick(&[0, 1, 2])));
+        }
+    }
+    for e in &mut other.enumerants {
+        if rng.chance(percent) && matches!(e.kind, 7 | 25) && e.value != 0 {
+            e.parameters.push(rng.pick(&[33, 34]));
+        }
+    }
+    part(rng, &other, 100)
+}
+
+/// A grammar with an enumerant more of a kind that others have as a parameter, itself with one.
+fn with_owner(rng: &mut Rng, bytes: &[u8], kind: u8) -> Vec<u8> {
+    let house = grammar_bytes(&[], &[(kind, 70_000 + rng.below(9) as u32, &[33][..])]);
+    let joined = joining::join(bytes, &house, usize::MAX);
+    if joined.number == 0 {
+        joined.bytes
+    } else {
+        house
+    }
+}
+
+/// A grammar with a byte changed, left out or put in, or cut.
+fn damaged_grammar(rng: &mut Rng, bytes: &[u8]) -> Vec<u8> {
+    let mut changed = bytes.to_vec();
+    if changed.is_empty() {
+        return vec![9];
+    }
+    let at = rng.below(changed.len());
+    match rng.below(4) {
+        0 => changed[at] = rng.below(60) as u8,
+        1 => {
+            changed.remove(at);
+        }
+        2 => changed.insert(at, rng.below(5) as u8),
+        _ => changed.truncate(at),
+    }
+    changed
+}
+
+/// Rows without operands whose opcodes are in a range, and the parameters of an enumerant.
+fn long_grammar(opcodes: std::ops::Range<u16>, parameters: usize) -> Vec<u8> {
+    let rows: Vec<(u16, &[(u8, u8)])> = opcodes.map(|opcode| (opcode, &[][..])).collect();
+    let ids = vec![33; parameters];
+    let values: Vec<(u8, u32, &[u8])> = if parameters == 0 { vec![] } else { vec![(25, 1, &ids[..])] };
+    grammar_bytes(&rows, &values)
+}
+
+/// Pairs whose union has just so many bytes as a grammar may, or one more or less, some rows being in both.
+fn long_joins(judge: &mut Judge, rng: &mut Rng) {
+    for (rows, parameters) in [(21_845, 0), (21_842, 2), (21_842, 1)] {
+        let (start, shared) = (1_000 + rng.below(9_000) as u16, rng.below(2_000) as u16);
+        let cut = start + 2_000 + rng.below(15_000) as u16;
+        let first = long_grammar(start..cut, parameters);
+        let second = long_grammar(cut - shared..start + rows, 0);
+        join_all(judge, "joined grammars, long", &first, &second);
+        join_all(judge, "joined grammars, long", &second, &first);
+    }
+}
+
+/// Grammars joined: parts of one, which share rows; parts with a byte or more changed; two that have nothing to do with each other; with
+/// the built-in one; and such that are flat alone and not together.
+fn random_joins(judge: &mut Judge, rng: &mut Rng) {
+    for _ in 0..6 {
+        let bytes = random_grammar(rng);
+        let other = random_grammar(rng);
+        join_all(judge, "joined grammars, any two", &bytes, &other);
+        let Some(grammar) = Grammar::read(&bytes) else {
+            join_all(judge, "joined grammars, one broken", &bytes, &[]);
+            join_all(judge, "joined grammars, one broken", &[], &bytes);
+            continue;
+        };
+        let (one, two) = (part(rng, &grammar, 60), part(rng, &grammar, 60));
+        join_all(judge, "joined grammars, parts of one", &one, &two);
+        let percent = rng.pick(&[4, 30]);
+        let changed = other_ways(rng, &grammar, percent);
+        join_all(judge, "joined grammars, some changed", &one, &changed);
+        join_all(judge, "joined grammars, some changed", &changed, &two);
+        let damaged = damaged_grammar(rng, &two);
+        join_all(judge, "joined grammars, a byte changed", &one, &damaged);
+        join_all(judge, "joined grammars, a byte changed", &damaged, &one);
+        let kind = rng.pick(&[9, 26, 45]);
+        let owner = with_owner(rng, &two, kind);
+        join_all(judge, "joined grammars, kinds with parameters", &one, &owner);
+        join_all(judge, "joined grammars, kinds with parameters", &owner, &one);
+    }
+    let house = long_grammar(61_440..61_440 + rng.below(9) as u16, 0);
+    let builtin = judge.builtin_bytes;
+    join_all(judge, "joined grammars, built-in", builtin, &house);
+    let damaged = damaged_grammar(rng, builtin);
+    join_all(judge, "joined grammars, built-in", &damaged, builtin);
+    let some = part(rng, judge.builtin, 50);
+    join_all(judge, "joined grammars, built-in", &some, builtin);
+    if rng.chance(10) {
+        long_joins(judge, rng);
     }
 }
 

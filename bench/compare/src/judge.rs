@@ -2,6 +2,7 @@
 
 use crate::library::{self, byte_before, word_before, Form, Loaded};
 use compare::grow::enough;
+use compare::joining;
 use compare::krate;
 use compare::reading::{self, layout, layout_kind, Grammar, Kind, Load, State, Stores, RECORD};
 use compare::text;
@@ -20,7 +21,7 @@ pub struct Tally {
     pub with_crate: u64,
     pub differences: u64,
     pub shown: Vec<String>,
-    pub numbers: [u64; 33],
+    pub numbers: [u64; 36],
     pub cells: [[u64; 3]; 19],
     pub kinds: [u64; 46],
     pub let_through: BTreeMap<&'static str, u64>,
@@ -38,7 +39,7 @@ impl Default for Tally {
             with_crate: 0,
             differences: 0,
             shown: vec![],
-            numbers: [0; 33],
+            numbers: [0; 36],
             cells: [[0; 3]; 19],
             kinds: [0; 46],
             let_through: BTreeMap::new(),
@@ -391,6 +392,17 @@ impl Judge<'_> {
         Ok(parse)
     }
 
+    /// Two grammars joined into an output of this length, as the reading has it: the number.
+    pub fn join(&mut self, group: &'static str, first: &[u8], second: &[u8], output: usize) -> u32 {
+        let joined = library::join(first, second, output);
+        self.number(joined.returned);
+        self.count(group, joined.returned == 0);
+        if let Err(what) = same_joined(&joined, &joining::join(first, second, output)) {
+            self.differs(group, &what, || format!("first {}\n  second {}\n  output {output}", hex(first), hex(second)));
+        }
+        joined.returned
+    }
+
     /// A value of an enumerant kind as the crate's decoder call has it, and as the only operand of a row.
     pub fn enumerant(&mut self, group: &'static str, grammar: &[u8], module: &[u8], at: usize, kind: u8, value: u32) {
         self.load(group, module, Some(grammar), enough(module));
@@ -434,6 +446,13 @@ fn same_load(loaded: &Loaded, by_reading: &Load) -> Result<(), Difference> {
     store("log", &loaded.log, &by_reading.log, byte_before)?;
     store("strings", &loaded.strings, &by_reading.strings, byte_before)?;
     store("types", &loaded.types, &by_reading.types.concat(), word_before)
+}
+
+fn same_joined(joined: &library::Written, by_reading: &joining::Joined) -> Result<(), Difference> {
+    let answer = [by_reading.number, by_reading.place, by_reading.value, by_reading.bytes.len() as u32];
+    differ("joining's answer (number, place, value, bytes)", joined.answer, answer)?;
+    differ("the number returned", joined.returned, by_reading.number)?;
+    store("the grammars joined", &joined.out, &by_reading.bytes, byte_before)
 }
 
 fn same_written(what: &str, written: &library::Written, by_reading: &reading::Written) -> Result<(), Difference> {

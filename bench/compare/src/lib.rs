@@ -13,6 +13,9 @@ pub mod reading;
 /// A separate reading of the listing for the cutters.
 pub mod text;
 
+/// A separate reading of two grammars joined.
+pub mod joining;
+
 /// Seeded inputs: modules grown from a grammar, damaged copies.
 pub mod grow;
 

@@ -95,7 +95,7 @@ pub fn load(module: &[u8], grammar: Option<&[u8]>, rooms: [usize; 4]) -> Loaded 
     Loaded { returned, answer, instructions, log, strings, types }
 }
 
-/// A writer's or standing's answer; the whole lent output after a writer.
+/// A writer's, joining's or standing's answer; the whole lent output after the first two.
 #[derive(Clone, Debug, PartialEq, Eq)]
 pub struct Written {
     pub returned: u32,
@@ -137,6 +137,15 @@ pub fn write(form: Form, header: [u32; 5], s: &Stores, output: usize) -> Written
             &mut answer,
         )
     };
+    Written { returned, answer, out }
+}
+
+/// Two grammars joined.
+pub fn join(first: &[u8], second: &[u8], output: usize) -> Written {
+    let mut out = bytes(output);
+    let mut answer = [ANSWER_BEFORE; 4];
+    let returned =
+        unsafe { c::kollafrin_join(first.as_ptr(), first.len(), second.as_ptr(), second.len(), out.as_mut_ptr(), out.len(), &mut answer) };
     Written { returned, answer, out }
 }
 

@@ -120,11 +120,14 @@ fn print(tally: &Tally) {
     }
 }
 
+/// No call gives this number.
+const NOT_GIVEN: usize = 33;
+
 /// What a run must show: every number, every layout cell, every log kind, each rule of standing broken alone, a third of the random
 /// modules accepted.
 fn missing(tally: &Tally) -> Vec<String> {
     let mut all = vec![];
-    all.extend(tally.numbers.iter().enumerate().filter(|(_, times)| **times == 0).map(|(n, _)| format!("number {n}")));
+    all.extend(tally.numbers.iter().enumerate().filter(|(n, times)| **times == 0 && *n != NOT_GIVEN).map(|(n, _)| format!("number {n}")));
     for (name, cells) in KIND_NAMES.iter().zip(&tally.cells) {
         let states = ["outside", "function", "block"];
         all.extend(cells.iter().zip(states).filter(|(times, _)| **times == 0).map(|(_, state)| format!("layout cell {name}, {state}")));

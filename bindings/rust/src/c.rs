@@ -95,4 +95,13 @@ extern "C" {
         string_count: usize,
         answer: *mut [u32; 4],
     ) -> u32;
+    pub fn kollafrin_join(
+        first: *const u8,
+        first_length: usize,
+        second: *const u8,
+        second_length: usize,
+        out: *mut u8,
+        out_length: usize,
+        answer: *mut [u32; 4],
+    ) -> u32;
 }

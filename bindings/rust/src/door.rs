@@ -161,6 +161,11 @@ pub fn standing(module: &Module, answer: &mut [u32; 4]) -> Result<u32, Error> {
     })
 }
 
+pub fn join(first: &[u8], second: &[u8], out: &mut [u8], answer: &mut [u32; 4]) -> Result<u32, Error> {
+    same_version()?;
+    Ok(unsafe { c::kollafrin_join(first.as_ptr(), first.len(), second.as_ptr(), second.len(), out.as_mut_ptr(), out.len(), answer) })
+}
+
 #[cfg(test)]
 mod tests {
     use super::*;

@@ -16,8 +16,9 @@
 //! ```
 //!
 //! A call takes stack, on x86-64 up to 120,000 bytes for [`Module::load`] and 92,000 for [`Module::load_builtin`] (60,000 and 32,000
-//! for a module of 16,384 bytes or less), 1,500 for the writers and [`Module::standing`], 47,000 for [`Module::disassemble`], 500 for any other function of the
-//! library; this crate's own functions come on top. A thread that has less left ends with a fault.
+//! for a module of 16,384 bytes or less), 1,500 for the writers and [`Module::standing`], 47,000 for [`Module::disassemble`],
+//! 60,000 for [`join`], 500 for any other function of the library; this crate's own functions come on top. A thread that has less
+//! left ends with a fault.
 //!
 //! Linking needs the archive `libkollafrin.a`, made by `rt staticlib kollafrin` for x86-64. It is looked for in the folder
 //! `target/staticlib` of the repository, or where the environment variable `KOLLAFRIN_LIB` says.
@@ -38,16 +39,30 @@ use c::RECORD;
 pub use c::VERSION;
 pub use error::Error;
 pub use records::{Instruction, Instructions, Operand, Operands, Value};
-pub use refusal::{sentence, Refusal};
+pub use refusal::{sentence, Refusal, Unjoined};
 
 /// The longest module that is read, in bytes. A longer one is refused with 31.
 pub const MOST_MODULE_BYTES: usize = 67_108_864;
+
+/// The longest grammar that is well-formed, in bytes.
+pub const MOST_GRAMMAR_BYTES: usize = 65_535;
 
 /// The bytes of the built-in grammar, the one [`Module::load_builtin`] goes by.
 pub fn builtin() -> Result<Vec<u8>, Error> {
     let mut bytes = room::zeros(door::builtin(&mut [])?)?;
     door::builtin(&mut bytes)?;
     Ok(bytes)
+}
+
+/// Two grammars joined into one: the rows and enumerants of both, those that are in both taken once (docs/REFERENCE.md, "Joining
+/// grammars"). An [`Unjoined`] where one of them, or both together, are not well-formed, or where they clash.
+pub fn join(first: &[u8], second: &[u8]) -> Result<Vec<u8>, Error> {
+    let most = MOST_GRAMMAR_BYTES.min(first.len().saturating_add(second.len()));
+    let (mut bytes, mut answer) = (room::zeros(most)?, [0; 4]);
+    match door::join(first, second, &mut bytes, &mut answer)? {
+        0 => Ok(room::cut(bytes, answer[3] as usize)),
+        number => Err(Error::Unjoined(Unjoined { number, place: answer[1], value: answer[2] })),
+    }
 }
 
 /// What a load keeps of a module: its five header words and four stores.

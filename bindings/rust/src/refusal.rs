@@ -42,7 +42,31 @@ impl fmt::Display for Refusal {
 
 impl Error for Refusal {}
 
-/// A sentence for each number, 0 to 32.
+/// Why two grammars are not joined.
+#[derive(Clone, Copy, Debug, PartialEq, Eq, Hash)]
+pub struct Unjoined {
+    /// 24 where one of the two, or both together, are not well-formed; 34 where they clash. [`sentence`] says what it means.
+    pub number: u32,
+    /// After 34, where no rows clash, the kind of the lowest enumerant that does; else 0.
+    pub place: u32,
+    /// After 34 the lowest opcode that clashes or, where `place` is not 0, the value of that enumerant; else 0.
+    pub value: u32,
+}
+
+impl fmt::Display for Unjoined {
+    fn fmt(&self, f: &mut fmt::Formatter<'_>) -> fmt::Result {
+        write!(f, "refused {}: {}", self.number, sentence(self.number))?;
+        match (self.number, self.place) {
+            (34, 0) => write!(f, " (row {})", self.value),
+            (34, kind) => write!(f, " (kind {kind}, value {})", self.value),
+            _ => Ok(()),
+        }
+    }
+}
+
+impl Error for Unjoined {}
+
+/// A sentence for each number, 0 to 32, 34 and 35.
 pub fn sentence(number: u32) -> &'static str {
     match number {
         0 => "the input is accepted",
@@ -78,6 +102,8 @@ pub fn sentence(number: u32) -> &'static str {
         30 => "a record breaks the layout of the stores, or has no name in a listing",
         31 => "the module has more than 67,108,864 bytes",
         32 => "the output is too short for the text",
+        34 => "the two grammars have a row or an enumerant each in its own way",
+        35 => "the output is too short for the two grammars joined",
         _ => "this number is not given",
     }
 }

@@ -1,6 +1,6 @@
 //! Where memory lacks: an allocator that refuses what is larger than a test allows, and keeps the largest request.
 
-use kollafrin::{builtin, Error, Module, Refusal};
+use kollafrin::{builtin, join, Error, Module, Refusal};
 use std::alloc::{GlobalAlloc, Layout, System};
 use std::cell::Cell;
 
@@ -77,6 +77,9 @@ fn output_of_a_write() {
 fn the_grammar() {
     assert_eq!(with_at_most(12_250, builtin).0, Err(Error::NoMemory));
     assert_eq!(with_at_most(12_251, builtin).1, 12_251);
+    let (house, grammar) = ([1, 0x00, 0xF0, 2, 33, 0], builtin().unwrap());
+    assert_eq!(with_at_most(12_256, || join(&grammar, &house)).0, Err(Error::NoMemory));
+    assert_eq!(with_at_most(12_257, || join(&grammar, &house).map(|bytes| bytes.len())), (Ok(12_257), 12_257));
 }
 
 /// Records are checked before memory is asked for: what they claim to need is a terabyte, and nothing is asked for.

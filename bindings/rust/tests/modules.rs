@@ -1,6 +1,6 @@
 //! Modules through the safe crate: what is kept, what is refused and where, what is written.
 
-use kollafrin::{builtin, sentence, Error, Module, Refusal, Value, MOST_MODULE_BYTES};
+use kollafrin::{builtin, join, sentence, Error, Module, Refusal, Unjoined, Value, MOST_MODULE_BYTES};
 use std::collections::HashSet;
 
 /// The header 07230203 00010000 0 0 0 and these words, as bytes.
@@ -136,6 +136,26 @@ fn a_module_as_text() {
 }
 
 #[test]
+fn a_house_row_beside_the_built_in_grammar() {
+    let house = [1, 0x00, 0xF0, 2, 33, 0];
+    let both = join(&builtin().unwrap(), &house).unwrap();
+    assert_eq!(both.len(), 12_257);
+    let used = module(&[0x0005_0036, 1, 2, 0, 3, 0x0002_00F8, 4, 0x0002_F000, 7, 0x0001_00FD, 0x0001_0038]);
+    assert_eq!(refused(&used), (5, 48, 3, 61_440));
+    let loaded = Module::load(&used, &both).unwrap();
+    assert_eq!(loaded.instruction_words()[16..24], [0xF000, 15, 48, 0, 0, 10, 1, 2]);
+    assert_eq!(loaded.log()[10..], [33, 7, 0, 0, 0]);
+    assert_eq!(join(&both, &house), Ok(both.clone()));
+    assert_eq!(join(&house, &builtin().unwrap()), Ok(both));
+    assert_eq!(join(&house, &[]).as_deref(), Ok(&house[..]));
+    let unjoined = |number, place, value| Err(Error::Unjoined(Unjoined { number, place, value }));
+    assert_eq!(join(&house, &[1, 0x00, 0xF0]), unjoined(34, 0, 61_440));
+    assert_eq!(join(&[3, 9, 1, 0, 0, 0, 4, 33], &[3, 9, 1, 0, 0, 0]), unjoined(34, 9, 1));
+    assert_eq!(join(&[9], &house), unjoined(24, 0, 0));
+    assert_eq!(join(&[3, 25, 1, 0, 0, 0, 4, 9], &[3, 9, 1, 0, 0, 0, 4, 33]), unjoined(24, 0, 0));
+}
+
+#[test]
 fn no_records_are_a_header() {
     let header = [0x0723_0203, 0x0001_0000, 0, 0, 0];
     let empty = Module::from_stores(header, vec![], vec![], vec![], vec![]);
@@ -160,8 +180,8 @@ fn a_module_that_is_too_long() {
 
 #[test]
 fn every_number_has_its_own_sentence() {
-    let all: HashSet<&str> = (0..=32).map(sentence).collect();
-    assert_eq!(all.len(), 33);
+    let all: HashSet<&str> = (0..=32).chain([34, 35]).map(sentence).collect();
+    assert_eq!(all.len(), 35);
 }
 
 #[test]

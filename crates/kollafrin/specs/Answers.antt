@@ -7,10 +7,12 @@ use lib.ListN.{length, getD}
 use Rattle.spec.specs.declared.Loaded.{Loaded}
 use Rattle.spec.specs.declared.Written.{Written}
 use Rattle.spec.specs.declared.Stands.{Stands}
+use Rattle.spec.specs.declared.Joined.{Joined}
 use Rattle.spec.specs.Base.{if_then_else_}
 use Rattle.spec.specs.Words.{AllBytes}
 use Rattle.spec.specs.Load.{Stores, storesOf, laidOver, laidOn}
 use Rattle.spec.specs.Write.{Writing}
+use Rattle.spec.specs.Join.{join}
 use Rattle.loader.specs.Loading.{loading}
 
 -- the version of the layouts and calls, raised whenever the layout of a store or an answer, or what a call takes, changes
@@ -49,6 +51,17 @@ standAnswer x = x .number ∷ x .index ∷ (if x .yes then 1 else 0) ∷ 0 ∷ [
 pub record StandAnswers (x : Stands) (answer : List ℕ) (r : ℕ) : Type 0 where
   pub number : r ≡ x .number
   pub words : answer ≡ standAnswer x
+
+-- number, place, value, bytes written
+unfoldable pub joinAnswer : Joined → List ℕ
+joinAnswer x = x .number ∷ x .place ∷ x .value ∷ x .bytes ∷ []
+
+-- what joining two grammars answers, as its number and in words, and leaves in the output; and that they are bytes
+pub record JoinAnswers (a b before after answer : List ℕ) (r : ℕ) : Type 0 where
+  pub number : r ≡ join a b before .said .number
+  pub words : answer ≡ joinAnswer (join a b before .said)
+  pub output : after ≡ join a b before .output
+  pub bytes : AllBytes a × AllBytes b
 
 -- bytes at the start of a store where they fit, else the store as it was
 unfoldable pub laidIn : List ℕ → List ℕ → List ℕ

@@ -14,7 +14,8 @@ ghost use Rattle.spec.specs.Load.{lent, Small};
 ghost use Rattle.spec.specs.Write.{writeParse, writeModule, standing as standingOf};
 ghost use Rattle.spec.specs.Disassembly.{disassemble as disassembleOf};
 ghost use Rattle.records.specs.Steps.{given};
-ghost use Rattle.kollafrin.specs.Answers.{version, loadAnswer, LoadAnswers, writeAnswer, WriteAnswers, StandAnswers, laidIn};
+ghost use Rattle.kollafrin.specs.Answers.{version, loadAnswer, LoadAnswers, writeAnswer, WriteAnswers, StandAnswers, joinAnswer, JoinAnswers, laidIn};
+use spec::Joined;
 use spec::Loaded;
 use spec::Stands;
 use spec::Written;
@@ -80,6 +81,16 @@ fn say_standing(x: Stands, answer: &mut [u32; 4]) -> u32
 {
     let yes = yes_or_no(x.yes);
     *answer = [x.number, x.index as u32, yes, 0];
+    x.number
+}
+
+// The answer of joining into words.
+fn say_joined(x: Joined, answer: &mut [u32; 4]) -> u32
+    requires { ⌜ x .bytes < 4294967296 ⌝ }
+    ensures { λ r. ⌜ r ≡ x .number ⌝ }
+    ensures { λ _. ⌜ now (answer .exit) ≡ joinAnswer x ⌝ }
+{
+    *answer = [x.number, x.place, x.value, x.bytes as u32];
     x.number
 }
 
@@ -272,4 +283,18 @@ pub extern "C" fn kollafrin_standing(
         string_count,
     );
     say_standing(x, answer)
+}
+
+// Joins two grammars into one, written to `out`: the number, and the whole answer in `answer`.
+#[no_mangle]
+pub extern "C" fn kollafrin_join(
+    first: &[u8],
+    second: &[u8],
+    out: &mut [u8],
+    answer: &mut [u32; 4],
+) -> u32
+    ensures { λ r. ⌜ JoinAnswers (now (first .entry)) (now (second .entry)) (now (out .entry)) (now (out .exit)) (now (answer .exit)) r ⌝ }
+{
+    let x = join::join(first, second, out);
+    say_joined(x, answer)
 }

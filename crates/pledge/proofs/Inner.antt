@@ -18,6 +18,7 @@ use Rattle.grammar.proofs.item_length as item-length-call
 use Rattle.grammar.proofs.slot_at as slot-at-call
 use Rattle.grammar.proofs.parameter_at as parameter-at-call
 use Rattle.grammar.proofs.is_known as is-known-call
+use Rattle.grammar.proofs.are_apart as are-apart-call
 use Rattle.grammar.proofs.is_mask as is-mask-call
 use Rattle.grammar.proofs.is_enum as is-enum-call
 use Rattle.grammar.proofs.is_result as is-result-call
@@ -101,6 +102,10 @@ parameter-at = λ κs a x y after other ask p q. (same-parameter x y _ (sym (p .
 -- whether an enumerant is known
 pub is-known : Determined is-known-call.Kinds.ps is-known-call.Kinds.r is-known-call.Reads.Asked is-known-call.Reads.Learnt
 is-known = λ κs a x y after other ask p q. (both p q, refl)
+
+-- whether no kind is noted in both
+pub are-apart : Determined are-apart-call.Kinds.ps are-apart-call.Kinds.r are-apart-call.Reads.Asked are-apart-call.Reads.Learnt
+are-apart = λ κs a x y after other ask p q. (both p q, refl)
 
 -- the tests on operand kinds
 pub is-mask : Determined is-mask-call.Kinds.ps is-mask-call.Kinds.r is-mask-call.Reads.Asked is-mask-call.Reads.Learnt

@@ -48,6 +48,7 @@ use Rattle.assemble.proofs.write_parse_order as parse-call
 use Rattle.assemble.proofs.write_module_order as module-call
 use Rattle.assemble.proofs.standing as standing-call
 use Rattle.disassemble.proofs.disassemble as disassemble-call
+use Rattle.join.proofs.join as join-call
 use Rattle.round_trip.proofs.round_trip as round-trip-call
 use Rattle.kollafrin.proofs.kollafrin_version as door-version-call
 use Rattle.kollafrin.proofs.kollafrin_builtin as door-builtin-call
@@ -57,6 +58,7 @@ use Rattle.kollafrin.proofs.kollafrin_write_parse_order as door-write-parse-cal
 use Rattle.kollafrin.proofs.kollafrin_write_module_order as door-write-module-call
 use Rattle.kollafrin.proofs.kollafrin_disassemble as door-disassemble-call
 use Rattle.kollafrin.proofs.kollafrin_standing as door-standing-call
+use Rattle.kollafrin.proofs.kollafrin_join as door-join-call
 use Rattle.pledge.proofs.Offered.{Offered, OfferedLent, both, and, both-lent}
 
 -- TEXT
@@ -264,6 +266,15 @@ disassemble =
           (both (p .said) (q .said), ap (λ (o : List ℕ). (tt, (tt, (tt, (tt, (tt, (tt, (tt, (o, tt))))))))) (both (p .output) (q .output)));
     }
 
+-- two grammars joined: the answer and the output after it
+pub join : Offered join-call.Kinds.ps join-call.Kinds.r join-call.Reads.Asked join-call.Reads.Learnt
+join =
+    record {
+      free = λ κs a. tt;
+      one = λ κs a x y after other p q.
+          (both (p .0 .said) (q .0 .said), ap (λ (o : List ℕ). (tt, (tt, (o, tt)))) (both (p .0 .output) (q .0 .output)));
+    }
+
 -- whether records stand, or the refusal
 pub standing : Offered standing-call.Kinds.ps standing-call.Kinds.r standing-call.Reads.Asked standing-call.Reads.Learnt
 standing = record { free = λ κs a. tt; one = λ κs a x y after other p q. (both p q, refl) }
@@ -368,4 +379,15 @@ door-standing =
       free = λ κs a. tt;
       one = λ κs a x y after other p q.
           (both (p .number) (q .number), ap (λ (w : List ℕ). (tt, (tt, (tt, (tt, (tt, (tt, (w, tt)))))))) (both (p .words) (q .words)));
+    }
+
+-- two grammars joined: the number, the output and the words of the answer
+pub door-join : Offered door-join-call.Kinds.ps door-join-call.Kinds.r door-join-call.Reads.Asked door-join-call.Reads.Learnt
+door-join =
+    record {
+      free = λ κs a. tt;
+      one = λ κs a x y after other p q. (
+        both (p .number) (q .number),
+        ap₂ (λ (o : List ℕ) (w : List ℕ). (tt, (tt, (o, (w, tt))))) (both (p .output) (q .output)) (both (p .words) (q .words)),
+      );
     }
