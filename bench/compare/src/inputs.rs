@@ -437,6 +437,7 @@ pub fn round(judge: &mut Judge, builtin: &Grammar, shaders: &[Vec<u8>], seed: u6
     random_strings(judge, &mut grower.rng);
     random_grammars(judge, &mut grower.rng);
     random_joins(judge, &mut grower.rng);
+    random_triples(judge, &mut grower.rng);
     for m in grown.iter().take(30) {
         random_records(judge, &mut grower.rng, m);
         unnamed_records(judge, &mut grower.rng, m);
@@ -718,6 +719,40 @@ fn random_joins(judge: &mut Judge, rng: &mut Rng) {
     join_all(judge, "joined grammars, built-in", &some, builtin);
     if rng.chance(10) {
         long_joins(judge, rng);
+    }
+}
+
+/// Three grammars: parts of one, some changed, one broken, one that has a kind with parameters which another has as a parameter, and such
+/// that are too long only all together. Each of the three comes at each place.
+fn random_triples(judge: &mut Judge, rng: &mut Rng) {
+    let turned = |judge: &mut Judge, group, a: &[u8], b: &[u8], c: &[u8]| {
+        [[a, b, c], [b, c, a], [c, a, b]].into_iter().for_each(|all| judge.triple(group, all));
+    };
+    for _ in 0..4 {
+        let bytes = random_grammar(rng);
+        let Some(grammar) = Grammar::read(&bytes) else {
+            let other = random_grammar(rng);
+            turned(judge, "three grammars, one broken", &bytes, &other, &[]);
+            continue;
+        };
+        let [one, two, three] = [50, 50, 50].map(|percent| part(rng, &grammar, percent));
+        turned(judge, "three grammars, parts of one", &one, &two, &three);
+        let changed = other_ways(rng, &grammar, 10);
+        turned(judge, "three grammars, some changed", &one, &two, &changed);
+        let damaged = damaged_grammar(rng, &three);
+        turned(judge, "three grammars, a byte changed", &one, &two, &damaged);
+        let kind = rng.pick(&[9, 26, 45]);
+        let user = grammar_bytes(&[], &[(25, 90_000, &[kind][..])]);
+        let owner = with_owner(rng, &three, kind);
+        turned(judge, "three grammars, kinds with parameters", &user, &two, &owner);
+    }
+    if rng.chance(10) {
+        // one row too many, or just so many as there may be
+        let rows = 21_845 + rng.below(2) as u16;
+        let (start, cut, end) = (1_000, 1_000 + rows / 3, 1_000 + 2 * (rows / 3));
+        let shared = rng.below(3_000) as u16;
+        let parts = [long_grammar(start..cut, 0), long_grammar(cut - shared..end, 0), long_grammar(end - shared..start + rows, 0)];
+        turned(judge, "three grammars, long", &parts[0], &parts[1], &parts[2]);
     }
 }
 

@@ -119,6 +119,9 @@ pub struct Judge<'a> {
     pub tally: Tally,
 }
 
+/// An output of this length has room for any grammar.
+const ROOM_ENOUGH: usize = 65_535;
+
 /// A difference: what, the one value, the other.
 type Difference = String;
 
@@ -403,6 +406,15 @@ impl Judge<'_> {
         joined.returned
     }
 
+    /// Three grammars joined with room enough: in either order, grouped either way, each with itself and with nothing.
+    pub fn triple(&mut self, group: &'static str, all: [&[u8]; 3]) {
+        let result = any_order(all);
+        self.count(group, matches!(result, Ok(true)));
+        if let Err(what) = result {
+            self.differs(group, &what, || all.map(hex).join("\n  "));
+        }
+    }
+
     /// A value of an enumerant kind as the crate's decoder call has it, and as the only operand of a row.
     pub fn enumerant(&mut self, group: &'static str, grammar: &[u8], module: &[u8], at: usize, kind: u8, value: u32) {
         self.load(group, module, Some(grammar), enough(module));
@@ -453,6 +465,31 @@ fn same_joined(joined: &library::Written, by_reading: &joining::Joined) -> Resul
     differ("joining's answer (number, place, value, bytes)", joined.answer, answer)?;
     differ("the number returned", joined.returned, by_reading.number)?;
     store("the grammars joined", &joined.out, &by_reading.bytes, byte_before)
+}
+
+/// The grammar that the library made of two, with room enough; none where it refused.
+fn made(first: &[u8], second: &[u8]) -> Option<Vec<u8>> {
+    let joined = library::join(first, second, ROOM_ENOUGH);
+    (joined.returned == 0).then(|| joined.out[..joined.answer[3] as usize].to_vec())
+}
+
+/// Whether three grammars join at all, whatever their order and grouping.
+fn any_order([a, b, c]: [&[u8]; 3]) -> Result<bool, Difference> {
+    for (one, other) in [(a, b), (b, c), (c, a)] {
+        differ("in the other order", library::join(one, other, ROOM_ENOUGH), library::join(other, one, ROOM_ENOUGH))?;
+    }
+    let left = made(a, b).and_then(|both| made(&both, c));
+    differ("grouped either way", &left, &made(b, c).and_then(|both| made(a, &both)))?;
+    let by_reading = joining::join(a, b, ROOM_ENOUGH);
+    let by_reading = if by_reading.number == 0 { joining::join(&by_reading.bytes, c, ROOM_ENOUGH) } else { by_reading };
+    differ("three joined", &left, &(by_reading.number == 0).then_some(by_reading.bytes))?;
+    for one in [a, b, c] {
+        let itself = Grammar::read(one).map(|_| one.to_vec());
+        differ("with itself", &made(one, one), &itself)?;
+        differ("with nothing", &made(one, &[]), &itself)?;
+        differ("nothing with it", &made(&[], one), &itself)?;
+    }
+    Ok(left.is_some())
 }
 
 fn same_written(what: &str, written: &library::Written, by_reading: &reading::Written) -> Result<(), Difference> {
