@@ -176,7 +176,7 @@ uint32_t kollafrin_standing(const uint32_t *instructions, size_t instructions_le
 
 /* Joins two grammars into one, written to `out`: the rows of both in rising opcodes, then the enumerants of both in rising kinds and values,
  * each with its operands or parameters as they came. One that is in both is taken once, where it is equal in every byte. At most
- * 65,535 bytes are written.
+ * 65,535 bytes are written. With so much room the order and the grouping of grammars do not matter: the bytes are the same, or both refuse.
  *
  * Returns 0, 24, 34 or 35, the first that holds of: 24, the first grammar is not well-formed; 24, the second is not; 34, a row or an
  * enumerant is in both and not equal in every byte; 24, both together are not well-formed, since they have more than 65,535 bytes or a

@@ -55,7 +55,7 @@ pub fn builtin() -> Result<Vec<u8>, Error> {
 }
 
 /// Two grammars joined into one: the rows and enumerants of both, those that are in both taken once (docs/REFERENCE.md, "Joining
-/// grammars"). An [`Unjoined`] where one of them, or both together, are not well-formed, or where they clash.
+/// grammars"), in any order. An [`Unjoined`] where one of them, or both together, are not well-formed, or where they clash.
 pub fn join(first: &[u8], second: &[u8]) -> Result<Vec<u8>, Error> {
     let most = MOST_GRAMMAR_BYTES.min(first.len().saturating_add(second.len()));
     let (mut bytes, mut answer) = (room::zeros(most)?, [0; 4]);
