@@ -7,7 +7,7 @@ use mathlib.Core.Logic.{_↔_}
 use lib.ListN.{length}
 use Rattle.spec.specs.declared.Counts.{Counts}
 use Rattle.spec.specs.Records.{Placed, recordSize}
-use Rattle.spec.specs.Load.{load, Stores, storesOf}
+use Rattle.spec.specs.Load.{Outcome, Same, load, Stores, storesOf}
 use Rattle.spec.specs.Check.{good, check, givenBy}
 use Rattle.spec.specs.Plain.{plainBy, isPlain}
 use Rattle.spec.specs.Write.{parseBytes, writeParse, written, wrote}
@@ -17,11 +17,10 @@ use Rattle.demands.proofs.Returns.{plain-parts, Returns, load-returns}
 use Rattle.demands.proofs.ReadBack.{reads-back-whole, stores-tell}
 use Rattle.demands.proofs.WriteBack.{load-written}
 
--- a module s comes back from bytes bs: these load to the very same outcome (the answer with its header words, counts, offset and
--- index, the instructions kept, the type entries) and so to the same four stores, are plain, are as long as the module's whole
--- words, and are bytes
+-- a module s comes back from bytes bs: these load to the same header words, instructions, type entries and counts, and so to the same
+-- four stores, are plain, are as long as the module's whole words, and are bytes
 pub record ComesBack (g : List ℕ) (room : Counts) (s bs : List ℕ) : Type 0 where
-  pub same : load g room bs ≡ load g room s
+  pub same : Same (load g room bs) (load g room s)
   pub stores : storesOf (load g room bs) ≡ storesOf (load g room s)
   pub plain : isPlain g room bs ≡ true
   pub long : length bs ≡ 4 * (length s / 4)
@@ -36,7 +35,13 @@ module _ (g : List ℕ) (room : Counts) (s : List ℕ) (by : AllBytes s) where
   comes-back accepted =
       let r : Returns g room s (load g room s) (written (load g room s)) = load-returns g room s by accepted in
       record {
-        same = r .loads;
+        same =
+            record {
+              header = ap (λ (o : Outcome). o .said .header) (r .loads);
+              kept = ap (λ (o : Outcome). o .kept) (r .loads);
+              types = ap (λ (o : Outcome). o .types) (r .loads);
+              counts = ap (λ (o : Outcome). o .said .counts) (r .loads);
+            };
         stores = ap storesOf (r .loads);
         plain = ap (plainBy (written (load g room s))) (r .loads) ∙ r .plain;
         long = r .long;

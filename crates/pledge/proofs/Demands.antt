@@ -24,7 +24,7 @@ use Rattle.demands.proofs.Numbers.{OfRoom, Source, OfLoad}
 use Rattle.demands.proofs.Rooms.{any-room}
 use Rattle.demands.proofs.Leaves.{Leaves, load-begins}
 use Rattle.demands.proofs.Demand1.{number-bound, number-source, first-fault}
-use Rattle.demands.proofs.Demand3.{comes-back, plain-is-written, writes, same-records}
+use Rattle.demands.proofs.Demand3.{comes-back, plain-accepted, plain-is-written, writes, same-records}
 use Rattle.loader.proofs.load.Statement as load-contract
 use Rattle.loader.proofs.load.Met as load-proof
 use Rattle.loader.proofs.load_builtin.Statement as load-builtin-contract
@@ -245,11 +245,12 @@ module _ (c : Loading) (p : ParseWriting) (hands : Hands (seen c) (parse-seen p)
       (parse-writes p .said ∙ ap (λ (x : Writing). x .said) wrote-it, parse-writes p .output ∙ ap (λ (x : Writing). x .output) wrote-it)
 
   -- what is written for an accepted module, loaded again by the same grammar into stores with room, is plain, and has the same
-  -- answer, with its header words, and the same records
+  -- header words, counts and records
   pub comes-again : seen c .answer .number ≡ 0 → 4 * (length (seen c .bytes) / 4) ≤ length (parse-seen p .before) → (d : Loading)
       → seen d .grammar ≡ seen c .grammar → lacksRoom (seen d .answer) ≡ false
       → seen d .bytes ≡ take (parse-seen p .answer .bytes) (parse-seen p .after)
-      → PlainLoad d × (seen d .answer ≡ seen c .answer) × (records (seen d) ≡ records (seen c))
+      → PlainLoad d × (seen d .answer .header ≡ seen c .answer .header) × (seen d .answer .counts ≡ seen c .answer .counts)
+      × (records (seen d) ≡ records (seen c))
   unfolding loading isPlain
   comes-again accepted fits d g roomy s =
       let u : Load = seen d in
@@ -260,16 +261,18 @@ module _ (c : Loading) (p : ParseWriting) (hands : Hands (seen c) (parse-seen p)
       s ∙ ap₂ (λ (k : ℕ) (o : List ℕ). take k o) (ap (λ (a : Written). a .bytes) (parse-writes p .said)) (parse-writes p .output)
       ∙ ap (λ (x : Writing). take (x .said .bytes) (x .output)) it ∙ take-append-seam (written (outcome v)) _ in
       let again : load (v .grammar) (roomIn (v .before)) (written (outcome v)) .said .number ≡ 0 =
-      ap (λ (o : Outcome). o .said .number) (back .same) ∙ zero in
+      plain-accepted (v .grammar) (roomIn (v .before)) (written (outcome v)) (back .bytes) (back .plain) in
       let room : outcome u ≡ load (v .grammar) (roomIn (v .before)) (written (outcome v)) =
       ap₂ (λ (h b : List ℕ). load h (roomIn (u .before)) b) g bytes
       ∙ any-room (v .grammar) (roomIn (u .before)) (roomIn (v .before)) (written (outcome v))
       (ap lacksRoom (ap₂ (λ (h b : List ℕ). load h (roomIn (u .before)) b .said) (sym g) (sym bytes) ∙ sym (loads d .leaves .said)) ∙ roomy)
       (rw again) in
-      let same : outcome u ≡ outcome v = room ∙ back .same in (
+      let answer-d = loads d .leaves .said ∙ ap (λ (o : Outcome). o .said) room in
+      let answer-c = sym (loads c .leaves .said) in (
         ap₂ plainBy bytes room ∙ back .plain,
-        loads d .leaves .said ∙ ap (λ (o : Outcome). o .said) same ∙ sym (loads c .leaves .said),
-        records-are u (loads d) ∙ ap storesOf same ∙ sym (records-are v (loads c)),
+        ap (λ (a : Loaded). a .header) answer-d ∙ back .same .header ∙ ap (λ (a : Loaded). a .header) answer-c,
+        ap (λ (a : Loaded). a .counts) answer-d ∙ back .same .counts ∙ ap (λ (a : Loaded). a .counts) answer-c,
+        records-are u (loads d) ∙ ap storesOf room ∙ back .stores ∙ sym (records-are v (loads c)),
       )
 
 -- `round_trip` does all of that: it loads, writes in the order read, and loads what was written

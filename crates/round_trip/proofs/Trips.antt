@@ -12,7 +12,7 @@ use Rattle.spec.specs.declared.Counts.{Counts}
 use Rattle.spec.specs.declared.Loaded.{Loaded}
 use Rattle.spec.specs.declared.Written.{Written}
 use Rattle.spec.specs.Records.{Placed, recordSize}
-use Rattle.spec.specs.Load.{Outcome, load, Stores, storesOf, laidOver, roomIn, laidOn}
+use Rattle.spec.specs.Load.{Outcome, Same, load, Stores, storesOf, laidOver, roomIn, laidOn}
 use Rattle.spec.specs.Plain.{plainBy, isPlain}
 use Rattle.spec.specs.Check.{Given, Checked, bad, good, check, givenBy}
 use Rattle.spec.specs.Write.{parseBytes, Writing, unwritten, writeBy, writeParse, written, wrote}
@@ -24,7 +24,7 @@ use Rattle.demands.proofs.Stores.{BeginWith}
 use Rattle.demands.proofs.Leaves.{load-begins}
 use Rattle.demands.proofs.ReadBack.{reads-back}
 use Rattle.demands.proofs.Rooms.{Roomy, any-room}
-use Rattle.demands.proofs.Demand3.{ComesBack, comes-back, writes, plain-is-written}
+use Rattle.demands.proofs.Demand3.{ComesBack, comes-back, writes, plain-accepted, plain-is-written}
 use Rattle.assemble.specs.Writes.{Writes}
 use Rattle.round_trip.specs.Trip.{first, back, second, CameBack, Suited, RoundTrip}
 
@@ -88,17 +88,18 @@ module _ (g s : List ℕ) (by : AllBytes s) (t : Stores) (out : List ℕ) (u : S
   unfolding first loading isPlain
   returned z h f =
       let c : ComesBack g (roomIn t) s (written X) = comes-back g (roomIn t) s by z in
-      let again : load g (roomIn t) (written X) .said .number ≡ 0 = ap (λ (o : Outcome). o .said .number) (c .same) ∙ z in
+      let again : load g (roomIn t) (written X) .said .number ≡ 0 = plain-accepted g (roomIn t) (written X) (c .bytes) (c .plain) in
       let room : load g (roomIn u) (written X) ≡ load g (roomIn t) (written X) =
       any-room g (roomIn u) (roomIn t) (written X) f (accepted-roomy (load g (roomIn t) (written X)) again) in
-      let same : second g s t out u ≡ X = second-fits h ∙ room ∙ c .same in
+      let back : second g s t out u ≡ load g (roomIn t) (written X) = second-fits h ∙ room in
       record {
         accepted = z;
         output = back-fits h;
         itself = λ p. sym (plain-is-written g (roomIn t) s by p);
         plain = ap (plainBy (written X)) room ∙ c .plain;
-        same = same;
-        stores = ap storesOf same;
+        again = ap (λ (o : Outcome). o .said .number) back ∙ again;
+        same = subst (λ (o : Outcome). Same o X) (sym back) (c .same);
+        stores = ap storesOf back ∙ c .stores;
       }
 
   -- a module whose three numbers are 0 came back
@@ -125,7 +126,7 @@ module _ (g s : List ℕ) (by : AllBytes s) (t : Stores) (out : List ℕ) (u : S
   zeros c =
       both
       (both (eq-eqb _ 0 (c .accepted)) (eq-eqb _ 0 (ap (λ (w : Writing). w .said .number) (c .output))))
-      (eq-eqb _ 0 (ap (λ (o : Outcome). o .said .number) (c .same) ∙ c .accepted))
+      (eq-eqb _ 0 (c .again))
 
   -- what the answer tells, by the three numbers, with what is left
   closes : {yes : Bool} {t' u' : Stores} {out' : List ℕ}

@@ -4,7 +4,7 @@ use mathlib.Core.Path.{_≡_}
 use mathlib.Core.Bool.{Bool, true, false}
 use mathlib.Core.List.{List}
 use lib.ListN.{length, take}
-use Rattle.spec.specs.Load.{Outcome, lacksRoom, Stores, storesOf, roomIn, laidOn}
+use Rattle.spec.specs.Load.{Outcome, Same, lacksRoom, Stores, storesOf, roomIn, laidOn}
 use Rattle.spec.specs.Plain.{isPlain}
 use Rattle.spec.specs.Write.{Writing, writeParse, written, wrote}
 use Rattle.spec.specs.Check.{givenBy}
@@ -25,13 +25,14 @@ module _ (grammar s : List ℕ) (t : Stores) (out : List ℕ) (u : Stores) where
   second = loading (take (back .said .bytes) (back .output)) grammar u
 
   -- the module came back: it was accepted; its records were written as bytes, which are itself where it is plain; those are plain,
-  -- and load to the same outcome (header words, counts, instructions, type entries) and the same records
+  -- are accepted too, and load to the same header words, instructions, type entries and counts, and the same records
   pub record CameBack : Type 0 where
     pub accepted : first .said .number ≡ 0
     pub output : back ≡ wrote (written first) out
     pub itself : isPlain grammar (roomIn t) s ≡ true → written first ≡ s
     pub plain : isPlain grammar (roomIn u) (written first) ≡ true
-    pub same : second ≡ first
+    pub again : second .said .number ≡ 0
+    pub same : Same second first
     pub stores : storesOf second ≡ storesOf first
 
   -- what is asked for that: the module is accepted, its whole words fit the output, and the other stores have room, so that the

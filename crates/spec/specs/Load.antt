@@ -1,5 +1,6 @@
 -- Loading a module: the first refusals, the header, the instructions, the end, and the stores afterwards.
 use Prim.Native.Nat.{ℕ, zero, suc, _+_, _*_, _/_, _≤_, _<_}
+use mathlib.Core.Path.{_≡_}
 use mathlib.Core.Bool.{Bool}
 use mathlib.Core.List.{List, [], _∷_, _++_}
 use lib.Dec.{ltb, eqb}
@@ -89,6 +90,13 @@ pub record Outcome : Type 0 where
   pub kept : List Placed
   pub left : List Placed
   pub types : List Entry
+
+-- the same header words, instructions, type entries and counts, whatever else is said
+pub record Same (x y : Outcome) : Type 0 where
+  pub header : x .said .header ≡ y .said .header
+  pub kept : x .kept ≡ y .kept
+  pub types : x .types ≡ y .types
+  pub counts : x .said .counts ≡ y .said .counts
 
 -- is it refused for room
 abbrev pub lacksRoom : Loaded → Bool
