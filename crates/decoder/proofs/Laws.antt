@@ -13,7 +13,7 @@ use Rattle.spec.specs.declared.Limit.{Limit}
 use Rattle.spec.specs.declared.Limit.the-variants.{Unlimited, Words}
 use Rattle.spec.specs.declared.Refusal.{Refusal}
 use Rattle.spec.specs.Words.{frontOf, fourAt, long}
-use Rattle.spec.specs.Text.{untilZero, textWords, isUtf8}
+use Rattle.spec.specs.Text.{untilZero, textWords, textBreak, isUtf8}
 use Rattle.spec.specs.Reader.{reader, Read, got, refused, Parse, after, give, refusal, streamWord, wordAt, readWord, readLong, readerAt, less, searched, noZero, textFound, limitPast, readText, readTextAt}
 use Rattle.text.specs.Zero.{zeroAfter, zeroIn}
 use Rattle.text.proofs.Laws.{zero-at}
@@ -196,7 +196,7 @@ ends-took at (Words m) r bs e =
     took-words at (textWords (length bs)) m (omega (arith, z .0, length-take (4 * m) r))
 
 -- the bytes from a position on, as a part of all of them
-front-slice : (at n : ℕ) (s : List ℕ) → at ≤ length s → take n (drop at s) ≡ slice at (at + n) s
+pub front-slice : (at n : ℕ) (s : List ℕ) → at ≤ length s → take n (drop at s) ≡ slice at (at + n) s
 front-slice at n s h = sym (ap (drop at) (take-add at n s) ∙ drop-at (take at s) (take n (drop at s)) at (length-take-le at s h))
 
 -- without a zero byte a string is refused
@@ -240,31 +240,33 @@ module _ (s : List ℕ) (P : Read (List ℕ) → Type 0) (at : ℕ) (l : Limit) 
   by-text : P (readTextAt s at l)
   by-text = by-tests (ltb (length s) at) (limitPast l (drop at s)) refl refl
 
--- a string was got: the reader gets its bytes too, at the position; the zero byte after them is there
+-- a string was got: the reader gets its bytes too, at the position; the zero byte after them is there, and what breaks the padding is said
 pub record TextGot (s : List ℕ) (d : Decoder) (t : Text) (y : Read (List ℕ)) : Type 0 where
   pub reads : y ≡ got (slice (t .start) (t .start + t .length) s) (readerOf s (t .next))
   pub start : t .start ≡ d .offset
   pub inside : t .start + t .length < length s
+  pub breaks : t .breaks ≡ textBreak (t .start) (t .length) (drop (d .offset) s)
   pub took : Took d (t .next) (textWords (t .length))
 
 -- from a string's answer
 pub text-got : (s : List ℕ) (d : Decoder) (t : Text) → GotText t ≡ textFrom s d → TextGot s d t (readTextAt s (d .offset) (d .limit))
 unfolding textFrom textAnswer readerOf readerAt
 text-got s d t =
-    by-text s (λ y. GotText t ≡ textAnswer (d .offset) y → TextGot s d t y) (d .offset) (d .limit)
+    by-text s (λ y. GotText t ≡ textAnswer (d .offset) (drop (d .offset) s) y → TextGot s d t y) (d .offset) (d .limit)
     (λ x h. let z : _≡_ {A = ℕ} 0 1 = cc in absurd (omega arith))
     (λ n e i u h.
-    let g : GotText t ≡ GotText (record { start = d .offset; length = length (slice (d .offset) (d .offset + n) s); next = e }) = h in
+    let size : ℕ = length (slice (d .offset) (d .offset + n) s) in
+    let g : GotText t ≡ GotText (record { start = d .offset; length = size; breaks = textBreak (d .offset) size (drop (d .offset) s); next = e }) = h in
     let k : length (slice (d .offset) (d .offset + n) s) ≡ n = length-slice (d .offset) (d .offset + n) s (omega arith) ∙ omega arith in
-    let p : t ≡ record { start = d .offset; length = n; next = e } = cc in
-    rw p (record { reads = refl; start = refl; inside = i; took = u }))
+    let p : t ≡ record { start = d .offset; length = n; breaks = textBreak (d .offset) n (drop (d .offset) s); next = e } = cc in
+    rw p (record { reads = refl; start = refl; inside = i; breaks = refl; took = u }))
 
 -- a string was refused: the reader refuses it too
 pub text-refused : (s : List ℕ) (d e : Decoder) (x : Refusal) → NoText x e ≡ textFrom s d
     → readTextAt s (d .offset) (d .limit) ≡ refused x (readerOf s e)
 unfolding textFrom textAnswer readerOf readerAt
 text-refused s d e x =
-    by-text s (λ y. NoText x e ≡ textAnswer (d .offset) y → y ≡ refused x (readerOf s e)) (d .offset) (d .limit)
+    by-text s (λ y. NoText x e ≡ textAnswer (d .offset) (drop (d .offset) s) y → y ≡ refused x (readerOf s e)) (d .offset) (d .limit)
     (λ v h.
     let g : NoText x e ≡ NoText v d = h in
     let p : e ≡ d = cc in

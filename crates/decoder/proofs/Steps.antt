@@ -2,20 +2,21 @@
 use Prim.Native.Nat.{ℕ, zero, suc, _+_, _*_, _-_, _/_, _<_, _≤_}
 use mathlib.Core.Path.{_≡_, refl, ap, sym, _∙_}
 use mathlib.Core.Bool.{Bool, true, false}
-use mathlib.Core.List.{List}
+use mathlib.Core.List.{List, _∷_}
 use mathlib.Core.Option.{Option, none, some}
+use native.Mathlib.Numerals.{add-one}
 use native.Mathlib.Omega.{arith}
-use borrow.Author.Tests.{lt-ltb, le-ltb, ltb-true, ltb-false, eqb-true, eqb-false}
+use borrow.Author.Tests.{lt-ltb, le-ltb, ltb-true, ltb-false, eq-eqb, ne-eqb, eqb-true, eqb-false}
 use borrow.Rule.Slice.PartMut.{mid-len}
 use lib.Dec.{ltb, eqb}
-use lib.ListN.{length, take, drop, length-drop}
-use lib.Seq.{take-all, length-take-le}
+use lib.ListN.{length, take, drop, getD, length-drop, drop-of-length-le}
+use lib.Seq.{slice, take-all, drop-drop, slice-cons, length-take-le}
 use Rattle.spec.specs.declared.Limit.{Limit}
 use Rattle.spec.specs.declared.Limit.the-variants.{Unlimited, Words}
 use Rattle.spec.specs.declared.Refusal.{Refusal}
 use Rattle.spec.specs.declared.Found.the-variants.{At, Nothing}
 use Rattle.spec.specs.Base.{if_then_else_}
-use Rattle.spec.specs.Text.{untilZero, textWords, isUtf8}
+use Rattle.spec.specs.Text.{untilZero, textWords, notZero, textBreak, isUtf8}
 use Rattle.spec.specs.Words.{Front, frontOf, fourAt, long}
 use Rattle.spec.specs.Reader.{Read, got, refused, after, give, refusal, streamWord, wordAt, readWord, readLong, readerAt, less, limitPast, searched, noZero, textFound, readText, readTextAt}
 use Rattle.text.specs.Zero.{zeroIn}
@@ -31,7 +32,7 @@ use Rattle.decoder.specs.declared.End.the-variants.{After, NoZero, NotUt
 use Rattle.decoder.specs.Answer.{decoder, readerOf, limitReached, wordAnswer, wordFrom, longAnswer, longFrom, textAnswer, textFrom}
 use Rattle.decoder.specs.Steps.{takeOne, endBy, endIn}
 use Rattle.words.proofs.Front.{front-got, front-short}
-use Rattle.decoder.proofs.Laws.{word-got, word-refused, highAfter, ends-in}
+use Rattle.decoder.proofs.Laws.{word-got, word-refused, highAfter, ends-in, front-slice}
 
 -- WORDS
 
@@ -197,39 +198,98 @@ sought-words s at (Words n) m e h g =
     }
 
 -- a string's answer by where it ends
-unfoldable pub endAnswer : ℕ → Limit → (ℕ → Limit) → Refusal → End → TextRead
-endAnswer at l left x (After n) = GotText (record { start = at; length = n; next = decoder (at + 4 * textWords n) (left (textWords n)) })
-endAnswer at l left x NoZero = NoText x (decoder at l)
-endAnswer at l left x NotUtf8 = NoText (refusal 11 at 0) (decoder at l)
+unfoldable pub endAnswer : List ℕ → ℕ → Limit → (ℕ → Limit) → Refusal → End → TextRead
+endAnswer s at l left x (After n) =
+    GotText (record { start = at; length = n; breaks = textBreak at n (drop at s); next = decoder (at + 4 * textWords n) (left (textWords n)) })
+endAnswer s at l left x NoZero = NoText x (decoder at l)
+endAnswer s at l left x NotUtf8 = NoText (refusal 11 at 0) (decoder at l)
+
+-- a string with what breaks its padding
+pub with-breaks : (s : List ℕ) (at n b : ℕ) (e : Decoder) → b ≡ textBreak at n (drop at s)
+    → GotText (record { start = at; length = n; breaks = b; next = e })
+    ≡ GotText (record { start = at; length = n; breaks = textBreak at n (drop at s); next = e })
+with-breaks s at n b e h = ap (λ (i : ℕ). GotText (record { start = at; length = n; breaks = i; next = e })) h
 
 module _ {s : List ℕ} {at : ℕ} {l : Limit} {end : ℕ} {left : ℕ → Limit} {x : Refusal} (r : Sought s at l end left x) where
   -- a string that ends, UTF-8 or not, has that answer
   answer-utf8 : (bs : List ℕ) (t : Bool) → isUtf8 bs ≡ t
-      → endAnswer at l left x (endBy (some bs)) ≡ textAnswer at (textFound (some bs) (readerAt s at l))
+      → endAnswer s at l left x (endBy (some bs)) ≡ textAnswer at (drop at s) (textFound (some bs) (readerAt s at l))
   unfolding endAnswer endBy textAnswer readerAt
   answer-utf8 bs true e =
       simp e
-      (ap (λ (m : Limit). GotText (record { start = at; length = length bs; next = decoder (at + 4 * textWords (length bs)) m })) (r .takes (textWords (length bs))))
+      (ap (λ (m : Limit). GotText (record { start = at; length = length bs; breaks = textBreak at (length bs) (drop at s); next = decoder (at + 4 * textWords (length bs)) m }))
+      (r .takes (textWords (length bs))))
   answer-utf8 bs false e = simp e
 
   -- a string that ends or not has it
-  answer-end : (o : Option (List ℕ)) → endAnswer at l left x (endBy o) ≡ textAnswer at (textFound o (readerAt s at l))
+  answer-end : (o : Option (List ℕ)) → endAnswer s at l left x (endBy o) ≡ textAnswer at (drop at s) (textFound o (readerAt s at l))
   unfolding endAnswer endBy textAnswer readerAt
-  answer-end none = sym (ap (textAnswer at) (r .none))
+  answer-end none = sym (ap (textAnswer at (drop at s)) (r .none))
   answer-end (some bs) = answer-utf8 bs (isUtf8 bs) refl
 
   -- a string, by where it ends
-  pub text-by : (v : End) (y : TextRead) → v ≡ endIn (take (end - at) (drop at s)) → y ≡ endAnswer at l left x v → y ≡ textFrom s (decoder at l)
+  pub text-by : (v : End) (y : TextRead) → v ≡ endIn (take (end - at) (drop at s)) → y ≡ endAnswer s at l left x v → y ≡ textFrom s (decoder at l)
   unfolding endIn textFrom readTextAt readText readerAt
   text-by v y e h =
-      h ∙ ap (endAnswer at l left x) (e ∙ ap endIn (r .bytes)) ∙ answer-end (untilZero (searched l (drop at s)))
-      ∙ sym (ap (textAnswer at) (simp (le-ltb (length s) at (r .from), r .unpassed)))
+      h ∙ ap (endAnswer s at l left x) (e ∙ ap endIn (r .bytes)) ∙ answer-end (untilZero (searched l (drop at s)))
+      ∙ sym (ap (textAnswer at (drop at s)) (simp (le-ltb (length s) at (r .from), r .unpassed)))
 
   -- its end lies within the bytes that are searched
   pub text-inside : (n : ℕ) → After n ≡ endIn (take (end - at) (drop at s)) → n < end - at
   unfolding endIn
   text-inside n e =
       omega (arith, after-by (take (end - at) (drop at s)) n (untilZero (take (end - at) (drop at s))) refl e, mid-len at end s (r .to))
+
+-- THE BYTES AFTER A STRING
+
+module _ (s : List ℕ) (at n : ℕ) (h : at + n < length s) where
+  -- those from its zero on, of so many from its start, are a part of all bytes
+  padding-part : (m : ℕ) → slice (at + n) (at + m) s ≡ drop n (take m (drop at s))
+  padding-part m = sym (ap (drop n) (front-slice at m s (omega arith)) ∙ drop-drop n at (take (at + m) s))
+
+  -- the words of the string are there
+  pub end-there : at + 4 * textWords n ≤ length s
+      → (slice (at + n) (at + 4 * textWords n) s ≡ drop n (take (4 * textWords n) (drop at s))) × (at + 4 * textWords n ≤ length s)
+  end-there i = (padding-part (4 * textWords n), i)
+
+  -- the bytes end before
+  pub end-before : length s < at + 4 * textWords n
+      → (slice (at + n) (length s) s ≡ drop n (take (4 * textWords n) (drop at s))) × (length s ≤ length s)
+  end-before i = (
+    ap (drop (at + n)) (take-all (length s) s (omega arith) ∙ sym (take-all (at + 4 * textWords n) s (omega arith))) ∙ padding-part (4 * textWords n),
+    omega arith,
+  )
+
+-- the bytes of the padding before i are zero
+pub record Padded (s : List ℕ) (at n to i : ℕ) : Type 0 where
+  pub answer : textBreak at n (drop at s) ≡ notZero i (slice i to s)
+  pub within : to ≤ length s
+
+-- before the first
+pub padding-starts : (s : List ℕ) (at n to : ℕ) → (slice (at + n) to s ≡ drop n (take (4 * textWords n) (drop at s))) × (to ≤ length s)
+    → Padded s at n to (at + n)
+unfolding textBreak
+padding-starts s at n to p = record { answer = ap (notZero (at + n)) (sym (p .0)); within = p .1 }
+
+module _ {s : List ℕ} {at n to i : ℕ} (r : Padded s at n to i) where
+  -- a byte and those after it
+  padding-next : i < to → textBreak at n (drop at s) ≡ notZero i (getD s i 0 ∷ slice (i + 1) to s)
+  padding-next h = r .answer ∙ ap (notZero i) (rw add-one (slice-cons i to s 0 h (r .within)))
+
+  -- one that is not zero
+  pub padding-finds : i < to → (getD s i 0 ≡ 0 → ⊥) → i ≡ textBreak at n (drop at s)
+  unfolding notZero
+  padding-finds h z = sym (padding-next h ∙ simp (ne-eqb (getD s i 0) 0 z))
+
+  -- one that is
+  pub padding-goes-on : i < to → getD s i 0 ≡ 0 → Padded s at n to (i + 1)
+  unfolding notZero
+  padding-goes-on h z = record { answer = padding-next h ∙ simp (eq-eqb (getD s i 0) 0 z); within = r .within }
+
+  -- no byte is left
+  pub padding-ends : to ≤ i → 0 ≡ textBreak at n (drop at s)
+  unfolding notZero
+  padding-ends h = sym (r .answer ∙ ap (notZero i) (drop-of-length-le (take to s) {i = i} (rw (length-take-le to s (r .within)) h)))
 
 -- a string from beyond the bytes
 pub text-beyond : (s : List ℕ) (d : Decoder) (y : TextRead) → y ≡ NoText (refusal 9 (d .offset) 0) d → length s < d .offset → y ≡ textFrom s d

@@ -2,9 +2,10 @@
 use Prim.Native.Nat.{ℕ}
 use mathlib.Core.Bool.{Bool, true, false}
 use mathlib.Core.List.{List}
-use lib.ListN.{length}
+use lib.ListN.{length, drop}
 use Rattle.spec.specs.declared.Limit.{Limit}
 use Rattle.spec.specs.declared.Limit.the-variants.{Unlimited, Words}
+use Rattle.spec.specs.Text.{textBreak}
 use Rattle.spec.specs.Reader.{Reader, Read, got, refused, reached, readWord, readLong, readerAt, readTextAt}
 use Rattle.decoder.specs.declared.Decoder.{Decoder}
 use Rattle.decoder.specs.declared.WordRead.{WordRead}
@@ -69,11 +70,13 @@ longAnswer (refused x r) = NoLong x (decoderOf r)
 unfoldable pub longFrom : List ℕ → Decoder → LongRead
 longFrom s d = longAnswer (readLong (readerOf s d))
 
--- a string's answer: where it starts, how long it is, and the decoder after it
-unfoldable pub textAnswer : ℕ → Read (List ℕ) → TextRead
-textAnswer at (got bs r) = Text (record { start = at; length = length bs; next = decoderOf r })
-textAnswer at (refused x r) = NoText x (decoderOf r)
+-- a string's answer, where all bytes from it on are these: where it starts, how long it is, whether each byte from its zero to the end
+-- of its last word is zero (else where the first is that is not), and the decoder after it
+unfoldable pub textAnswer : ℕ → List ℕ → Read (List ℕ) → TextRead
+textAnswer at rest (got bs r) =
+    Text (record { start = at; length = length bs; breaks = textBreak at (length bs) rest; next = decoderOf r })
+textAnswer at rest (refused x r) = NoText x (decoderOf r)
 
 -- a string
 unfoldable pub textFrom : List ℕ → Decoder → TextRead
-textFrom s d = textAnswer (d .offset) (readTextAt s (d .offset) (d .limit))
+textFrom s d = textAnswer (d .offset) (drop (d .offset) s) (readTextAt s (d .offset) (d .limit))

@@ -37,9 +37,9 @@ unfoldable pub longNext : LongRead → Decoder
 longNext (Long v d) = d
 longNext (NoLong x d) = d
 
--- a string's answer without the decoder: where it starts, and how long it is
+-- a string's answer without the decoder: where it starts, how long it is, and what breaks its padding
 unfoldable pub textGiven : TextRead → TextGiven
-textGiven (Text t) = GivenText (t .start) (t .length)
+textGiven (Text t) = GivenText (t .start) (t .length) (t .breaks)
 textGiven (NoText x d) = GivenNoText x
 
 -- the decoder after a string
@@ -59,7 +59,7 @@ longOf (GivenNoLong x) d = NoLong x d
 
 -- a string's answer with the decoder after it
 unfoldable pub textOf : TextGiven → Decoder → TextRead
-textOf (GivenText start length) d = Text (record { start = start; length = length; next = d })
+textOf (GivenText start length breaks) d = Text (record { start = start; length = length; breaks = breaks; next = d })
 textOf (GivenNoText x) d = NoText x d
 
 -- both answers, and the place of the decoder after them

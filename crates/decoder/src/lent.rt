@@ -22,9 +22,9 @@ pub enum LongGiven {
     Refused(Refusal),
 }
 
-// Where a string's bytes start and how many there are, or a refusal.
+// Where a string's bytes start, how many there are, and where the first byte is that is not zero after them, or 0; or a refusal.
 pub enum TextGiven {
-    Got(usize, usize),
+    Got(usize, usize, usize),
     Refused(Refusal),
 }
 
@@ -80,7 +80,7 @@ fn text_given(r: TextRead) -> TextGiven
     ensures { λ g. ⌜ g ≡ textGiven r ⌝ }
 {
     match r {
-        TextRead::Got(t) => TextGiven::Got(t.start, t.length),
+        TextRead::Got(t) => TextGiven::Got(t.start, t.length, t.breaks),
         TextRead::Refused(x, _) => TextGiven::Refused(x),
     }
 }
@@ -153,9 +153,10 @@ fn text_of(g: TextGiven, d: Decoder) -> TextRead
     ensures { λ r. ⌜ r ≡ textOf g d ⌝ }
 {
     match g {
-        TextGiven::Got(start, length) => TextRead::Got(Text {
+        TextGiven::Got(start, length, breaks) => TextRead::Got(Text {
             start,
             length,
+            breaks,
             next: d,
         }),
         TextGiven::Refused(x) => TextRead::Refused(x, d),

@@ -2,9 +2,11 @@
 ghost use mathlib.Core.Path.{_≡_};
 ghost use mathlib.Core.Bool.{false};
 ghost use mathlib.Core.List.{[], _∷_};
-ghost use Prim.Native.Nat.{_+_, _≤_};
+ghost use Prim.Native.Nat.{_+_, _*_, _<_, _≤_};
 ghost use lib.Dec.{ltb};
-ghost use lib.ListN.{length};
+ghost use lib.ListN.{length, take, drop};
+ghost use lib.Seq.{slice};
+ghost use Rattle.spec.specs.Text.{textWords, textBreak};
 ghost use Rattle.spec.specs.Reader.{refusal};
 ghost use Rattle.spec.specs.Header.{magicFault, noHeader, headerFrom};
 ghost use Rattle.decoder.specs.Answer.{decoder, setLimit, clearLimit, hasLimit, limitReached, wordFrom, longFrom, textFrom};
@@ -48,10 +50,12 @@ pub enum LongRead {
     Refused(Refusal, Decoder),
 }
 
-// A string: where its bytes start, how many there are, and the decoder after it.
+// A string: where its bytes start, how many there are, where the first byte is that is not zero from its zero to the end of its last
+// word, or 0, and the decoder after it.
 pub struct Text {
     pub start: usize,
     pub length: usize,
+    pub breaks: usize,
     pub next: Decoder,
 }
 
@@ -147,6 +151,35 @@ fn string_end(part: &[u8]) -> End
         return End::After(n);
     }
     End::NotUtf8
+}
+
+// Where the words of a string of `n` bytes end, or all bytes before them.
+fn text_end(s: &[u8], at: usize, n: usize) -> usize
+    requires { ⌜ at + n < length (now s) ⌝ }
+    ensures { λ r. ⌜ (slice (at + n) r (now (s .entry)) ≡ drop n (take (4 * textWords n) (drop at (now (s .entry))))) × (r ≤ length (now (s .entry))) ⌝ }
+{
+    let to = at + 4 * (n / 4 + 1);
+    if s.len() < to {
+        return s.len();
+    }
+    to
+}
+
+// Where the first byte is that is not zero, from the zero of a string of `n` bytes to the end of its last word or of all bytes; 0 for
+// none.
+fn text_break(s: &[u8], at: usize, n: usize) -> usize
+    requires { ⌜ at + n < length (now s) ⌝ }
+    ensures { λ r. ⌜ r ≡ textBreak at n (drop at (now (s .entry))) ⌝ }
+{
+    let to = text_end(s, at, n);
+    let mut i = at + n;
+    while i < to {
+        if s[i] != 0 {
+            return i;
+        }
+        i += 1;
+    }
+    0
 }
 
 impl Decoder {
@@ -301,10 +334,12 @@ impl Decoder {
         let end = string_end(&s[at..]);
         match end {
             End::After(n) => {
+                let breaks = text_break(s, at, n);
                 self.offset = at + 4 * (n / 4 + 1);
                 TextRead::Got(Text {
                     start: at,
                     length: n,
+                    breaks,
                     next: self,
                 })
             }
@@ -326,6 +361,7 @@ impl Decoder {
         let end = string_end(&s[at..to]);
         match end {
             End::After(n) => {
+                let breaks = text_break(s, at, n);
                 let words = n / 4 + 1;
                 self = Decoder {
                     offset: at + 4 * words,
@@ -334,6 +370,7 @@ impl Decoder {
                 TextRead::Got(Text {
                     start: at,
                     length: n,
+                    breaks,
                     next: self,
                 })
             }

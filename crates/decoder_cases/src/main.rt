@@ -121,12 +121,16 @@ fn int64_lent(s: &[u8], d: Decoder) -> Decoder {
     long(decoder::int64_lent(d, s))
 }
 
-// Writes a string's length, and where it starts.
-fn span(start: usize, length: usize) {
+// Writes a string's length, where it starts, and what breaks its padding.
+fn span(start: usize, length: usize, breaks: usize) {
     say(b"length ");
     number(length);
     say(b" from ");
     number(start);
+    if breaks != 0 {
+        say(b" breaks at ");
+        number(breaks);
+    }
 }
 
 // Reads a string.
@@ -135,7 +139,7 @@ fn string(s: &[u8], d: Decoder) -> Decoder {
     let r = d.string(s);
     match r {
         TextRead::Got(t) => {
-            span(t.start, t.length);
+            span(t.start, t.length, t.breaks);
             after(t.next)
         }
         TextRead::Refused(x, e) => {
@@ -157,7 +161,7 @@ fn pair(s: &[u8], offset: usize, words: usize) {
     say(b" then ");
     let text = r.text;
     match text {
-        TextGiven::Got(start, length) => span(start, length),
+        TextGiven::Got(start, length, breaks) => span(start, length, breaks),
         TextGiven::Refused(x) => refused(x),
     }
     say(b" position ");
@@ -261,6 +265,10 @@ fn strings() {
     string(b"a\x00", at(0));
     let past = string(b"\x00", at(0));
     string(b"\x00", past);
+    string(b"a\x00\x01", at(0));
+    string(b"a\x00\x00\x02", at(0));
+    string(b"\x00\x00\x00\x00\x03", at(0));
+    string(b"abcd\x00abc\x04", at(4).set_limit(1));
     string(b"abcd", at(0));
     string(b"abc\x00", at(1));
     string(b"abc\x00", at(4));

@@ -1,10 +1,10 @@
 -- Strings: where one ends, how many words it takes, and whether its bytes are UTF-8 (the standard, 2.2.1, Literal).
-use Prim.Native.Nat.{ℕ, zero, suc, _+_, _-_, _/_, _%_}
+use Prim.Native.Nat.{ℕ, zero, suc, _+_, _*_, _-_, _/_, _%_}
 use mathlib.Core.Bool.{Bool, true, false}
 use mathlib.Core.List.{List, [], _∷_, _++_}
 use mathlib.Core.Option.{Option, none, some}
 use lib.Dec.{eqb}
-use lib.ListN.{length, replicate}
+use lib.ListN.{length, take, drop, replicate}
 use Rattle.spec.specs.Base.{if_then_else_, within}
 
 -- WHERE A STRING ENDS
@@ -26,6 +26,18 @@ textWords n = n / 4 + 1
 -- the bytes of those words: the string, its zero, and zeros to the end of the last word
 unfoldable pub padded : List ℕ → List ℕ
 padded s = s ++ replicate (4 - length s % 4) 0
+
+-- the offset of the first of some bytes that is not zero, where they stand from an offset on; 0 for none
+unfoldable pub notZero : ℕ → List ℕ → ℕ
+notZero at [] = 0
+notZero at (b ∷ bs) =
+    let more = notZero (at + 1) bs in
+    if eqb b 0 then more else at
+
+-- "whether every byte present from its zero to the end of its last word is zero": 0 for yes, else the offset of the first that is
+-- not, of a string of n bytes that stands at an offset, with all bytes from there on
+unfoldable pub textBreak : ℕ → ℕ → List ℕ → ℕ
+textBreak at n rest = notZero (at + n) (drop n (take (4 * textWords n) rest))
 
 -- UTF-8: "Its bytes must be well-formed UTF-8 by Unicode's table"
 
