@@ -91,15 +91,15 @@ module _ (g s : List ℕ) (by : AllBytes s) (t : Stores) (out : List ℕ) (u : S
       let again : load g (roomIn t) (written X) .said .number ≡ 0 = plain-accepted g (roomIn t) (written X) (c .bytes) (c .plain) in
       let room : load g (roomIn u) (written X) ≡ load g (roomIn t) (written X) =
       any-room g (roomIn u) (roomIn t) (written X) f (accepted-roomy (load g (roomIn t) (written X)) again) in
-      let back : second g s t out u ≡ load g (roomIn t) (written X) = second-fits h ∙ room in
+      let came : second g s t out u ≡ load g (roomIn t) (written X) = second-fits h ∙ room in
       record {
         accepted = z;
         output = back-fits h;
         itself = λ p. sym (plain-is-written g (roomIn t) s by p);
         plain = ap (plainBy (written X)) room ∙ c .plain;
-        again = ap (λ (o : Outcome). o .said .number) back ∙ again;
-        same = subst (λ (o : Outcome). Same o X) (sym back) (c .same);
-        stores = ap storesOf back ∙ c .stores;
+        again = ap (λ (o : Outcome). o .said .number) came ∙ again;
+        same = subst (λ (o : Outcome). Same o X) (sym came) (c .same);
+        stores = ap storesOf came ∙ c .stores;
       }
 
   -- a module whose three numbers are 0 came back
