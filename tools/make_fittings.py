@@ -144,6 +144,7 @@ def stdout(fittings):
     for index, (_, shown) in enumerate(fittings, 1):
         said, stores = shown["said"], shown["stores"]
         parts = [[said[k] for k in ("number", "offset", "index", "value")], said["header"], said["counts"]]
+        parts.append([int(said["plain"]), said["breaks"]])
         parts += [stores[k] for k in ("instructions", "log", "strings", "types")]
         lines.append(f"{index}:" + " |".join("".join(f" {n}" for n in part) for part in parts) + "\n")
     return "".join(lines).encode()

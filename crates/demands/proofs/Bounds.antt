@@ -1,5 +1,5 @@
 -- The numbers of a load's answer are small: its place lies in the module, and what is kept takes no more than the module's words may.
-use Prim.Native.Nat.{ℕ, _+_, _*_, _-_, _/_, _≤_}
+use Prim.Native.Nat.{ℕ, _+_, _*_, _-_, _/_, _≤_, _<_}
 use mathlib.Core.Path.{_≡_, subst}
 use mathlib.Core.Bool.{true}
 use mathlib.Core.List.{List}
@@ -15,7 +15,9 @@ use Rattle.spec.specs.Words.{wordsOf}
 use Rattle.spec.specs.Reader.{reader}
 use Rattle.spec.specs.Header.{magicFault, headerFrom}
 use Rattle.spec.specs.Grammar.{Grammar, grammarOf, wellFormed}
-use Rattle.spec.specs.Load.{Book, emptyBook, Outcome, loadFrom, loadWith, load, Small}
+use Rattle.spec.specs.Load.{Book, emptyBook, Outcome, loadFrom, withPlain, loadWith, load, Small}
+use Rattle.spec.specs.Plain.{moduleBreak}
+use Rattle.spec.proofs.Breaks.{break-within}
 use Rattle.demands.proofs.Choice.{either}
 use Rattle.demands.proofs.Formed.{GrammarGood, well-formed-good}
 use Rattle.demands.proofs.Instructions.{Frames, instr-read}
@@ -60,14 +62,27 @@ header-near s =
 module _ (grammar : List ℕ) (formed : wellFormed grammar ≡ true) (room : Counts) (s : List ℕ) (short : length s ≤ 67108864) where
   -- the answer of the instructions after a header
   instructions-small :
-      Small (loadFrom (grammarOf grammar) room (headerFrom s .words) (length s / 4) emptyBook (reader 20 Unlimited (drop 20 s)) .said)
+      let o = loadFrom (grammarOf grammar) room (headerFrom s .words) (length s / 4) emptyBook (reader 20 Unlimited (drop 20 s)) in
+      Small (withPlain s o .said)
   instructions-small =
+      let o = loadFrom (grammarOf grammar) room (headerFrom s .words) (length s / 4) emptyBook (reader 20 Unlimited (drop 20 s)) in
       let good = well-formed-good grammar formed in
       let left = length-drop 20 s in
       let near = run-near good (20 + length s) (length s / 4 - 5)
       (runs (grammarOf grammar) good room (headerFrom s .words) (length s / 4) emptyBook 20 (drop 20 s) (omega arith)) (held-none s)
       (omega arith) in
-      omega arith
+      let breaks : withPlain s o .said .breaks < 4294967296 =
+      either (λ (n : ℕ). n < 4294967296) (eqb (o .said .number) 0) (moduleBreak s (o .kept)) 0
+      (λ e. omega (arith, break-within s (o .kept))) (λ e. omega arith) in
+      record {
+        offset = omega arith;
+        index = omega arith;
+        instructions = omega arith;
+        log = omega arith;
+        strings = omega arith;
+        types = omega arith;
+        breaks = breaks;
+      }
 
 -- every load's answer is such
 pub load-small : (grammar : List ℕ) (room : Counts) (s : List ℕ) → Small (load grammar room s .said)

@@ -8,7 +8,7 @@ use lib.ListN.{length, take}
 use Rattle.spec.specs.declared.State.{State}
 use Rattle.spec.specs.declared.Counts.{Counts}
 use Rattle.spec.specs.Grammar.{wellFormed}
-use Rattle.spec.specs.Load.{Covers, enough, lacksRoom, load, Stores, storesOf, roomIn, laidOn}
+use Rattle.spec.specs.Load.{Covers, enough, lacksRoom, withPlain, load, Stores, storesOf, roomIn, laidOn}
 use Rattle.spec.specs.Records.{recordSize}
 use Rattle.spec.specs.Check.{good, check, givenBy}
 use Rattle.spec.specs.Words.{AllBytes}
@@ -49,9 +49,10 @@ module _ (grammar : List ℕ) (room : Counts) (s : List ℕ) where
   kept-says = load-says grammar room s
 
   -- a refusal is the first fault: a module that came to its instructions, cut where those kept end, loads to the same records and
-  -- ends there
+  -- ends there, and says of itself whether it is plain
   pub first-fault : 1 ≤ load grammar room s .said .index
-      → (q : State) × (load grammar room (take (endOf (load grammar room s)) s) ≡ ended q (load grammar room s))
+      → let o = load grammar room s in
+      (q : State) × (load grammar room (take (endOf o) s) ≡ withPlain (take (endOf o) s) (ended q o))
   first-fault h = load-cut grammar room s h
 
   -- nothing before a fault depends on what follows: with bytes behind the module, what is kept of it is kept first, if it still

@@ -7,13 +7,13 @@ use mathlib.Core.Logic.{_↔_}
 use lib.ListN.{length}
 use Rattle.spec.specs.declared.Counts.{Counts}
 use Rattle.spec.specs.Records.{Placed, recordSize}
-use Rattle.spec.specs.Load.{Outcome, Same, load, Stores, storesOf}
+use Rattle.spec.specs.Load.{Same, load, Stores, storesOf}
 use Rattle.spec.specs.Check.{good, check, givenBy}
-use Rattle.spec.specs.Plain.{plainBy, isPlain}
 use Rattle.spec.specs.Write.{parseBytes, writeParse, written, wrote}
 use Rattle.spec.specs.Words.{AllBytes}
 use Rattle.demands.proofs.Stores.{BeginWith}
-use Rattle.demands.proofs.Returns.{plain-parts, Returns, load-returns}
+use Rattle.demands.proofs.Starts.{load-is}
+use Rattle.demands.proofs.Returns.{accepts-plain, Returns, load-returns}
 use Rattle.demands.proofs.ReadBack.{reads-back-whole, stores-tell}
 use Rattle.demands.proofs.WriteBack.{load-written}
 
@@ -22,7 +22,7 @@ use Rattle.demands.proofs.WriteBack.{load-written}
 pub record ComesBack (g : List ℕ) (room : Counts) (s bs : List ℕ) : Type 0 where
   pub same : Same (load g room bs) (load g room s)
   pub stores : storesOf (load g room bs) ≡ storesOf (load g room s)
-  pub plain : isPlain g room bs ≡ true
+  pub plain : load g room bs .said .plain ≡ true
   pub long : length bs ≡ 4 * (length s / 4)
   pub bytes : AllBytes bs
 
@@ -31,38 +31,29 @@ module _ (g : List ℕ) (room : Counts) (s : List ℕ) (by : AllBytes s) where
 
   -- an accepted module comes back from the bytes written for it in parse order
   pub comes-back : load g room s .said .number ≡ 0 → ComesBack g room s (written (load g room s))
-  unfolding isPlain
   comes-back accepted =
       let r : Returns g room s (load g room s) (written (load g room s)) = load-returns g room s by accepted in
       record {
-        same =
-            record {
-              header = ap (λ (o : Outcome). o .said .header) (r .loads);
-              kept = ap (λ (o : Outcome). o .kept) (r .loads);
-              types = ap (λ (o : Outcome). o .types) (r .loads);
-              counts = ap (λ (o : Outcome). o .said .counts) (r .loads);
-            };
-        stores = ap storesOf (r .loads);
-        plain = ap (plainBy (written (load g room s))) (r .loads) ∙ r .plain;
+        same = r .loads;
+        stores = r .stores;
+        plain = r .plain;
         long = r .long;
         bytes = r .bytes;
       }
 
   -- a plain module is accepted
-  pub plain-accepted : isPlain g room s ≡ true → load g room s .said .number ≡ 0
-  unfolding isPlain
-  plain-accepted plain = plain-parts s (load g room s) plain .0
+  pub plain-accepted : load g room s .said .plain ≡ true → load g room s .said .number ≡ 0
+  plain-accepted plain = accepts-plain (load-is g room s) plain
 
   -- and is the bytes written for it
-  pub plain-is-written : isPlain g room s ≡ true → s ≡ written (load g room s)
-  unfolding isPlain
+  pub plain-is-written : load g room s .said .plain ≡ true → s ≡ written (load g room s)
   plain-is-written plain = load-returns g room s by (plain-accepted plain) .exact plain
 
   -- only such modules are plain
-  pub plain-exactly : isPlain g room s ≡ true ↔ ((load g room s .said .number ≡ 0) × (s ≡ written (load g room s)))
+  pub plain-exactly : load g room s .said .plain ≡ true ↔ ((load g room s .said .number ≡ 0) × (s ≡ written (load g room s)))
   plain-exactly = (
     λ plain. (plain-accepted plain, plain-is-written plain),
-    λ both. subst (λ (w : List ℕ). isPlain g room w ≡ true) (sym (both .1)) (comes-back (both .0) .plain),
+    λ both. subst (λ (w : List ℕ). load g room w .said .plain ≡ true) (sym (both .1)) (comes-back (both .0) .plain),
   )
 
   -- FROM RECORDS, in any stores that begin with them
@@ -75,7 +66,7 @@ module _ (g : List ℕ) (room : Counts) (s : List ℕ) (by : AllBytes s) where
     writes out h = load-written g room s by t b out h
 
     -- the records of a plain module are written as the module
-    pub writes-back : isPlain g room s ≡ true → (out : List ℕ) → length s ≤ length out
+    pub writes-back : load g room s .said .plain ≡ true → (out : List ℕ) → length s ≤ length out
         → let x = load g room s in writeParse (x .said .header) (givenBy t (x .said .counts)) out ≡ wrote s out
     writes-back plain out h =
         let is : s ≡ written (load g room s) = plain-is-written plain in
@@ -87,8 +78,8 @@ module _ (g : List ℕ) (room : Counts) (s : List ℕ) (by : AllBytes s) where
     accepted-whole accepted = reads-back-whole g room s by t b accepted
 
 -- two plain modules with the same header words and the same four stores are the same bytes, whatever the grammars and the rooms
-pub same-records : (g h : List ℕ) (room other : Counts) (s u : List ℕ) → AllBytes s → AllBytes u → isPlain g room s ≡ true
-    → isPlain h other u ≡ true → load g room s .said .header ≡ load h other u .said .header
+pub same-records : (g h : List ℕ) (room other : Counts) (s u : List ℕ) → AllBytes s → AllBytes u
+    → load g room s .said .plain ≡ true → load h other u .said .plain ≡ true → load g room s .said .header ≡ load h other u .said .header
     → storesOf (load g room s) ≡ storesOf (load h other u) → s ≡ u
 same-records g h room other s u bs bu ps pu header stores =
     let kept = stores-tell g h room other s u bs bu stores .0 in

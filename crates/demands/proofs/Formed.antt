@@ -38,13 +38,13 @@ RowFrom t i (slot k q ∷ ss) =
     (mayBeOperand k ≡ true) × ResultAt 46 k q t × ResultAt 47 k q i × RowFrom false (t && isSlot 46 0 (slot k q)) ss
 
 -- a result by its rule
-result-at : (result k q : ℕ) (free : Bool) → implies (eqb k result) (free && eqb q 0) ≡ true → ResultAt result k q free
+pub result-at : (result k q : ℕ) (free : Bool) → implies (eqb k result) (free && eqb q 0) ≡ true → ResultAt result k q free
 result-at result k q free e h =
     let one = asked (eqb k result) (free && eqb q 0) e h in
     (left free (eqb q 0) one, rw (eqb-true q 0 (right free (eqb q 0) one)))
 
 -- what is free after one operand more
-row-next : (before : List Slot) (k q : ℕ) (ss : List Slot)
+pub row-next : (before : List Slot) (k q : ℕ) (ss : List Slot)
     → let after = before ++ (slot k q ∷ []) in RowFrom (isFirst after) (isFirst after || afterType after) ss
     → RowFrom false (isFirst before && isSlot 46 0 (slot k q)) ss
 row-next [] k q ss x = x

@@ -10,7 +10,7 @@ use native.Mathlib.Nat.{div-add-mod'}
 use borrow.Author.Tests.{eqb-false}
 use lib.Dec.{eqb, eqb·suc-zero}
 use lib.ListN.{length, length-append}
-use lib.Seq.{drop-append-add, drop-drop}
+use lib.Seq.{drop-append-add}
 use Rattle.spec.specs.declared.Limit.the-variants.{Unlimited, Words}
 use Rattle.spec.specs.Base.{joined}
 use Rattle.spec.specs.Words.{four, bytesOf, frontOf, AllBytes}
@@ -18,7 +18,7 @@ use Rattle.spec.specs.Reader.{Reader, reader, Read, got, refused, Parse, after,
 use Rattle.spec.specs.Grammar.{Slot, Grammar, rowOf}
 use Rattle.spec.specs.Records.{Operand, Instr, Entry, operandSize, operandsSize, idSize, operandBytes, idBytes, instrBytes}
 use Rattle.spec.specs.Match.{Seen, nothingSeen, readRow, instrOf, allRead, readBody, readInstr}
-use Rattle.spec.specs.Plain.{plainOperand, plainOperands, plainInstr}
+use Rattle.spec.specs.Plain.{operandsBreak, instrBreak}
 use Rattle.demands.proofs.Choice.{either, IfSome}
 use Rattle.demands.proofs.Bytes.{all-append, all-left, all-right, four-word}
 use Rattle.demands.proofs.Reading.{RefusedBy, Again, Taken, Comes}
@@ -47,8 +47,8 @@ pub record InstrSure (g : Grammar) (types : List Entry) (at : ℕ) (i : Instr) (
   pub long : length y ≡ 4 * i .words
   pub back : ReadFrom g types at i y
   pub bytes : AllBytes y
-  pub plain : (pre t : List ℕ) → length pre ≡ at → plainInstr (pre ++ (y ++ t)) i ≡ true
-  pub exact : (pre t : List ℕ) → length pre ≡ at → plainInstr (pre ++ (x ++ t)) i ≡ true → x ≡ y
+  pub plain : (pre t : List ℕ) → length pre ≡ at → instrBreak (pre ++ (y ++ t)) i ≡ 0
+  pub exact : (pre t : List ℕ) → length pre ≡ at → instrBreak (pre ++ (x ++ t)) i ≡ 0 → x ≡ y
 
 -- an instruction was read from the bytes in front, and the reader t is left
 pub record InstrRead (g : Grammar) (types : List Entry) (at : ℕ) (rest : List ℕ) (i : Instr) (t : Reader) : Type 0 where
@@ -98,14 +98,11 @@ seen-holds none (some i) os x = x .1
 seen-holds (some t) none os x = x .1
 seen-holds (some t) (some i) os x = x .1 .1
 
--- whether bytes of an instruction are plain, by those after its first word
-seen-plain : (pre : List ℕ) (at count op a b c d : ℕ) (z : List ℕ) (t i : Option ℕ) (os : List Operand) → length pre ≡ at
-    → plainInstr (pre ++ (a ∷ b ∷ c ∷ d ∷ z)) (instrOf at count op (seen t i os)) ≡ plainOperands (asOperands (seen t i os)) z
-unfolding plainInstr plainOperands plainOperand operandSize
-seen-plain pre at count op a b c d z none none os e = rw (← e, drop-append-add)
-seen-plain pre at count op a b c d z none (some i) os e = rw (← e, drop-append-add)
-seen-plain pre at count op a b c d z (some t) none os e = rw (← e, drop-append-add)
-seen-plain pre at count op a b c d z (some t) (some i) os e = rw (← e, drop-append-add, drop-drop)
+-- what breaks an instruction is in the bytes after its first word
+seen-breaks : (pre : List ℕ) (at count op a b c d : ℕ) (z : List ℕ) (s : Seen) → length pre ≡ at
+    → instrBreak (pre ++ (a ∷ b ∷ c ∷ d ∷ z)) (instrOf at count op s) ≡ operandsBreak (at + 4) (asOperands s) z
+unfolding instrBreak
+seen-breaks pre at count op a b c d z s e = rw (← e, drop-append-add)
 
 -- READING ONE
 
@@ -174,9 +171,9 @@ module _ (g : Grammar) (good : GrammarGood g) (types : List Entry) (at a b c d :
           let others : AllBytes x = all-right (a ∷ b ∷ c ∷ d ∷ []) x by in
           let u : AllSure (asOperands s) x y = along-sure told others in
           let is : instrBytes i ≡ a ∷ b ∷ c ∷ d ∷ y = written-is first (u .are) in
-          let plain-is : (pre z : List ℕ) → length pre ≡ at
-          → plainInstr (pre ++ (a ∷ b ∷ c ∷ d ∷ z)) i ≡ plainOperands (asOperands s) z =
-          λ pre z e. seen-plain pre at count op a b c d z (s .resultType) (s .resultId) (s .operands) e in
+          let breaks-are : (pre z : List ℕ) → length pre ≡ at
+          → instrBreak (pre ++ (a ∷ b ∷ c ∷ d ∷ z)) i ≡ operandsBreak (at + 4) (asOperands s) z =
+          λ pre z e. seen-breaks pre at count op a b c d z s e in
           rw is
           (record {
             good =
@@ -189,8 +186,10 @@ module _ (g : Grammar) (good : GrammarGood g) (types : List Entry) (at a b c d :
             long = omega (arith, eqb-false count 0 some-word);
             back = read-from y long (back others);
             bytes = all-append (a ∷ b ∷ c ∷ d ∷ []) y first (u .bytes);
-            plain = λ pre t e. plain-is pre (y ++ t) e ∙ u .plain t;
-            exact = λ pre t e p. ap (λ (l : List ℕ). a ∷ b ∷ c ∷ d ∷ l) (u .exact t (sym (plain-is pre (x ++ t) e) ∙ p));
+            plain = λ pre t e. breaks-are pre (y ++ t) e ∙ u .plain (at + 4) t;
+            exact = λ pre t e p.
+                ap (λ (l : List ℕ). a ∷ b ∷ c ∷ d ∷ l)
+                (u .exact (at + 4) (omega arith) t (sym (breaks-are pre (x ++ t) e) ∙ p));
           })
 
       -- all of it

@@ -3,7 +3,7 @@
 -- written for them too.
 use Prim.Native.Nat.{ℕ, _+_, _*_, _≤_, _<_}
 use mathlib.Core.Path.{_≡_, refl, ap, sym, _∙_, subst}
-use mathlib.Core.Bool.{Bool, true}
+use mathlib.Core.Bool.{true}
 use mathlib.Core.List.{List, [], _∷_, _++_, append-assoc, append-nil}
 use native.Mathlib.Omega.{arith}
 use native.Mathlib.Nat.{add-zero}
@@ -14,16 +14,15 @@ use Rattle.spec.specs.declared.State.{State}
 use Rattle.spec.specs.declared.State.the-variants.{Outside, Function, Block}
 use Rattle.spec.specs.declared.Cell.the-variants.{Tagged}
 use Rattle.spec.specs.declared.Counts.{Counts}
-use Rattle.spec.specs.Base.{every}
 use Rattle.spec.specs.Grammar.{Grammar}
 use Rattle.spec.specs.Reader.{Reader, reader}
 use Rattle.spec.specs.Layout.{layoutOf, endNumber}
 use Rattle.spec.specs.Records.{Placed, instrBytes}
 use Rattle.spec.specs.Load.{Book, Outcome, stop}
-use Rattle.spec.specs.Plain.{plainInstr}
+use Rattle.spec.specs.Plain.{instrBreak, keptBreak}
+use Rattle.spec.proofs.Breaks.{first-none, neither}
 use Rattle.spec.specs.Write.{bytesOfAll}
 use Rattle.spec.specs.Words.{AllBytes}
-use Rattle.demands.proofs.Choice.{left, right, both}
 use Rattle.demands.proofs.Lists.{has-leb}
 use Rattle.demands.proofs.Bytes.{all-append, all-left, all-right}
 use Rattle.demands.proofs.Cells.{layout-refuses}
@@ -48,10 +47,6 @@ unfoldable pub wordsIn : List Placed → ℕ
 wordsIn [] = 0
 wordsIn (p ∷ ps) = p .instr .words + wordsIn ps
 
--- each instruction is plain in the bytes of a module
-abbrev pub allPlain : List ℕ → List Placed → Bool
-allPlain s ps = every (λ p. plainInstr s (p .instr)) ps
-
 -- WHAT A RUN READS
 
 -- the end of a load there
@@ -65,8 +60,8 @@ pub record RunSure (g : Grammar) (room : Counts) (h : List ℕ) (b : Book) (at :
   pub long : length y ≡ 4 * wordsIn new
   pub bytes : AllBytes y
   pub back : Run g room h b at y (endAt h c (at + 4 * wordsIn new))
-  pub plain : (pre : List ℕ) → length pre ≡ at → allPlain (pre ++ y) new ≡ true
-  pub exact : (pre t : List ℕ) → length pre ≡ at → allPlain (pre ++ (x ++ t)) new ≡ true → x ≡ y
+  pub plain : (pre : List ℕ) → length pre ≡ at → keptBreak (pre ++ y) new ≡ 0
+  pub exact : (pre t : List ℕ) → length pre ≡ at → keptBreak (pre ++ (x ++ t)) new ≡ 0 → x ≡ y
 
 -- a run keeps new instructions from the bytes in front, and stops with a book; an accepted one stops at the end
 pub record RunRead (g : Grammar) (room : Counts) (h : List ℕ) (b : Book) (at : ℕ) (rest : List ℕ) (o : Outcome) : Type 0 where
@@ -115,7 +110,7 @@ module _ (g : Grammar) (good : GrammarGood g) (room : Counts) (h : List ℕ) whe
   -- nothing is kept
   read-none : {b : Book} {at : ℕ} {rest : List ℕ} {n place v : ℕ} → Stops g room b at rest n place v
       → RunRead g room h b at rest (stop h b n place v)
-  unfolding wordsIn bytesOfAll
+  unfolding wordsIn bytesOfAll keptBreak
   read-none {b} {at} {rest} x =
       let here : Run g room h b at [] (endAt h b (at + 0)) = rw add-zero (stops _ _ _ (ends refl)) in
       record {
@@ -162,7 +157,7 @@ module _ (g : Grammar) (good : GrammarGood g) (room : Counts) (h : List ℕ) whe
     -- what is sure of them
     more-sure : AllBytes (x .from ++ m .from)
         → RunSure g room h b at (placedOf z ∷ m .new) (m .book) (x .from ++ m .from) (bytesOfAll (placedOf z ∷ m .new))
-    unfolding wordsIn bytesOfAll
+    unfolding wordsIn bytesOfAll keptBreak
     more-sure by =
         let y : List ℕ = instrBytes (z .instr) in
         let ys : List ℕ = bytesOfAll (m .new) in
@@ -174,18 +169,18 @@ module _ (g : Grammar) (good : GrammarGood g) (room : Counts) (h : List ℕ) whe
           bytes = all-append y ys (u .bytes) (v .bytes);
           back = keeps-from y ys (u .long) (u .back) (v .back);
           plain = λ pre e.
-              both (u .plain pre ys e)
-              (subst (λ (l : List ℕ). allPlain l (m .new) ≡ true) (append-assoc pre y ys)
-              (v .plain (pre ++ y) (length-append pre y ∙ omega (arith, u .long))));
+              first-none _ _ (u .plain pre ys e)
+              ∙ subst (λ (l : List ℕ). keptBreak l (m .new) ≡ 0) (append-assoc pre y ys)
+              (v .plain (pre ++ y) (length-append pre y ∙ omega (arith, u .long)));
           exact = λ pre t e p.
               let all : List ℕ = pre ++ (x .from ++ m .from ++ t) in
               let one : all ≡ pre ++ (x .from ++ (m .from ++ t)) =
               ap (λ (l : List ℕ). pre ++ l) (append-assoc (x .from) (m .from) t) in
               let others : all ≡ pre ++ x .from ++ (m .from ++ t) = one ∙ sym (append-assoc pre (x .from) (m .from ++ t)) in
+              let none = neither (instrBreak all (z .instr)) (keptBreak all (m .new)) p in
               cc (
-                u .exact pre (m .from ++ t) e (rw one at (left (plainInstr all (z .instr)) (allPlain all (m .new)) p)),
-                v .exact (pre ++ x .from) t (length-append pre (x .from) ∙ omega (arith, x .whole))
-                    (rw others at (right (plainInstr all (z .instr)) (allPlain all (m .new)) p)),
+                u .exact pre (m .from ++ t) e (rw one at (none .0)),
+                v .exact (pre ++ x .from) t (length-append pre (x .from) ∙ omega (arith, x .whole)) (rw others at (none .1)),
               );
         }
 

@@ -9,7 +9,7 @@ use Rattle.spec.specs.declared.Counts.{Counts}
 use Rattle.spec.specs.Records.{Placed, Entry, logFrom, stringStore}
 use Rattle.spec.specs.Grammar.{Grammar}
 use Rattle.spec.specs.Types.{track}
-use Rattle.spec.specs.Load.{counts, Book, Outcome, nothing, load}
+use Rattle.spec.specs.Load.{counts, Book, Outcome, nothing, withPlain, load}
 use Rattle.demands.proofs.Stores.{operands-log-length, log-more, strings-more}
 use Rattle.demands.proofs.Runs.{Enters, placedOf, with, Run, stops, keeps}
 use Rattle.demands.proofs.Starts.{Loads, unformed, overlong, headless, opens, load-is}
@@ -71,6 +71,10 @@ run-says (stops n place v x) t =
     record { left = refl; types = t .types; counts = t .used; index = λ e. ap (λ (c : Counts). c .instructions + 1) (t .used) }
 run-says (keeps z e run) t = run-says run (tidy-more z t)
 
+-- whatever is said of plain
+plain-says : (s : List ℕ) {o : Outcome} → KeptSays o → KeptSays (withPlain s o)
+plain-says s k = record { left = k .left; types = k .types; counts = k .counts; index = k .index }
+
 -- before an instruction
 nothing-says : (n at : ℕ) → KeptSays (nothing n at)
 unfolding typesAfter takenBy logFrom stringStore
@@ -82,7 +86,7 @@ unfolding typesAfter takenBy logFrom stringStore
 of-load (unformed e) = nothing-says 24 0
 of-load (overlong e) = nothing-says 31 0
 of-load (headless n at e f) = nothing-says n at
-of-load (opens b run) = run-says run (record { types = refl; used = refl })
+of-load {s = s} (opens b run) = plain-says s (run-says run (record { types = refl; used = refl }))
 
 -- the instructions kept say the rest
 pub load-says : (grammar : List ℕ) (room : Counts) (s : List ℕ) → KeptSays (load grammar room s)

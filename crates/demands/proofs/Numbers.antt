@@ -57,12 +57,12 @@ module _ {g : Grammar} (good : GrammarGood g) {c : Counts} (R : ℕ → Type 0) 
 
 -- a load's number, where that of its run is known
 pub load-source : {grammar : List ℕ} {c : Counts} {s : List ℕ} {o : Outcome} (R : ℕ → Type 0)
-    → (GrammarGood (grammarOf grammar) → ModuleRun grammar c s o → InRun R (o .said .number)) → Loads grammar c s o
+    → ((u : Outcome) → GrammarGood (grammarOf grammar) → ModuleRun grammar c s u → InRun R (u .said .number)) → Loads grammar c s o
     → Source grammar s R (o .said .number)
 load-source R of-run (unformed e) = theGrammar e refl
 load-source R of-run (overlong e) = theLength e refl
 load-source R of-run (headless n at e f) = theHeader e f
-load-source R of-run (opens b run) = instructions (of-run (opens-good b) run)
+load-source R of-run (opens {o = u} b run) = instructions (of-run u (opens-good b) run)
 
 -- the numbers of room
 abbrev pub OfRoom : ℕ → Type 0
@@ -89,7 +89,7 @@ room-number c need =
 pub load-from : (grammar : List ℕ) (c : Counts) (s : List ℕ) → Source grammar s OfRoom (load grammar c s .said .number)
 load-from grammar c s =
     load-source OfRoom
-    (λ good run. run-source good OfRoom (λ b rest. Unit) (λ b at rest z x e. room-number c (with z .used) e)
+    (λ u good run. run-source good OfRoom (λ b rest. Unit) (λ b at rest z x e. room-number c (with z .used) e)
     (λ b at rest z x. tt) run tt)
     (load-is grammar c s)
 

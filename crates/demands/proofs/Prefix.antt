@@ -44,7 +44,7 @@ module _ (grammar : List ℕ) (room : Counts) (s y : List ℕ) where
   begins-of (opens b c) (unformed e) h = absurd (omega arith)
   begins-of (opens b c) (overlong e) h = absurd (omega arith)
   begins-of (opens b c) (headless n at e f) h = absurd (omega arith)
-  begins-of {u = u} (opens b c) (opens d run) h =
+  begins-of (opens b c) (opens {o = u} d run) h =
       let there = header-is s .there (b .header) .0 in
       let whole : s ++ y ≡ take 20 s ++ (drop 20 s ++ y) =
       ap (λ (l : List ℕ). l ++ y) (sym (take-append-drop 20 s)) ∙ append-assoc (take 20 s) (drop 20 s) y in

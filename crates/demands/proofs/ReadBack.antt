@@ -45,7 +45,7 @@ load-kept g room s by = of (load-is g room s)
     of (unformed e) = none-kept 24 0
     of (overlong e) = none-kept 31 0
     of (headless n at e f) = none-kept n at
-    of {o} (opens b run) =
+    of (opens {o = o} b run) =
         let r = module-read g room s b run in
         let same = kept-is g room s b o r in
         record {

@@ -218,7 +218,7 @@ module _ (grammar : List ℕ) (room : Counts) (s : List ℕ) (c : Covers room (e
   roomy-source : Source grammar s Never (load grammar room s .said .number)
   roomy-source =
       load-source Never
-      (λ good run. run-source good Never (Held (length s / 4 - 5))
+      (λ u good run. run-source good Never (Held (length s / 4 - 5))
       (λ b at rest z k e. absurd (eqb-false (roomFault room (with z .used)) 0 e (held-fits good b at rest z k room c)))
       (held-more good) run (held-none s))
       (load-is grammar room s)

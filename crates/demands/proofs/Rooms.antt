@@ -1,6 +1,6 @@
 -- Room changes nothing but refusals for room: a module loads to the same in any two rooms, where neither load is refused for room.
 use Prim.Native.Nat.{ℕ, zero, suc, _/_}
-use mathlib.Core.Path.{_≡_, refl, sym, _∙_}
+use mathlib.Core.Path.{_≡_, refl, ap, sym, _∙_}
 use mathlib.Core.Bool.{Bool, true, false, true≢false}
 use mathlib.Core.List.{List}
 use borrow.Author.Tests.{le-leb}
@@ -17,7 +17,7 @@ use Rattle.spec.specs.Header.{headerFrom}
 use Rattle.spec.specs.Grammar.{Grammar, grammarOf, wellFormed}
 use Rattle.spec.specs.Layout.{layoutOf}
 use Rattle.spec.specs.Match.{readInstr}
-use Rattle.spec.specs.Load.{roomFault, Book, emptyBook, entered, Outcome, lacksRoom, placed, roomed, onBook, loadFrom, loadWith, load}
+use Rattle.spec.specs.Load.{roomFault, Book, emptyBook, entered, Outcome, lacksRoom, placed, roomed, onBook, loadFrom, withPlain, loadWith, load}
 use Rattle.demands.proofs.Choice.{both, cases}
 use Rattle.demands.proofs.Numbers.{room-number}
 
@@ -32,6 +32,10 @@ Alike x y = Roomy x → Roomy y → x ≡ y
 -- a load and itself
 itself : {x : Outcome} → Alike x x
 itself f k = refl
+
+-- whatever is said of plain
+alike-plain : (s : List ℕ) {x y : Outcome} → Alike x y → Alike (withPlain s x) (withPlain s y)
+alike-plain s a f k = ap (withPlain s) (a f k)
 
 -- what a test chooses of loads that are alike
 alike-if : (c : Bool) {x y u v : Outcome} → Alike x y → Alike u v → Alike (if c then x else u) (if c then y else v)
@@ -85,6 +89,7 @@ any-room grammar room other s =
     alike-if (wellFormed grammar)
     (alike-if (ltb 67108864 (length s)) itself
     (alike-if (eqb (headerFrom s .refusal .number) 0)
-    (alike-from (grammarOf grammar) room other (headerFrom s .words) (length s / 4) emptyBook (reader 20 Unlimited (drop 20 s)))
+    (alike-plain s
+    (alike-from (grammarOf grammar) room other (headerFrom s .words) (length s / 4) emptyBook (reader 20 Unlimited (drop 20 s))))
     itself))
     itself

@@ -3,11 +3,12 @@ use Prim.Native.Nat.{ℕ, zero, suc}
 use mathlib.Core.Path.{_≡_, refl, ap, sym, _∙_, subst}
 use mathlib.Core.Bool.{Bool, true, false, _&&_, true≢false, and-false}
 use mathlib.Core.List.{List, [], _∷_, _++_, append-assoc, append-nil}
-use mathlib.Core.Option.{Option, none, some}
+use mathlib.Core.Option.{none, some}
 use native.Mathlib.Omega.{arith}
 use lib.Dec.{eqb}
 use Rattle.spec.specs.Grammar.{Slot, slot, isSlot, Grammar}
 use Rattle.spec.specs.Records.{Operand, narrow, Entry}
+use Rattle.spec.specs.Plain.{asIds, inOrder}
 use Rattle.spec.specs.Match.{Seen, nothingSeen, withType, withId, withOperands, readSlot, noneLeft, slotsAfter, readRow}
 use Rattle.demands.proofs.Choice.{left, right, fails, either}
 use Rattle.demands.proofs.Reading.{Relation, Reads, give-reads, stop-reads, then-reads, into-reads, less-reads, spent-reads, if-reads}
@@ -19,14 +20,9 @@ use Rattle.demands.proofs.Operands.{kind-reads}
 
 -- WHAT IS SEEN, AS OPERANDS
 
--- a result that is there is written as an id
-abbrev pub asIds : Option ℕ → List Operand
-asIds none = []
-asIds (some w) = narrow 33 w ∷ []
-
 -- what is seen is written as its results and its operands
 abbrev pub asOperands : Seen → List Operand
-asOperands s = asIds (s .resultType) ++ asIds (s .resultId) ++ s .operands
+asOperands s = inOrder (s .resultType) (s .resultId) (s .operands)
 
 -- what is seen is told by bytes, operand by operand
 abbrev pub SeenTold : Relation Seen
@@ -51,18 +47,18 @@ goes-then s t u p q = (
 -- WHERE A RESULT IS FREE
 
 -- where a result type is free nothing is seen, and where a result id is, no result id and no operand
-abbrev Free : Bool → Bool → Seen → Type 0
+abbrev pub Free : Bool → Bool → Seen → Type 0
 Free t i s = (t ≡ true → s ≡ nothingSeen) × (i ≡ true → (s .resultId ≡ none) × (s .operands ≡ []))
 
 -- after a kind that is not 46 nothing is
-free-none : (t : Bool) (k q : ℕ) (s : Seen) → eqb k 46 ≡ false → Free false (t && isSlot 46 0 (slot k q)) s
+pub free-none : (t : Bool) (k q : ℕ) (s : Seen) → eqb k 46 ≡ false → Free false (t && isSlot 46 0 (slot k q)) s
 free-none t k q s e = (
   λ h. absurd (true≢false (sym h)),
   λ h. absurd (true≢false (sym (left (eqb k 46) (eqb q 0) (right t (eqb k 46 && eqb q 0) h)) ∙ e)),
 )
 
 -- what is left of a row after an operand
-row-after : (t i : Bool) (k q : ℕ) (ss : List Slot) → RowFrom t i (slot k q ∷ ss)
+pub row-after : (t i : Bool) (k q : ℕ) (ss : List Slot) → RowFrom t i (slot k q ∷ ss)
     → RowFrom false (t && isSlot 46 0 (slot k q)) (slotsAfter k q ss)
 row-after t i k q ss row =
     either (RowFrom false (t && isSlot 46 0 (slot k q))) (eqb q 2) (slot k q ∷ ss) ss

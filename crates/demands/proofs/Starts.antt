@@ -14,7 +14,7 @@ use Rattle.spec.specs.Words.{wordsOf}
 use Rattle.spec.specs.Header.{magicFault, noHeader, headerFrom}
 use Rattle.spec.specs.Grammar.{Grammar, grammarOf, wellFormed}
 use Rattle.spec.specs.Reader.{refusal}
-use Rattle.spec.specs.Load.{Book, emptyBook, Outcome, nothing, afterHeader, loadWith, load}
+use Rattle.spec.specs.Load.{Book, emptyBook, Outcome, nothing, withPlain, afterHeader, loadWith, load}
 use Rattle.demands.proofs.Choice.{either}
 use Rattle.demands.proofs.Formed.{GrammarGood, well-formed-good}
 use Rattle.demands.proofs.Runs.{Run, stops, keeps, runs, loads}
@@ -72,7 +72,7 @@ pub data Loads (grammar : List ℕ) (room : Counts) (s : List ℕ) : Outcome →
   unformed : wellFormed grammar ≡ false → Loads grammar room s (nothing 24 0)
   overlong : 67108864 < length s → Loads grammar room s (nothing 31 0)
   headless : (n at : ℕ) → 1 ≤ n → n ≤ 3 → Loads grammar room s (nothing n at)
-  opens : {o : Outcome} → Opens grammar s → ModuleRun grammar room s o → Loads grammar room s o
+  opens : {o : Outcome} → Opens grammar s → ModuleRun grammar room s o → Loads grammar room s (withPlain s o)
 
 -- THE HEADER WORDS OF AN ANSWER
 
@@ -129,7 +129,8 @@ module _ (grammar : List ℕ) (room : Counts) (s : List ℕ) where
 
   -- bytes after the header of a module that comes to its instructions load to what their run comes to
   pub load-after : Opens grammar s → (z : List ℕ) → length z + 20 ≤ length s → {o : Outcome}
-      → Run (grammarOf grammar) room (headerFrom s .words) emptyBook 20 z o → load grammar room (take 20 s ++ z) ≡ o
+      → Run (grammarOf grammar) room (headerFrom s .words) emptyBook 20 z o
+      → load grammar room (take 20 s ++ z) ≡ withPlain (take 20 s ++ z) o
   unfolding load loadWith
   load-after b z few run =
       let head = length-take-le 20 s (header-is s .there (b .header) .0) in
@@ -141,4 +142,5 @@ module _ (grammar : List ℕ) (room : Counts) (s : List ℕ) where
         b .header,
         drop-at (take 20 s) z 20 head,
       )
-      (loads (grammarOf grammar) (opens-good b) room (headerFrom s .words) run (length (take 20 s ++ z) / 4) (omega arith))
+      (ap (withPlain (take 20 s ++ z))
+      (loads (grammarOf grammar) (opens-good b) room (headerFrom s .words) run (length (take 20 s ++ z) / 4) (omega arith)))

@@ -1,22 +1,23 @@
 -- Operands and bytes: an operand that was read is told by the bytes that it was read from, and is written as bytes that are plain;
 -- where the former are plain, they are the latter.
-use Prim.Native.Nat.{ℕ, zero, suc, _*_, _-_, _/_, _%_, _<_}
+use Prim.Native.Nat.{ℕ, zero, suc, _+_, _*_, _-_, _%_, _≤_, _<_}
 use mathlib.Core.Path.{_≡_, refl, ap, sym, _∙_}
-use mathlib.Core.Bool.{Bool, true, false, not, _&&_}
+use mathlib.Core.Bool.{Bool, true, false, not}
 use mathlib.Core.List.{List, [], _∷_, _++_, append-assoc, append-nil}
 use native.Mathlib.Omega.{arith}
-use borrow.Author.Tests.{eq-eqb, eqb-true, not-true}
-use lib.Dec.{eqb}
-use lib.ListN.{length, drop, replicate, length-append}
-use lib.Seq.{take-at, drop-at, drop-append-seam}
-use Rattle.spec.specs.Base.{joined}
-use Rattle.spec.specs.Words.{bytesOf, AllBytes}
-use Rattle.spec.specs.Text.{textWords, padded, isUtf8}
+use borrow.Author.Tests.{eqb-true, not-true, le-ltb, ltb-false}
+use lib.Dec.{ltb, eqb}
+use lib.ListN.{length, replicate, length-append}
+use lib.Seq.{take-at, take-all, drop-at, drop-append-seam}
+use Rattle.spec.specs.Base.{if_then_else_, joined}
+use Rattle.spec.specs.Words.{bytesOf, fourAt, AllBytes}
+use Rattle.spec.specs.Text.{textWords, padded, notZero, textBreak, isUtf8}
 use Rattle.spec.specs.Kinds.{isLong}
 use Rattle.spec.specs.Records.{Operand, narrow, wide, text, operandSize, operandsSize, longBytes, operandBytes}
-use Rattle.spec.specs.Plain.{zeros, plainOperand, plainOperands}
+use Rattle.spec.specs.Plain.{firstBreak, operandBreak, operandsBreak}
+use Rattle.spec.proofs.Breaks.{first-none, neither}
 use Rattle.demands.proofs.Choice.{left, right}
-use Rattle.demands.proofs.Bytes.{all-append, all-left, all-right, all-zeros, word-bytes}
+use Rattle.demands.proofs.Bytes.{all-append, all-left, all-right, all-zeros, word-bytes, four-bytes}
 use Rattle.demands.proofs.OperandKinds.{isNarrow, isWhole}
 use Rattle.demands.proofs.Words.{Word, Opcode}
 use Rattle.demands.proofs.Strings.{noZeros, Text, padded-length}
@@ -35,8 +36,8 @@ pub record Sure (o : Operand) (x y : List ℕ) : Type 0 where
   pub holds : Holds o
   pub are : y ≡ operandBytes o
   pub bytes : AllBytes y
-  pub plain : plainOperand o y ≡ true
-  pub exact : plainOperand o x ≡ true → x ≡ y
+  pub plain : (at : ℕ) → operandBreak at o y ≡ 0
+  pub exact : (at : ℕ) → 1 ≤ at → operandBreak at o x ≡ 0 → x ≡ y
 
 -- so it is where the former are bytes, and they are as many as its words have
 pub record Tells (o : Operand) (x y : List ℕ) : Type 0 where
@@ -45,7 +46,7 @@ pub record Tells (o : Operand) (x y : List ℕ) : Type 0 where
 
 -- a whole word
 pub narrow-tells : (k v : ℕ) (x y : List ℕ) → isWhole k ≡ true → Word v x y → Tells (narrow k v) x y
-unfolding operandSize operandBytes plainOperand
+unfolding operandSize operandBytes operandBreak
 narrow-tells k v x y e p =
     let word : eqb k 39 ≡ false = not-true (eqb k 39) (right (isNarrow k) (not (eqb k 39)) e) in
     record {
@@ -55,8 +56,8 @@ narrow-tells k v x y e p =
             holds = (left (isNarrow k) (not (eqb k 39)) e, p .exact by .0);
             are = p .are;
             bytes = rw (p .are) (word-bytes v);
-            plain = rw word;
-            exact = λ z. sym (p .exact by .1) ∙ sym (p .are);
+            plain = λ at. rw word;
+            exact = λ at h z. sym (p .exact by .1) ∙ sym (p .are);
           };
     }
 
@@ -67,7 +68,7 @@ pub record Long (v : ℕ) (x y : List ℕ) : Type 0 where
 
 -- two words
 pub wide-tells : (k v : ℕ) (x y : List ℕ) → isLong k ≡ true → Long v x y → Tells (wide k v) x y
-unfolding operandSize operandBytes plainOperand
+unfolding operandSize operandBytes operandBreak
 wide-tells k v x y e p =
     record {
       long = p .long;
@@ -76,32 +77,49 @@ wide-tells k v x y e p =
             holds = (e, p .exact by .0);
             are = p .exact by .2;
             bytes = rw (p .exact by .1) at by;
-            plain = refl;
-            exact = λ z. p .exact by .1;
+            plain = λ at. refl;
+            exact = λ at h z. p .exact by .1;
           };
     }
 
--- zeros are zero
-zeros-replicate : (n : ℕ) → zeros (replicate n 0) ≡ true
-zeros-replicate zero = refl
-zeros-replicate (suc n) = zeros-replicate n
+-- among zeros is no other byte
+none-other : (at n : ℕ) → notZero at (replicate n 0) ≡ 0
+unfolding notZero
+none-other at zero = refl
+none-other at (suc n) = none-other (at + 1) n
 
--- and only they
-zeros-are : (l : List ℕ) → zeros l ≡ true → l ≡ replicate (length l) 0
-zeros-are [] e = refl
-zeros-are (b ∷ l) e = cc (eqb-true b 0 (left (eqb b 0) (zeros l) e), zeros-are l (right (eqb b 0) (zeros l) e))
+-- bytes among which is no other are zeros
+zeros-are : (at : ℕ) (l : List ℕ) → 1 ≤ at → notZero at l ≡ 0 → l ≡ replicate (length l) 0
+unfolding notZero
+zeros-are at [] h e = refl
+zeros-are at (b ∷ l) h e = by (eqb b 0) refl e (zeros-are (at + 1) l (omega arith))
+  where
+    by : (t : Bool) → eqb b 0 ≡ t → (if t then notZero (at + 1) l else at) ≡ 0 → (notZero (at + 1) l ≡ 0 → l ≡ replicate (length l) 0)
+        → b ∷ l ≡ replicate (suc (length l)) 0
+    by true z f more = cc (eqb-true b 0 z, more f)
+    by false z f more = absurd (omega arith)
 
 -- a string that goes on with zeros to the end of its last word is the string padded
-padded-is : (s more : List ℕ) → length (s ++ more) ≡ 4 * textWords (length s) → zeros more ≡ true → s ++ more ≡ padded s
+padded-is : (at : ℕ) (s more : List ℕ) → 1 ≤ at → length (s ++ more) ≡ 4 * textWords (length s) → notZero at more ≡ 0
+    → s ++ more ≡ padded s
 unfolding padded
-padded-is s more e z =
+padded-is at s more h e z =
     let pad : length more ≡ 4 - length s % 4 = omega (arith, length-append s more) in
-    ap (λ (w : List ℕ). s ++ w) (zeros-are more z ∙ ap (λ (n : ℕ). replicate n 0) pad)
+    ap (λ (w : List ℕ). s ++ w) (zeros-are at more h z ∙ ap (λ (n : ℕ). replicate n 0) pad)
 
--- a string padded goes on with zeros
-padding-zero : (s : List ℕ) → zeros (drop (length s) (padded s)) ≡ true
+-- what breaks a string in the bytes of its words is the first byte after it that is not zero
+text-break-is : (at : ℕ) (s more : List ℕ) → length (s ++ more) ≡ 4 * textWords (length s)
+    → textBreak at (length s) (s ++ more) ≡ notZero (at + length s) more
+unfolding textBreak
+text-break-is at s more e =
+    rw (take-all (4 * textWords (length s)) (s ++ more) (omega arith), drop-append-seam)
+
+-- nothing breaks a string padded
+padding-zero : (at : ℕ) (s : List ℕ) → textBreak at (length s) (padded s) ≡ 0
 unfolding padded
-padding-zero s = rw drop-append-seam (zeros-replicate (4 - length s % 4))
+padding-zero at s =
+    text-break-is at s (replicate (4 - length s % 4) 0) (unfold padded in padded-length s)
+    ∙ none-other (at + length s) (4 - length s % 4)
 
 -- bytes padded are bytes
 padded-bytes : (s : List ℕ) → AllBytes s → AllBytes (padded s)
@@ -110,7 +128,7 @@ padded-bytes s by = all-append s (replicate (4 - length s % 4) 0) by (all-zeros 
 
 -- a string
 pub text-tells : (s x y : List ℕ) → Text s x y → Tells (text s) x y
-unfolding operandSize operandBytes plainOperand
+unfolding operandSize operandBytes operandBreak
 text-tells s x y p =
     let is = p .0 .ends .is in
     record {
@@ -120,30 +138,36 @@ text-tells s x y p =
             holds = (p .0 .ends .free, p .0 .utf8);
             are = p .1;
             bytes = rw (p .1) (padded-bytes s (all-left s (0 ∷ p .0 .ends .more) (rw is at by)));
-            plain = rw (p .1) (padding-zero s);
-            exact = λ z. is ∙ padded-is s (0 ∷ p .0 .ends .more) (ap length (sym is) ∙ p .0 .long) (rw (is, drop-append-seam) at z)
-                ∙ sym (p .1);
+            plain = λ at. rw (p .1) (padding-zero at s);
+            exact = λ at h z.
+                let more : List ℕ = 0 ∷ p .0 .ends .more in
+                let long : length (s ++ more) ≡ 4 * textWords (length s) = ap length (sym is) ∙ p .0 .long in
+                let none : notZero (at + length s) more ≡ 0 =
+                sym (text-break-is at s more long) ∙ ap (textBreak at (length s)) (sym is) ∙ z in
+                is ∙ padded-is (at + length s) s more (omega arith) long none ∙ sym (p .1);
           };
     }
 
--- nothing stands above the low sixteen bits of an opcode
-opcode-zero : (op : ℕ) → op < 65536 → zeros (drop 2 (bytesOf op)) ≡ true
+-- the word of a word's bytes
+word-again : (w : ℕ) → w < 4294967296 → fourAt 0 (bytesOf w) ≡ w
 unfolding bytesOf
-opcode-zero op h = simp (eq-eqb (op / 65536 % 256) 0 (omega arith), eq-eqb (op / 16777216 % 256) 0 (omega arith))
+word-again w h = four-bytes w h
+
+-- nothing stands above the low sixteen bits of an opcode
+opcode-zero : (at op : ℕ) → op < 65536 → (if ltb 65535 (fourAt 0 (bytesOf op)) then at else 0) ≡ 0
+opcode-zero at op h = rw (word-again op (omega arith), le-ltb 65535 op (omega arith))
 
 -- and only above those of one
-opcode-is : (w : ℕ) → w < 4294967296 → zeros (drop 2 (bytesOf w)) ≡ true → w ≡ w % 65536
-unfolding bytesOf
-opcode-is w h z =
-    let third : Bool = eqb (w / 65536 % 256) 0 in
-    let fourth : Bool = eqb (w / 16777216 % 256) 0 in
-    let e2 : w / 65536 % 256 ≡ 0 = eqb-true (w / 65536 % 256) 0 (left third (fourth && true) z) in
-    let e3 : w / 16777216 % 256 ≡ 0 = eqb-true (w / 16777216 % 256) 0 (left fourth true (right third (fourth && true) z)) in
-    omega arith
+opcode-is : (at w : ℕ) → 1 ≤ at → w < 4294967296 → (if ltb 65535 (fourAt 0 (bytesOf w)) then at else 0) ≡ 0 → w ≡ w % 65536
+opcode-is at w h k z = by (ltb 65535 w) refl (rw (word-again w k) at z)
+  where
+    by : (t : Bool) → ltb 65535 w ≡ t → (if t then at else 0) ≡ 0 → w ≡ w % 65536
+    by true e f = absurd (omega arith)
+    by false e f = omega (arith, ltb-false 65535 w e)
 
 -- an embedded opcode
 pub opcode-tells : (op : ℕ) (x y : List ℕ) → Opcode op x y → Tells (narrow 39 op) x y
-unfolding operandSize operandBytes plainOperand
+unfolding operandSize operandBytes operandBreak
 opcode-tells op x y p =
     let low : op ≡ p .word % 65536 = p .low in
     record {
@@ -153,9 +177,10 @@ opcode-tells op x y p =
             holds = (refl, omega arith);
             are = p .are;
             bytes = rw (p .are) (word-bytes op);
-            plain = rw (p .are) (opcode-zero op (omega arith));
-            exact = λ z.
-                sym (p .exact by .1) ∙ ap bytesOf (opcode-is (p .word) (p .exact by .0) (rw (← p .exact by .1) at z) ∙ sym low)
+            plain = λ at. rw (p .are) (opcode-zero at op (omega arith));
+            exact = λ at h z.
+                sym (p .exact by .1)
+                ∙ ap bytesOf (opcode-is at (p .word) h (p .exact by .0) (rw (← p .exact by .1) at z) ∙ sym low)
                 ∙ sym (p .are);
           };
     }
@@ -187,8 +212,8 @@ pub record AllSure (os : List Operand) (x y : List ℕ) : Type 0 where
   pub holds : AllHold os
   pub are : y ≡ joined operandBytes os
   pub bytes : AllBytes y
-  pub plain : (t : List ℕ) → plainOperands os (y ++ t) ≡ true
-  pub exact : (t : List ℕ) → plainOperands os (x ++ t) ≡ true → x ≡ y
+  pub plain : (at : ℕ) (t : List ℕ) → operandsBreak at os (y ++ t) ≡ 0
+  pub exact : (at : ℕ) → 1 ≤ at → (t : List ℕ) → operandsBreak at os (x ++ t) ≡ 0 → x ≡ y
 
 -- they are as many bytes as the operands' words have
 pub along-long : {os : List Operand} {x y : List ℕ} → Along os x y → length x ≡ 4 * operandsSize os
@@ -196,12 +221,28 @@ unfolding operandsSize
 along-long none-left = refl
 along-long (one-more {x = x} {z = z} p a) = length-append x z ∙ omega (arith, p .long, along-long a)
 
+-- a word is in the first four bytes
+four-front : (x t : List ℕ) → length x ≡ 4 → fourAt 0 (x ++ t) ≡ fourAt 0 x
+four-front [] t e = absurd (omega arith)
+four-front (a ∷ []) t e = absurd (omega arith)
+four-front (a ∷ b ∷ []) t e = absurd (omega arith)
+four-front (a ∷ b ∷ c ∷ []) t e = absurd (omega arith)
+four-front (a ∷ b ∷ c ∷ d ∷ x) t e = refl
+
+-- what breaks an operand is in its own bytes
+break-front : (at : ℕ) (o : Operand) (x t : List ℕ) → length x ≡ 4 * operandSize o → operandBreak at o (x ++ t) ≡ operandBreak at o x
+unfolding operandBreak operandSize textBreak
+break-front at (narrow k v) x t e = rw (four-front x t e)
+break-front at (wide k v) x t e = refl
+break-front at (text s) x t e =
+    rw (take-at x t (4 * textWords (length s)) e, take-all (4 * textWords (length s)) x (omega arith))
+
 -- the first of some operands and the others, each by its own bytes
-plain-cons : (o : Operand) (os : List Operand) (x z t : List ℕ) → length x ≡ 4 * operandSize o
-    → plainOperands (o ∷ os) (x ++ z ++ t) ≡ (plainOperand o x && plainOperands os (z ++ t))
-unfolding plainOperands
-plain-cons o os x z t e =
-    rw (append-assoc x z t, take-at x (z ++ t) (4 * operandSize o) e, drop-at x (z ++ t) (4 * operandSize o) e)
+break-cons : (at : ℕ) (o : Operand) (os : List Operand) (x z t : List ℕ) → length x ≡ 4 * operandSize o
+    → operandsBreak at (o ∷ os) (x ++ z ++ t) ≡ firstBreak (operandBreak at o x) (operandsBreak (at + 4 * operandSize o) os (z ++ t))
+unfolding operandsBreak
+break-cons at o os x z t e =
+    rw (append-assoc x z t, break-front at o x (z ++ t) e, drop-at x (z ++ t) (4 * operandSize o) e)
 
 -- an operand's bytes are as many as its words have
 operand-length : (o : Operand) → length (operandBytes o) ≡ 4 * operandSize o
@@ -213,7 +254,7 @@ operand-length (text s) = padded-length s
 -- all of it, where they are bytes
 pub along-sure : {os : List Operand} {x y : List ℕ} → Along os x y → AllBytes x → AllSure os x y
 along-sure none-left by =
-    record { holds = tt; are = refl; bytes = tt; plain = λ t. unfold plainOperands in refl; exact = λ t p. refl }
+    record { holds = tt; are = refl; bytes = tt; plain = λ at t. unfold operandsBreak in refl; exact = λ at h t p. refl }
 along-sure (one-more {o = o} {os = os} {x = x} {y = y} {z = z} {w = w} p a) by =
     let s : Sure o x y = p .sure (all-left x z by) in
     let r : AllSure os z w = along-sure a (all-right x z by) in
@@ -221,8 +262,11 @@ along-sure (one-more {o = o} {os = os} {x = x} {y = y} {z = z} {w = w} p a) by =
       holds = (s .holds, r .holds);
       are = cc (s .are, r .are);
       bytes = all-append y w (s .bytes) (r .bytes);
-      plain = λ t. plain-cons o os y w t (ap length (s .are) ∙ operand-length o) ∙ rw (s .plain) (r .plain t);
-      exact = λ t e.
-          let b : (plainOperand o x && plainOperands os (z ++ t)) ≡ true = sym (plain-cons o os x z t (p .long)) ∙ e in
-          cc (s .exact (left (plainOperand o x) _ b), r .exact t (right (plainOperand o x) _ b));
+      plain = λ at t.
+          let next : ℕ = at + 4 * operandSize o in
+          break-cons at o os y w t (ap length (s .are) ∙ operand-length o) ∙ first-none _ _ (s .plain at) ∙ r .plain next t;
+      exact = λ at h t e.
+          let next : ℕ = at + 4 * operandSize o in
+          let b = neither (operandBreak at o x) (operandsBreak next os (z ++ t)) (sym (break-cons at o os x z t (p .long)) ∙ e) in
+          cc (s .exact at h (b .0), r .exact next (omega arith) t (b .1));
     }

@@ -20,14 +20,14 @@ use Rattle.demands.proofs.Rooms.{any-room}
 use Rattle.fittings.specs.Told.{Told, Shows}
 
 -- where the loads of a table's modules show what the table says, a module's load shows what the table says of it
-tells : (fs : List Fitting) (f : List ℕ → Outcome) → found f fs ≡ claimed fs → (m : List ℕ) (P : Shown → Type 0) → P (shown m (f m))
+tells : (fs : List Fitting) (f : List ℕ → Outcome) → found f fs ≡ claimed fs → (m : List ℕ) (P : Shown → Type 0) → P (shown (f m))
     → Told fs m P
 unfolding found claimed Told
 tells [] f e m P p = tt
 tells (fitting s x ∷ fs) f e m P p =
-    let first : shown s (f s) ≡ x = cc in
+    let first : shown (f s) ≡ x = cc in
     let rest : found f fs ≡ claimed fs = cc in
-    ((λ q. subst P (ap (λ (t : List ℕ). shown t (f t)) q ∙ first) p), tells fs f rest m P p)
+    ((λ q. subst P (ap (λ (t : List ℕ). shown (f t)) q ∙ first) p), tells fs f rest m P p)
 
 module _ (m : List ℕ) (t : Stores) (c : Covers (roomIn t) (roomFor m)) where
   -- a load into stores with room is the one with the room that suffices
@@ -69,7 +69,7 @@ module _ (t : Stores) (c : Covers (roomIn t) (enough 9)) where
   unfolding found short
   all-found [] h = refl
   all-found (fitting m x ∷ fs) h =
-      ap₂ (λ (o : Outcome) (rest : List Shown). shown m o ∷ rest)
+      ap₂ (λ (o : Outcome) (rest : List Shown). shown o ∷ rest)
       (roomy m t (suffices m (leb-true (length m) 56 (left _ (every short fs) h)))) (all-found fs (right (leb (length m) 56) _ h))
 
   -- the fourteen fittings hold of loads into such stores, as their contracts state them

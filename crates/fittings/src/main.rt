@@ -79,6 +79,8 @@ fn same_answer(a: Loaded, b: Loaded) -> bool {
         & (a.value == b.value)
         & header
         & counts
+        & (a.plain == b.plain)
+        & (a.breaks == b.breaks)
 }
 
 // Whether two stores of words are the same.
@@ -162,7 +164,7 @@ fn bytes(s: &[u8], n: usize) {
     }
 }
 
-// Writes an answer: number, offset, index, value; header words; counts.
+// Writes an answer: number, offset, index, value; header words; counts; 1 for plain, and what breaks it.
 fn answer(x: Loaded) {
     let h = x.header;
     let c = x.counts;
@@ -181,6 +183,13 @@ fn answer(x: Loaded) {
     number(c.log as u64);
     number(c.strings as u64);
     number(c.types as u64);
+    say(b" |");
+    if x.plain {
+        number(1);
+    } else {
+        number(0);
+    }
+    number(x.breaks as u64);
 }
 
 // Writes an answer, and the stores up to its counts.

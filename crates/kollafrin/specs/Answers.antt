@@ -17,14 +17,15 @@ use Rattle.loader.specs.Loading.{loading}
 
 -- the version of the layouts and calls, raised whenever the layout of a store or an answer, or what a call takes, changes
 unfoldable pub version : ℕ
-version = 1
+version = 2
 
--- number, offset, index, value; counts of instructions, log bytes, string bytes, type entries; five header words; three zeros
+-- number, offset, index, value; counts of instructions, log bytes, string bytes, type entries; five header words; 1 for a plain module
+-- and 0 for another, the lowest offset that breaks it; 0
 unfoldable pub loadAnswer : Loaded → List ℕ
 loadAnswer x =
     x .number ∷ x .offset ∷ x .index ∷ x .value ∷ x .counts .instructions ∷ x .counts .log ∷ x .counts .strings
     ∷ x .counts .types ∷ getD (x .header) 0 0 ∷ getD (x .header) 1 0 ∷ getD (x .header) 2 0 ∷ getD (x .header) 3 0
-    ∷ getD (x .header) 4 0 ∷ 0 ∷ 0 ∷ 0 ∷ []
+    ∷ getD (x .header) 4 0 ∷ (if x .plain then 1 else 0) ∷ x .breaks ∷ 0 ∷ []
 
 -- what a load of a module by a grammar answers, as its number and in words, and leaves in the stores; and that the module is bytes
 pub record LoadAnswers (m g : List ℕ) (before after : Stores) (answer : List ℕ) (r : ℕ) : Type 0 where

@@ -1,7 +1,7 @@
 // The library as other languages call it (include/kollafrin.h): each function is a thin call over a proved one. A slice passes as its
 // pointer and its length, a store as the words or bytes that it is, and an answer is written into words that the caller lends.
 //
-// A word of an answer is the number itself, never its low bits. Place, index and counts of a load fit 32 bits, since a module has at
+// A word of an answer is the number itself, never its low bits. Offsets, index and counts of a load fit 32 bits, since a module has at
 // most 67,108,864 bytes. So does the index of a bad record, for stores and counts of any size: the offset of a good record is a word
 // of 32 bits and each good record moves it by four bytes or more, so that no more than 2^30 records are good.
 // The bytes written may be more, and take two words.
@@ -21,7 +21,14 @@ use spec::Stands;
 use spec::Written;
 
 // The version of the layouts and calls: KOLLAFRIN_VERSION of the header.
-const VERSION: u32 = 1;
+const VERSION: u32 = 2;
+
+// Yes as 1, no as 0.
+fn yes_or_no(yes: bool) -> u32
+    ensures { λ r. ⌜ r ≡ (if yes then 1 else 0) ⌝ }
+{
+    if yes { 1 } else { 0 }
+}
 
 // A load's answer into words.
 fn say_loaded(x: Loaded, answer: &mut [u32; 16]) -> u32
@@ -31,6 +38,7 @@ fn say_loaded(x: Loaded, answer: &mut [u32; 16]) -> u32
 {
     let c = x.counts;
     let h = x.header;
+    let plain = yes_or_no(x.plain);
     *answer = [
         x.number,
         x.offset as u32,
@@ -45,8 +53,8 @@ fn say_loaded(x: Loaded, answer: &mut [u32; 16]) -> u32
         h[2],
         h[3],
         h[4],
-        0,
-        0,
+        plain,
+        x.breaks as u32,
         0,
     ];
     x.number
@@ -65,13 +73,6 @@ fn say_written(x: Written, answer: &mut [u32; 4]) -> u32
         (x.bytes / 4294967296) as u32,
     ];
     x.number
-}
-
-// Yes as 1, no as 0.
-fn yes_or_no(yes: bool) -> u32
-    ensures { λ r. ⌜ r ≡ (if yes then 1 else 0) ⌝ }
-{
-    if yes { 1 } else { 0 }
 }
 
 // The answer of standing into words.

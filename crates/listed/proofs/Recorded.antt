@@ -49,7 +49,7 @@ load-short g room s by = of (load-is g room s)
     of (unformed e) = tt
     of (overlong e) = tt
     of (headless n at e f) = tt
-    of {o} (opens b run) =
+    of (opens {o = o} b run) =
         let r = module-read g room s b run in
         rw (kept-is g room s b o r) (follow-short (sure g room s b o r by .follow))
 

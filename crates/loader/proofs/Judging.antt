@@ -4,7 +4,7 @@ use mathlib.Core.Path.{_≡_, refl, ap, sym, subst, _∙_}
 use mathlib.Core.Bool.{Bool, true, false}
 use mathlib.Core.List.{List}
 use native.Mathlib.Omega.{arith}
-use borrow.Author.Tests.{eqb-true, ne-eqb, le-ltb, le-leb}
+use borrow.Author.Tests.{eqb-true, eqb-false, ne-eqb, le-ltb, le-leb}
 use lib.Dec.{eqb}
 use lib.ListN.{length, drop, length-drop}
 use Rattle.spec.specs.declared.Limit.the-variants.{Unlimited}
@@ -23,6 +23,10 @@ use Rattle.spec.specs.Types.{track}
 use Rattle.spec.specs.Load.{Book, counts, roomFault, usedAfter, stop, loadFrom}
 use Rattle.demands.proofs.Lists.{has-leb}
 use Rattle.demands.proofs.Stores.{operands-log-length}
+use Rattle.demands.proofs.Cells.{layout-refuses}
+use Rattle.demands.proofs.Formed.{GrammarGood, well-formed-good}
+use Rattle.demands.proofs.Instructions.{Frames, instr-read}
+use Rattle.grammar.specs.Index.{Indexed}
 use Rattle.tracker.specs.Entries.{entriesOf}
 use Rattle.tracker.specs.Track.{idIs, toldOf, toldWith}
 use Rattle.tracker.proofs.Laws.{length-entries}
@@ -47,7 +51,7 @@ placedAs i tag = record { instr = i; tag = tag }
 -- DECODED
 
 -- what the parser tells
-pub shows : (s g types scratch spare : List ℕ) (p : Progress) (u : Used) → u ≡ unused 0 0 (p .strings) → (v : InstRead)
+pub shows : (s g types scratch spare : List ℕ) (p : Progress) (u : Used) → u ≡ unused 0 0 (p .strings) (p .breaks) → (v : InstRead)
     → DecodesOver s (p .at) (readAt s g types p) scratch spare u v
     → RowIs g (entriesOf (p .tracker .count) types) s (p .at) (readAt s g types p) v → Shows s g types scratch spare p v
 unfolding Decodes RowIs Shows
@@ -201,11 +205,11 @@ pub record Admitted (s g types scratch spare : List ℕ) (room : Counts) (p : Pr
   pub fits : roomFault room (needOf (t .from) (t .read) (entriesOf (t .from .tracker .count) types)) ≡ 0
 
 -- an instruction that is refused: the load stops at it, with any header, whatever is kept
-abbrev pub Stops : List ℕ → List ℕ → List ℕ → Counts → Progress → Refusal → Type 0
-Stops s g types room p y =
-    (h : List ℕ) (ks : List Placed) (n : ℕ) → 4 ≤ length s - p .at
-    → loadFrom (grammarOf g) room h (suc n) (bookOf ks (entriesOf (p .tracker .count) types) p) (readerAt s (p .at) Unlimited)
-    ≡ stop h (bookOf ks (entriesOf (p .tracker .count) types) p) (y .number) (y .place) (y .value)
+pub record Stops (s g types : List ℕ) (room : Counts) (p : Progress) (y : Refusal) : Type 0 where
+  pub refuses : y .number ≡ 0 → ⊥
+  pub stops : (h : List ℕ) (ks : List Placed) (n : ℕ) → 4 ≤ length s - p .at
+      → loadFrom (grammarOf g) room h (suc n) (bookOf ks (entriesOf (p .tracker .count) types) p) (readerAt s (p .at) Unlimited)
+      ≡ stop h (bookOf ks (entriesOf (p .tracker .count) types) p) (y .number) (y .place) (y .value)
 
 module _ (s g types scratch spare : List ℕ) (room : Counts) (p : Progress) where
   -- one of the two
@@ -225,7 +229,10 @@ module _ (s g types scratch spare : List ℕ) (room : Counts) (p : Progress) whe
         let es = entriesOf (p .tracker .count) types in
         let q = need-is shown es in
         let z : eqb (roomFault room (usedAfter (usedBy p) (i .instr) (track (i .instr) es))) 0 ≡ false = rw q at f in
-        λ h ks n w. rw (word-left s (p .at) w, i .read, placed-is shown _ e, z, q, i .offset)
+        record {
+          refuses = eqb-false _ 0 f;
+          stops = λ h ks n w. rw (word-left s (p .at) w, i .read, placed-is shown _ e, z, q, i .offset);
+        }
 
     -- by layout
     cell-verdict : (c : Cell) → layoutOf (d .opcode) (p .state) ≡ c
@@ -234,15 +241,22 @@ module _ (s g types scratch spare : List ℕ) (room : Counts) (p : Progress) whe
     cell-verdict (Tagged tag next) e = room-verdict tag next e (eqb (roomFault room (needOf p d (entriesOf (p .tracker .count) types))) 0) refl
     cell-verdict (Refuses m) e =
         let i = shown .handed in
-        λ h ks n w. rw (word-left s (p .at) w, i .read, placed-is shown _ e, i .offset)
+        record {
+          refuses = λ z. omega (arith, z, layout-refuses (d .opcode) m (p .state) e .0);
+          stops = λ h ks n w. rw (word-left s (p .at) w, i .read, placed-is shown _ e, i .offset);
+        }
 
   -- by what was read
-  read-verdict : (v : InstRead) → Shows s g types scratch spare p v → Verdict (judged room (entriesOf (p .tracker .count) types) p v)
+  read-verdict : GrammarGood (grammarOf g) → (v : InstRead) → Shows s g types scratch spare p v
+      → Verdict (judged room (entriesOf (p .tracker .count) types) p v)
   unfolding Shows judged loadFrom readerAt
-  read-verdict (inst.Got d) x = cell-verdict d x (layoutOf (d .opcode) (p .state)) refl
-  read-verdict (inst.Refused y) x = λ h ks n w. rw (word-left s (p .at) w, x .read)
+  read-verdict good (inst.Got d) x = cell-verdict d x (layoutOf (d .opcode) (p .state)) refl
+  read-verdict good (inst.Refused y) x =
+      let es = entriesOf (p .tracker .count) types in
+      let z = subst (Frames (grammarOf g) es (p .at) (drop (p .at) s)) (x .read) (instr-read (grammarOf g) good es (p .at) (drop (p .at) s)) in
+      record { refuses = λ e. omega (arith, e, z .0 .0); stops = λ h ks n w. rw (word-left s (p .at) w, x .read) }
 
   -- by the answer
-  pub verdict : (v : InstRead) → Shows s g types scratch spare p v → (r : Judged) → r ≡ judged room (entriesOf (p .tracker .count) types) p v
-      → (z : Judged) → r ≡ z → Verdict z
-  verdict v x r e z q = subst Verdict (sym e ∙ q) (read-verdict v x)
+  pub verdict : {index : List ℕ} → Indexed g index → (v : InstRead) → Shows s g types scratch spare p v → (r : Judged)
+      → r ≡ judged room (entriesOf (p .tracker .count) types) p v → (z : Judged) → r ≡ z → Verdict z
+  verdict ix v x r e z q = subst Verdict (sym e ∙ q) (read-verdict (well-formed-good g (ix .well)) v x)

@@ -115,7 +115,7 @@ module _ {s g types scratch spare : List ℕ} {p : Progress} {d : Decoded} (h : 
 
   -- else they are read again
   pub from-module : (l₀ s₀ l₁ s₁ : List ℕ) → p .log + d .log ≤ length l₀ → p .strings + d .strings ≤ length s₀ → (v : InstRead)
-      → (u : Used) → u ≡ unused (p .log) (p .strings) 0
+      → (u : Used) → u ≡ unused (p .log) (p .strings) 0 0
       → Decodes s (p .at) (bodyRead g (entriesOf (p .tracker .count) types) s (frameOf (p .at) d)) l₀ s₀ l₁ s₁ u v → Stored s g types l₀ s₀ l₁ s₁ p
   unfolding Stored Decodes unused
   from-module l₀ s₀ l₁ s₁ fl fs (Got c) u e told i r f =
@@ -147,6 +147,7 @@ pub recorded : (i₀ t₀ i₁ t₁ h₁ : List ℕ) (t : Taken) (f : Fields) (r
       strings = t .from .strings + t .read .strings;
       tracker = r;
       state = t .state;
+      breaks = t .read .breaks;
     })
 unfolding needOf
 recorded i₀ t₀ i₁ t₁ h₁ t f r ef ei en et hint =
@@ -154,6 +155,7 @@ recorded i₀ t₀ i₁ t₁ h₁ t f r ef ei en et hint =
       at = refl;
       used = ap (counts (t .from .instructions + 1) (t .from .log + t .read .log) (t .from .strings + t .read .strings)) en;
       state = refl;
+      breaks = refl;
       instructions-are = ei ∙ ap (λ (z : Fields). sets i₀ (recordSize * t .from .instructions) (fieldWords z)) ef;
       types-are = et;
       hinted = hint;

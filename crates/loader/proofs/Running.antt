@@ -1,11 +1,12 @@
 -- Laws of the loop: what is left of a load is the load from where it stands, and the stores hold the records of what is kept.
 use Prim.Native.Nat.{ℕ, zero, suc, _+_, _*_, _-_, _/_, _<_, _≤_}
 use mathlib.Core.Path.{_≡_, refl, ap, sym, subst, _∙_}
-use mathlib.Core.Bool.{false}
+use mathlib.Core.Bool.{Bool, true, false, _&&_}
 use mathlib.Core.List.{List, [], _∷_, _++_}
 use native.Mathlib.Omega.{arith}
 use native.Mathlib.Nat.{zero-add}
-use borrow.Author.Tests.{lt-leb}
+use borrow.Author.Tests.{lt-leb, eqb-true}
+use lib.Dec.{eqb}
 use lib.ListN.{length, drop, length-append, length-drop}
 use lib.Seq.{sets, length-sets}
 use Rattle.spec.specs.declared.Limit.the-variants.{Unlimited}
@@ -14,15 +15,18 @@ use Rattle.spec.specs.declared.State.{State}
 use Rattle.spec.specs.declared.State.the-variants.{Outside}
 use Rattle.spec.specs.declared.Cell.the-variants.{Tagged}
 use Rattle.spec.specs.declared.Counts.{Counts}
+use Rattle.spec.specs.declared.Loaded.{Loaded}
 use Rattle.spec.specs.declared.Fields.{Fields}
-use Rattle.spec.specs.Base.{has, joined}
+use Rattle.spec.specs.Base.{if_then_else_, has, joined}
 use Rattle.spec.specs.Records.{Instr, Placed, Entry, entryWords, operandsLog, operandsStrings, recordSize, entrySize, fieldsOf, fieldWords, recordsFrom, logFrom, stringStore}
 use Rattle.spec.specs.Reader.{got, refusal, readerAt}
 use Rattle.spec.specs.Grammar.{Grammar, grammarOf}
 use Rattle.spec.specs.Layout.{layoutOf, endNumber}
 use Rattle.spec.specs.Types.{track}
 use Rattle.spec.specs.Match.{readInstr}
-use Rattle.spec.specs.Load.{roomOf, roomFault, usedAfter, Covers, Book, emptyBook, Outcome, stop, loadFrom, Stores, lent, roomIn, storesOf, laidOver, laidOn, roomed, onBook}
+use Rattle.spec.specs.Plain.{firstBreak, instrBreak, keptBreak, tailBreak, moduleBreak}
+use Rattle.spec.proofs.Breaks.{kept-more}
+use Rattle.spec.specs.Load.{roomOf, roomFault, usedAfter, Covers, Book, emptyBook, Outcome, stop, loadFrom, withPlain, Stores, lent, roomIn, storesOf, laidOver, laidOn, roomed, onBook}
 use Rattle.demands.proofs.Lists.{has-leb}
 use Rattle.demands.proofs.Room.{fits-covers}
 use Rattle.demands.proofs.Stores.{records-length, strings-more, log-more}
@@ -31,6 +35,7 @@ use Rattle.tracker.specs.Entries.{entriesOf, stored}
 use Rattle.tracker.specs.Hints.{Blank}
 use Rattle.tracker.specs.declared.TypeTracker.{TypeTracker}
 use Rattle.tracker.proofs.Hinting.{hinted-none}
+use Rattle.parser.specs.Fresh.{unused}
 use Rattle.loader.specs.declared.parts.Progress.{Progress}
 use Rattle.loader.specs.declared.parts.Taken.{Taken}
 use Rattle.loader.specs.Steps.{usedBy, saidAt, Bounded, Typed, tracked, needOf, Stored, Recorded}
@@ -92,13 +97,28 @@ pub record Running (s g : List ℕ) (room : Counts) (before now : Stores) (h₀ 
   pub types-are : now .types ≡ stored (before .types) (entriesOf (p .tracker .count) (now .types))
   pub typed : Typed (now .types) hs p
   pub same-hints : length hs ≡ length h₀
+  pub breaks : p .breaks ≡ keptBreak s kept
+
+-- an answer with what breaks the module, where it is accepted
+abbrev plainAs : Bool → Loaded → ℕ → Loaded
+plainAs t a b =
+    record {
+      number = a .number;
+      offset = a .offset;
+      index = a .index;
+      value = a .value;
+      header = a .header;
+      counts = a .counts;
+      plain = t && eqb b 0;
+      breaks = if t then b else 0;
+    }
 
 -- at the start nothing is kept
 pub start : (s g : List ℕ) (room : Counts) (before : Stores) (h₀ : List ℕ)
     → room ≡ roomOf (length (before .instructions)) (length (before .log)) (length (before .strings)) (length (before .types)) → 20 ≤ length s → length s ≤ 67108864
     → (t : TypeTracker) (m : ℕ) → t ≡ record { count = 0; greatest = 0; marks = m } → m + 2048 ≤ length h₀ → Blank h₀
-    → Running s g room before before h₀ h₀ (record { at = 20; instructions = 0; log = 0; strings = 0; tracker = t; state = Outside })
-unfolding roomIn entriesOf recordsFrom logFrom stringStore stored laidOver
+    → Running s g room before before h₀ h₀ (record { at = 20; instructions = 0; log = 0; strings = 0; tracker = t; state = Outside; breaks = 0 })
+unfolding roomIn entriesOf recordsFrom logFrom stringStore stored laidOver keptBreak
 start s g room before h₀ e few short t m q fits blank =
     rw q
     (record {
@@ -119,7 +139,21 @@ start s g room before h₀ e few short t m q fits blank =
       types-are = refl;
       typed = record { inside = omega arith; hinted = hinted-none (before .types) h₀ 0 m fits blank };
       same-hints = refl;
+      breaks = refl;
     })
+
+-- an answer by whether it is accepted: what breaks is asked for only then
+plain-same : (t : Bool) (a : Loaded) (b c tail : ℕ) → (t ≡ true → b ≡ c) → plainAs t a (firstBreak b tail) ≡ plainAs t a (firstBreak c tail)
+plain-same true a b c tail f = ap (λ (i : ℕ). plainAs true a (firstBreak i tail)) (f refl)
+plain-same false a b c tail f = refl
+
+-- so of a refused load anything may be said to break
+said-same : (h : List ℕ) (size : ℕ) (p : Progress) (y : Refusal) (b c : ℕ) → (y .number ≡ 0 → b ≡ c)
+    → saidAt h size (record { progress = p; refusal = y; breaks = b }) ≡ saidAt h size (record { progress = p; refusal = y; breaks = c })
+unfolding saidAt
+said-same h size p y b c f =
+    plain-same (eqb (y .number) 0) (stop h (bookOf [] [] p) (y .number) (y .place) (y .value) .said) b c (tailBreak size)
+    (λ e. f (eqb-true (y .number) 0 e))
 
 module _ {s g : List ℕ} {room : Counts} {before now : Stores} {h₀ hs : List ℕ} {p : Progress} (r : Running s g room before now h₀ hs p) where
   -- no store has changed its length
@@ -143,15 +177,17 @@ module _ {s g : List ℕ} {room : Counts} {before now : Stores} {h₀ hs : List 
   -- THE END
 
   -- where the load stops, the answer and the stores say so
-  stopped : (y : Refusal)
+  stopped : (y : Refusal) (b : ℕ) → (y .number ≡ 0 → b ≡ p .breaks)
       → ((h : List ℕ)
       → loadFrom (grammarOf g) (roomIn before) h (length s / 4) emptyBook (readerAt s 20 Unlimited)
       ≡ stop h (bookOf (r .kept) (entriesOf (p .tracker .count) (now .types)) p) (y .number) (y .place) (y .value))
-      → LoadsFrom g s before now (record { progress = p; refusal = y })
-  unfolding LoadsFrom saidAt storesOf laidOn laidOver stored
-  stopped y e h =
+      → LoadsFrom g s before now (record { progress = p; refusal = y; breaks = b })
+  unfolding LoadsFrom saidAt storesOf laidOn laidOver stored moduleBreak
+  stopped y b f e h =
       record {
-        said = sym (ap (λ (o : Outcome). o .said) (e h));
+        said =
+            said-same h (length s) p y b (keptBreak s (r .kept)) (λ z. f z ∙ r .breaks)
+            ∙ sym (ap (λ (o : Outcome). withPlain s o .said) (e h));
         stores = λ j.
             lent ((r .instructions-are ∙ sym (ap (λ (o : Outcome). sets (before .instructions) 0 (recordsFrom 0 (o .left))) (e h))) j)
             ((r .log-is ∙ sym (ap (λ (o : Outcome). sets (before .log) 0 (logFrom 0 (o .left))) (e h))) j)
@@ -161,10 +197,10 @@ module _ {s g : List ℕ} {room : Counts} {before now : Stores} {h₀ hs : List 
 
   -- no word is left
   pub ends : length s - p .at < 4 → (n : ℕ) → n ≡ endNumber (p .state)
-      → LoadsFrom g s before now (record { progress = p; refusal = refusal n (p .at) 0 })
+      → LoadsFrom g s before now (record { progress = p; refusal = refusal n (p .at) 0; breaks = p .breaks })
   ends none n e =
       let b = bookOf (r .kept) (entriesOf (p .tracker .count) (now .types)) p in
-      stopped (refusal n (p .at) 0)
+      stopped (refusal n (p .at) 0) (p .breaks) (λ z. refl)
       (λ h.
       r .left h ∙ load-ends (grammarOf g) room h s (p .at) (r .fuel) b none ∙ ap (λ (m : ℕ). stop h b m (p .at) 0) (sym e))
 
@@ -180,8 +216,9 @@ module _ {s g : List ℕ} {room : Counts} {before now : Stores} {h₀ hs : List 
         some
 
     -- the load stops at an instruction
-    pub halts : (y : Refusal) → Stops s g (now .types) room p y → LoadsFrom g s before now (record { progress = p; refusal = y })
-    halts y z = stopped y (λ h. left-more h ∙ z h (r .kept) (r .fuel - 1) more)
+    pub halts : (y : Refusal) → Stops s g (now .types) room p y
+        → LoadsFrom g s before now (record { progress = p; refusal = y; breaks = 0 })
+    halts y z = stopped y 0 (λ e. absurd (z .refuses e)) (λ h. left-more h ∙ z .stops h (r .kept) (r .fuel - 1) more)
 
 -- AN INSTRUCTION THAT GOES IN
 
@@ -226,7 +263,7 @@ module _ {s g : List ℕ} {room : Counts} {before now : Stores} {h₀ hs : List 
       -- one instruction more
       pub goes-on : (index l₁ w₁ : List ℕ) → Indexed g index → Stored s g (now .types) (now .log) (now .strings) l₁ w₁ (t .from)
           → length h₁ ≡ length hs → Running s g room before (lent i₁ l₁ w₁ t₁) h₀ h₁ q
-      unfolding needOf Stored stored laidOver
+      unfolding needOf Stored stored laidOver unused
       goes-on index l₁ w₁ ix st same =
           let f = t .from in
           let d = t .read in
@@ -295,4 +332,6 @@ module _ {s g : List ℕ} {room : Counts} {before now : Stores} {h₀ hs : List 
             types-are = types-next (before .types) (now .types) t₁ (f .tracker .count) (q .tracker .count) i (same-types here) (here .types-are) types-are count fit;
             typed = record { inside = omega (arith, entries-fit, typed, size); hinted = k .hinted };
             same-hints = same ∙ here .same-hints;
+            breaks =
+                k .breaks ∙ h .breaks ∙ ap (λ (b : ℕ). firstBreak b (instrBreak s i)) (here .breaks) ∙ sym (kept-more s ks pl);
           }

@@ -8,7 +8,7 @@ use Rattle.spec.specs.declared.Loaded.{Loaded}
 use Rattle.spec.specs.Words.{AllBytes}
 use Rattle.spec.specs.Reader.{readerAt}
 use Rattle.spec.specs.Grammar.{grammarOf}
-use Rattle.spec.specs.Load.{Outcome, emptyBook, loadFrom, loadWith, load, Stores, storesOf, roomIn, laidOn}
+use Rattle.spec.specs.Load.{Outcome, emptyBook, loadFrom, withPlain, loadWith, load, Stores, storesOf, roomIn, laidOn}
 use Rattle.loader.specs.declared.parts.Ended.{Ended}
 use Rattle.loader.specs.Steps.{saidAt}
 
@@ -34,4 +34,5 @@ LoadsWith g m before after r = Leaves (loadWith (grammarOf g) (roomIn before) m)
 unfoldable pub LoadsFrom : List ℕ → List ℕ → Stores → Stores → Ended → Type 0
 LoadsFrom g m before after r =
     (h : List ℕ)
-    → Leaves (loadFrom (grammarOf g) (roomIn before) h (length m / 4) emptyBook (readerAt m 20 Unlimited)) before after (saidAt h r)
+    → Leaves (withPlain m (loadFrom (grammarOf g) (roomIn before) h (length m / 4) emptyBook (readerAt m 20 Unlimited))) before after
+    (saidAt h (length m) r)

@@ -1,6 +1,7 @@
 -- A load by steps: where it stands, what becomes of the next instruction, and what is stored of it.
 use Prim.Native.Nat.{ℕ, _+_, _*_, _≤_}
 use mathlib.Core.Path.{_≡_}
+use mathlib.Core.Bool.{_&&_}
 use mathlib.Core.List.{List}
 use lib.Dec.{eqb}
 use lib.ListN.{length}
@@ -18,6 +19,7 @@ use Rattle.spec.specs.Reader.{Reader, Read, got, refusal, readerAt}
 use Rattle.spec.specs.Grammar.{grammarOf}
 use Rattle.spec.specs.Layout.{layoutOf}
 use Rattle.spec.specs.Match.{readInstr}
+use Rattle.spec.specs.Plain.{firstBreak, tailBreak}
 use Rattle.spec.specs.Load.{counts, roomFault}
 use Rattle.tracker.specs.Entries.{entriesOf, stored}
 use Rattle.tracker.specs.Hints.{Hinted}
@@ -40,9 +42,10 @@ use Rattle.loader.specs.declared.step.Judged.the-variants.{Got, Refused}
 abbrev pub usedBy : Progress → Counts
 usedBy p = counts (p .instructions) (p .log) (p .strings) (p .tracker .count)
 
--- the answer of a load that stopped at the instruction after those kept
-unfoldable pub saidAt : List ℕ → Ended → Loaded
-saidAt h e =
+-- the answer of a load of a module of so many bytes that stopped at the instruction after those kept
+unfoldable pub saidAt : List ℕ → ℕ → Ended → Loaded
+saidAt h size e =
+    let breaks = firstBreak (e .breaks) (tailBreak size) in
     record {
       number = e .refusal .number;
       offset = e .refusal .place;
@@ -50,6 +53,8 @@ saidAt h e =
       value = e .refusal .value;
       header = h;
       counts = usedBy (e .progress);
+      plain = eqb (e .refusal .number) 0 && eqb breaks 0;
+      breaks = if eqb (e .refusal .number) 0 then breaks else 0;
     }
 
 -- the next instruction, by the types known
@@ -120,7 +125,7 @@ fieldsBy p d tag =
 pub record Shown (s g types scratch spare : List ℕ) (p : Progress) (d : Decoded) : Type 0 where
   pub scratch₀ : List ℕ
   pub spare₀ : List ℕ
-  pub handed : Handed s (p .at) (readAt s g types p) scratch₀ spare₀ scratch spare (unused 0 0 (p .strings)) d
+  pub handed : Handed s (p .at) (readAt s g types p) scratch₀ spare₀ scratch spare (unused 0 0 (p .strings) (p .breaks)) d
   pub row : ByRow g (entriesOf (p .tracker .count) types) s (p .at) (readAt s g types p) d
 
 -- by what was read
@@ -159,6 +164,7 @@ pub record Recorded (i₀ t₀ i₁ t₁ h₁ : List ℕ) (t : Taken) (r : Progr
   pub at : r .at ≡ t .from .at + 4 * t .read .words
   pub used : usedBy r ≡ needOf (t .from) (t .read) (entriesOf (t .from .tracker .count) t₀)
   pub state : r .state ≡ t .state
+  pub breaks : r .breaks ≡ t .read .breaks
   pub instructions-are : i₁ ≡ sets i₀ (recordSize * t .from .instructions) (fieldWords (fieldsBy (t .from) (t .read) (t .tag)))
   pub types-are : t₁ ≡ stored t₀ (tracked (t .read) (entriesOf (t .from .tracker .count) t₀))
   pub hinted : Hinted (r .tracker) t₁ h₁

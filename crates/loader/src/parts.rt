@@ -1,7 +1,9 @@
 // The parts of a load: where it stands, what it answers, and the fields of a record.
 ghost use mathlib.Core.Path.{_≡_};
 ghost use Prim.Native.Nat.{_≤_, _<_};
-ghost use Rattle.spec.specs.Base.{orZero};
+ghost use lib.Dec.{eqb};
+ghost use Rattle.spec.specs.Base.{if_then_else_, orZero};
+ghost use Rattle.spec.specs.Plain.{firstBreak, tailBreak};
 ghost use Rattle.spec.specs.Records.{presence};
 ghost use Rattle.spec.specs.Layout.{endNumber};
 ghost use Rattle.spec.specs.Load.{nothing};
@@ -17,7 +19,8 @@ use spec::refusals;
 use tracker::Id;
 use tracker::TypeTracker;
 
-// Where a load stands: the place of the next instruction, what is kept so far, and the state of the layout.
+// Where a load stands: the place of the next instruction, what is kept so far, the state of the layout, and the first offset that breaks
+// what is kept, or 0.
 pub struct Progress {
     pub at: usize,
     pub instructions: usize,
@@ -25,6 +28,7 @@ pub struct Progress {
     pub strings: usize,
     pub tracker: TypeTracker,
     pub state: State,
+    pub breaks: usize,
 }
 
 // An instruction that goes in: where the load stood before it, what was read, its tag, and the state after it.
@@ -35,10 +39,12 @@ pub struct Taken {
     pub state: State,
 }
 
-// Where a load stopped, and why: at the end the number is 0, 16 or 21.
+// Where a load stopped, and why: at the end the number is 0, 16 or 21. What breaks the instructions kept is said at the end alone, so that
+// the loop need not hold it beside that of the instruction in hand.
 pub struct Ended {
     pub progress: Progress,
     pub refusal: Refusal,
+    pub breaks: usize,
 }
 
 // "At the end an open block is 21, else an open function 16."
@@ -69,13 +75,38 @@ pub fn no_instruction(number: u32, offset: usize) -> Loaded
         value: 0,
         header: [0; 5],
         counts,
+        plain: false,
+        breaks: 0,
     }
 }
 
-// A load that stopped at the instruction after those kept.
-pub fn stopped(header: [u32; 5], e: Ended) -> Loaded
+// What breaks a module of so many bytes after its instructions: its first tail byte, or 0.
+fn tail_break(size: usize) -> usize
+    ensures { λ r. ⌜ r ≡ tailBreak size ⌝ }
+{
+    if size % 4 == 0 {
+        return 0;
+    }
+    4 * (size / 4)
+}
+
+// What breaks a module that is accepted: what breaks its instructions, else its tail; 0 for one that is refused.
+fn breaks_of(number: u32, kept: usize, size: usize) -> usize
+    ensures { λ r. ⌜ r ≡ (if eqb number 0 then firstBreak kept (tailBreak size) else 0) ⌝ }
+{
+    if number != refusals::ACCEPTED {
+        return 0;
+    }
+    if kept != 0 {
+        return kept;
+    }
+    tail_break(size)
+}
+
+// A load of a module of so many bytes that stopped at the instruction after those kept.
+pub fn stopped(header: [u32; 5], e: Ended, size: usize) -> Loaded
     requires { ⌜ e .progress .instructions < 67108864 ⌝ }
-    ensures { λ r. ⌜ r ≡ saidAt header e ⌝ }
+    ensures { λ r. ⌜ r ≡ saidAt header size e ⌝ }
 {
     let p = e.progress;
     let x = e.refusal;
@@ -85,6 +116,7 @@ pub fn stopped(header: [u32; 5], e: Ended) -> Loaded
         strings: p.strings,
         types: p.tracker.count,
     };
+    let breaks = breaks_of(x.number, e.breaks, size);
     Loaded {
         number: x.number,
         offset: x.place,
@@ -92,6 +124,8 @@ pub fn stopped(header: [u32; 5], e: Ended) -> Loaded
         value: x.value,
         header,
         counts,
+        plain: (x.number == refusals::ACCEPTED) & (breaks == 0),
+        breaks,
     }
 }
 

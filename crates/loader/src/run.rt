@@ -80,6 +80,7 @@ fn load_from(
         strings: 0,
         tracker,
         state: State::Outside,
+        breaks: 0,
     };
     while 4 <= s.len() - p.at {
         let read = decode(s, g, index, types, hints, scratch, spare, p);
@@ -88,6 +89,7 @@ fn load_from(
             Judged::Refused(x) => return Ended {
                 progress: p,
                 refusal: x,
+                breaks: 0,
             },
             Judged::Got(d, tag, state) => {
                 let t = Taken {
@@ -110,6 +112,7 @@ fn load_from(
     Ended {
         progress: p,
         refusal,
+        breaks: p.breaks,
     }
 }
 
@@ -158,7 +161,7 @@ fn load_with(
         scratch,
         spare,
     );
-    stopped(words, ended)
+    stopped(words, ended, s.len())
 }
 
 // THE STACK

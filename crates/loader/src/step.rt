@@ -55,7 +55,7 @@ pub fn decode(
     let at = p.at;
     let base = p.strings;
     let tracker = p.tracker;
-    let used = unused(0, 0, base);
+    let used = unused(0, 0, base, p.breaks);
     parse_inst(s, at, g, index, types, hints, tracker, scratch, spare, used)
 }
 
@@ -203,7 +203,7 @@ pub fn keep_operands(
         opcode: d.opcode,
         place: d.place,
     };
-    let used = unused(log_to, strings_to, 0);
+    let used = unused(log_to, strings_to, 0, 0);
     parse_body(
         module,
         rows,
@@ -257,5 +257,6 @@ pub fn keep_record(
         strings: p.strings + d.strings,
         tracker: tracked,
         state,
+        breaks: d.breaks,
     }
 }

@@ -13,17 +13,18 @@ use Rattle.spec.specs.declared.Found.the-variants.{At, Nothing}
 use Rattle.spec.specs.declared.Limit.{Limit}
 use Rattle.spec.specs.declared.Limit.the-variants.{Unlimited, Words}
 use Rattle.spec.specs.declared.Refusal.{Refusal}
-use Rattle.spec.specs.Base.{if_then_else_, every}
+use Rattle.spec.specs.Base.{if_then_else_}
 use Rattle.spec.specs.Grammar.{Slot, rowOf, grammarOf}
 use Rattle.spec.specs.Records.{Operand, Instr, Entry}
 use Rattle.spec.specs.Reader.{Reader, Read, got, refused, after, refuse, refusal, reached, readWord, readerAt}
+use Rattle.spec.specs.Plain.{instrBreak}
 use Rattle.spec.specs.Match.{Seen, instrOf, allRead, readBody, readInstr}
 use Rattle.decoder.specs.declared.Decoder.{Decoder}
 use Rattle.decoder.specs.declared.WordRead.the-variants.{Got as Word, Refused as NoWord}
 use Rattle.decoder.specs.Answer.{decoder, readerOf, limitReached, wordFrom}
 use Rattle.decoder.proofs.Laws.{word-got, word-refused}
 use Rattle.grammar.specs.Index.{Indexed}
-use Rattle.grammar.specs.Find.{Sure, placeFound, rowFound}
+use Rattle.grammar.specs.Find.{Sure, placeFound, rowFound, rowGood}
 use Rattle.tracker.specs.Track.{literalOf, Literals}
 use Rattle.parser.specs.declared.used.Used.{Used}
 use Rattle.parser.specs.declared.used.Parsed.{Parsed}
@@ -31,10 +32,10 @@ use Rattle.parser.specs.declared.used.Parsed.the-variants.{Got, Refused}
 use Rattle.parser.specs.declared.inst.InstRead.{InstRead}
 use Rattle.parser.specs.declared.inst.InstRead.the-variants.{Got as Inst, Refused as NoInst}
 use Rattle.parser.specs.declared.used.Frame.{Frame}
-use Rattle.parser.specs.Parse.{Notes, firstOf, secondOf, notesOf, noteAs, note, notes, noNotes, leftOf, isOperand, slotsAt, RowRead, Walks}
+use Rattle.parser.specs.Parse.{Notes, firstOf, secondOf, notesOf, noteAs, note, notes, noNotes, leftOf, slotsAt, RowRead, Walks}
 use Rattle.parser.specs.Inst.{Ended, Decodes, DecodesOver, ShapeIs, RowIs}
 use Rattle.parser.specs.Body.{Framed, startOf, rowRead, bodyRead}
-use Rattle.parser.proofs.Carried.{row-operands}
+use Rattle.parser.proofs.Carried.{row-good}
 
 -- WHAT IS NOTED OF ALL OPERANDS
 
@@ -116,7 +117,7 @@ module _ (g : List ℕ) (types : List Entry) (s : List ℕ) (f : Frame) where
     -- the operands were read, and no word is left over, or some are
     body-end : (e : Decoder) (n : Used) → RowRead s (startOf f) 0 (rowRead g types s (startOf f) (f .place)) log₀ strs₀ log strs u e n → (r : InstRead) → 1 ≤ f .words
         → Ended f e n r → Decodes s (f .at) (bodyRead g types s f) log₀ strs₀ log strs u r × ShapeIs f r
-    unfolding Decodes ShapeIs Ended leftOf limitReached
+    unfolding Decodes ShapeIs Ended leftOf limitReached instrBreak
     body-end e n d (NoInst y) h v = (
       record {
         rest = readerOf s e;
@@ -149,6 +150,7 @@ module _ (g : List ℕ) (types : List Entry) (s : List ℕ) (f : Frame) where
             few-strings = omega (arith, to, d .few .strings, k .strings, d .walked .base);
             log-laid = d .walked .log-laid;
             strings-laid = d .walked .strings-laid;
+            breaks = k .breaks ∙ d .spotted .breaks;
           },
           rw (k .words, k .opcode, k .place-is) refl,
         )
@@ -177,11 +179,11 @@ pub row-guessed : (g : List ℕ) (r : Found) (o : Option (List Slot)) (p : ℕ) 
 unfolding Sure
 row-guessed g r o p e h q = (sym (ap (rowFound g) q) ∙ e (rw q tt), (rw q at h))
 
--- the place is within the grammar, and a row's operands stand there
+-- the place is within the grammar, and a row's operands stand there, which meet the rules
 pub place-told : (g index : List ℕ) → Indexed g index → (op : ℕ) (r : Found) (p : ℕ) → rowFound g r ≡ rowOf op (grammarOf g .rows)
-    → placeFound r ≤ length g → r ≡ At p → (p ≤ length g) × (every isOperand (slotsAt g p) ≡ true)
+    → placeFound r ≤ length g → r ≡ At p → (p ≤ length g) × (rowGood op (slotsAt g p) ≡ true)
 unfolding placeFound
-place-told g index i op r p e h q = ((rw q at h), row-operands g index i op (slotsAt g p) (found-at g r _ p e q))
+place-told g index i op r p e h q = ((rw q at h), row-good g index i op (slotsAt g p) (found-at g r _ p e q))
 
 -- a word that was read is there
 word-inside : (s : List ℕ) (at w : ℕ) (e : Decoder) → Word w e ≡ wordFrom s (decoder at Unlimited) → at + 4 ≤ length s
@@ -217,11 +219,11 @@ module _ (g : List ℕ) (types : List Entry) (s : List ℕ) (at : ℕ) where
 
   -- the row of an instruction by its frame
   row-is : (n op p : ℕ) (x : Read Instr) (r : InstRead) → ShapeIs (record { at = at; words = n; opcode = op; place = p }) r
-      → (p ≤ length g) × (every isOperand (slotsAt g p) ≡ true) → x ≡ bodyRead g types s (record { at = at; words = n; opcode = op; place = p })
+      → (p ≤ length g) × (rowGood op (slotsAt g p) ≡ true) → x ≡ bodyRead g types s (record { at = at; words = n; opcode = op; place = p })
       → RowIs g types s at x r
   unfolding ShapeIs RowIs
   row-is n op p x (Inst r) h q e =
-      let z = subst (λ (f : Frame). (f .place ≤ length g) × (every isOperand (slotsAt g (f .place)) ≡ true) × (x ≡ bodyRead g types s f)) (sym h) (q .0, q .1, e) in
+      let z = subst (λ (f : Frame). (f .place ≤ length g) × (rowGood (f .opcode) (slotsAt g (f .place)) ≡ true) × (x ≡ bodyRead g types s f)) (sym h) (q .0, q .1, e) in
       record { inside = z .0; operands = z .1; body = z .2 }
   row-is n op p x (NoInst y) h q e = tt
 
@@ -260,7 +262,7 @@ module _ (g : List ℕ) (types : List Entry) (s : List ℕ) (at : ℕ) where
         first-by _ (d .reads) ∙ simp (ne-eqb (w / 65536) 0 z, found-at g f _ p o q, x)
 
     -- the instruction is that of the row
-    pub inst-by : (p : ℕ) → f ≡ At p → (p ≤ length g) × (every isOperand (slotsAt g p) ≡ true) → (l₀ t₀ l t : List ℕ) (u : Used) (r : InstRead)
+    pub inst-by : (p : ℕ) → f ≡ At p → (p ≤ length g) × (rowGood (w % 65536) (slotsAt g p) ≡ true) → (l₀ t₀ l t : List ℕ) (u : Used) (r : InstRead)
         → Decodes s at (bodyRead g types s (record { at = at; words = w / 65536; opcode = w % 65536; place = p })) l₀ t₀ l t u r
         × ShapeIs (record { at = at; words = w / 65536; opcode = w % 65536; place = p }) r
         → DecodesOver s at (readInstr (grammarOf g) types (readerAt s at Unlimited)) l t u r

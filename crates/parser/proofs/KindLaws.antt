@@ -85,6 +85,11 @@ pub enum-untyped : (k : ℕ) → isEnum k ≡ true → isUntyped k ≡ true
 unfolding isUntyped
 enum-untyped k e = each isEnum isUntyped k refl (enum-small k e) e
 
+-- a word is no embedded opcode
+pub word-other : (k : ℕ) → isWord k ≡ true → k ≡ 39 → ⊥
+unfolding isWord
+word-other k h = not-kind isWord k 39 h refl
+
 -- a word is a kind of the log of one word
 pub word-narrow : (k : ℕ) → isWord k ≡ true → isNarrow k ≡ true
 unfolding isWord isNarrow

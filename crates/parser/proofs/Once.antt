@@ -4,7 +4,6 @@ use mathlib.Core.Path.{_≡_, refl, ap, sym, _∙_}
 use mathlib.Core.Bool.{Bool, true, false, not, _||_, and-eq-true-iff}
 use mathlib.Core.List.{List, [], _∷_, _++_}
 use mathlib.Core.Option.{Option, none, some}
-use native.Mathlib.Omega.{arith}
 use borrow.Author.Tests.{not-true, not-false}
 use lib.Dec.{eqb}
 use lib.ListN.{length, drop, drop-of-length-le}
@@ -21,7 +20,6 @@ use Rattle.decoder.specs.declared.Decoder.{Decoder}
 use Rattle.decoder.specs.declared.WordRead.the-variants.{Got as Word, Refused as NoWord}
 use Rattle.decoder.specs.Answer.{readerOf, wordFrom}
 use Rattle.decoder.proofs.Laws.{word-got, word-refused}
-use Rattle.operand.specs.Parts.{Fits}
 use Rattle.grammar.specs.declared.find.SlotAt.{SlotAt}
 use Rattle.grammar.specs.declared.find.SlotAt.the-variants.{Slot as ASlot, End as NoSlot}
 use Rattle.grammar.specs.Find.{rowFound, slotsThen, slotBytes}
@@ -140,14 +138,11 @@ less-read s d m x z l₀ t₀ l t c (Got e n) q h = record {
   held = h .held;
   few = h .few;
   went = went-less (h .went);
+  spotted = h .spotted;
 }
 less-read s d m x z l₀ t₀ l t c (Refused y e) q h = q ∙ h
 
 -- THE OPERATION
-
--- its number is one word
-pub number-fits : (w : ℕ) → Fits 39 (w % 65536)
-number-fits w = record { known = refl; small = λ e. omega arith }
 
 module _ (s : List ℕ) (g : Grammar) (d : Decoder) where
   -- no word

@@ -7,22 +7,24 @@ use mathlib.Core.Option.{Option, none, some}
 use native.Mathlib.Omega.{arith}
 use native.Mathlib.Nat.{add-zero}
 use borrow.Author.Tests.{ne-eqb, ltb-false, not-true}
-use lib.Dec.{eqb}
+use lib.Dec.{ltb, eqb}
 use lib.ListN.{length, drop, length-drop}
-use lib.Seq.{slice, length-slice}
+use lib.Seq.{slice, length-slice, getD-drop}
 use Rattle.spec.specs.declared.Limit.the-variants.{Words}
 use Rattle.spec.specs.declared.Refusal.{Refusal}
 use Rattle.spec.specs.Base.{if_then_else_}
-use Rattle.spec.specs.Words.{bytesOf}
-use Rattle.spec.specs.Text.{textWords}
+use Rattle.spec.specs.Words.{bytesOf, fourAt}
+use Rattle.spec.specs.Text.{textWords, textBreak}
 use Rattle.spec.specs.declared.Found.{Found}
 use Rattle.spec.specs.declared.Found.the-variants.{At, Nothing}
 use Rattle.spec.specs.Kinds.{isEnum, isMask, isLogged, isLong}
-use Rattle.spec.specs.Records.{narrow, wide, text, operandLog, operandsLog, operandString, operandsStrings, longBytes}
+use Rattle.spec.specs.Records.{narrow, wide, text, operandSize, operandLog, operandsLog, operandString, operandsStrings, longBytes}
 use Rattle.spec.specs.Reader.{Reader, Read, got, refused, after, give, refusal, reached, readWord, readText, limitPast, readerAt}
 use Rattle.spec.specs.Grammar.{Grammar, grammarOf, listed, parametersFor}
 use Rattle.spec.specs.Match.{Known, knownOr, valueOf, readEnumerant, readOne, readEach}
+use Rattle.spec.specs.Plain.{firstBreak, operandBreak}
 use Rattle.spec.proofs.Choice.{right}
+use Rattle.spec.proofs.Breaks.{first-last}
 use Rattle.operand.specs.Parts.{parts, isTwo, Fits}
 use Rattle.operand.specs.Log.{recordBy, recordOf, lengthBy, recordLength, Laid}
 use Rattle.operand.proofs.LogLaws.{length-range, laid-nil}
@@ -39,9 +41,9 @@ use Rattle.parser.specs.declared.used.Used.{Used}
 use Rattle.parser.specs.declared.operands.EnumRead.{EnumRead}
 use Rattle.parser.specs.declared.operands.EnumRead.the-variants.{Got as Value, Refused as NoValue}
 use Rattle.parser.specs.declared.used.Parsed.the-variants.{Got}
-use Rattle.parser.specs.Parse.{idRefOf, notesOf, noteAs, note, notes, Pushed, Copied, Step, Went, Few, Held, Parses, isWord, orNone, parametersAt, KnownAs, EnumIs}
-use Rattle.parser.proofs.KindLaws.{isNarrow, not-kind, word-no-enum, word-no-text, word-narrow, enum-narrow}
-use Rattle.parser.proofs.Walk.{accept, step-few, step-went, laid-as}
+use Rattle.parser.specs.Parse.{idRefOf, notesOf, noteAs, note, notes, Pushed, Copied, Step, Went, Few, Held, Spotted, Parses, isWord, orNone, parametersAt, KnownAs, EnumIs}
+use Rattle.parser.proofs.KindLaws.{isNarrow, not-kind, word-no-enum, word-no-text, word-narrow, word-other, enum-narrow}
+use Rattle.parser.proofs.Walk.{accept, step-few, step-went, spotted-one, laid-as}
 
 -- HOW FAR
 
@@ -226,24 +228,76 @@ few-small f = (
   omega (arith, f .short, f .inside, f .strings),
 )
 
+-- there is room to count on
+pub may-count : {s : List ℕ} {d : Decoder} {u : Used} → Few s d u → (u .log ≤ 1000000000) × (u .operands ≤ 1000000000)
+may-count f = (few-small f .0, few-small f .1)
+
 -- a record may be added
 pub may-push : {s : List ℕ} {d : Decoder} {u : Used} {k v : ℕ} → Few s d u → Fits k v → (u .log ≤ 1000000000) × (u .operands ≤ 1000000000) × Fits k v
 may-push f h = (few-small f .0, few-small f .1, h)
 
+-- WHAT BREAKS
+
+-- nothing
+pub none-breaks : (u n : Used) (b : ℕ) → b ≡ 0 → n .breaks ≡ u .breaks → n .breaks ≡ firstBreak (u .breaks) b
+none-breaks u n b z e = e ∙ sym (ap (firstBreak (u .breaks)) z ∙ first-last (u .breaks))
+
+-- a word that is no embedded opcode
+pub spotted-word : (s : List ℕ) (d e : Decoder) (u n : Used) (k w : ℕ) → Step s d e 1 → (k ≡ 39 → ⊥) → n .breaks ≡ u .breaks
+    → Spotted s d e u n (narrow k w ∷ [])
+unfolding operandSize operandBreak
+spotted-word s d e u n k w t h b =
+    let z : eqb k 39 ≡ false = ne-eqb k 39 h in
+    spotted-one s d e u n (narrow k w) (t .next) (none-breaks u n _ (simp z) b)
+
+-- a result, which is a word as an id is
+pub spotted-id : (s : List ℕ) (d e : Decoder) (u n : Used) (w : ℕ) → Step s d e 1 → n .breaks ≡ u .breaks
+    → Spotted s d e u n (narrow 33 w ∷ [])
+unfolding operandSize operandBreak
+spotted-id s d e u n w t b = spotted-one s d e u n (narrow 33 w) (t .next) (none-breaks u n _ refl b)
+
+-- an enumerant
+pub spotted-enum : (s : List ℕ) (d e : Decoder) (u n : Used) (k w : ℕ) → Step s d e 1 → isEnum k ≡ true → n .breaks ≡ u .breaks
+    → Spotted s d e u n (narrow k w ∷ [])
+spotted-enum s d e u n k w t h b = spotted-word s d e u n k w t (not-kind isEnum k 39 h refl) b
+
+-- a literal of two words
+pub spotted-long : (s : List ℕ) (d e : Decoder) (u n : Used) (k w : ℕ) → Step s d e 2 → n .breaks ≡ u .breaks
+    → Spotted s d e u n (wide k w ∷ [])
+unfolding operandSize operandBreak
+spotted-long s d e u n k w t b = spotted-one s d e u n (wide k w) (t .next) (none-breaks u n _ refl b)
+
+-- the word at an offset is the first of those from there on
+four-at : (s : List ℕ) (at : ℕ) → fourAt at s ≡ fourAt 0 (drop at s)
+four-at s at = simp (getD-drop, add-zero)
+
+-- an embedded opcode
+pub spotted-opcode : (s : List ℕ) (d e : Decoder) (u n : Used) (w : ℕ) → Word w e ≡ wordFrom s d
+    → n .breaks ≡ firstBreak (u .breaks) (if ltb 65535 w then d .offset else 0) → Spotted s d e u n (narrow 39 (w % 65536) ∷ [])
+unfolding operandSize operandBreak
+spotted-opcode s d e u n w h b =
+    let is : w ≡ fourAt 0 (drop (d .offset) s) = word-got s d e w h .value ∙ four-at s (d .offset) in
+    spotted-one s d e u n (narrow 39 (w % 65536)) (step-word s d e w h .next)
+    (b ∙ ap (λ (i : ℕ). firstBreak (u .breaks) (if ltb 65535 i then d .offset else 0)) is)
+
 -- a record of a word was read
 pub word-parsed : (s l t l₁ : List ℕ) (d e : Decoder) (u n : Used) (k w : ℕ) (g : Grammar) → Few s d u → isWord k ≡ true → Word w e ≡ wordFrom s d
-    → Pushed k w u n → Laid l (u .log) (recordOf (parts k w)) l₁ → Parses s d 4 (readEach g (k ∷ []) (readerOf s d)) l t l₁ t u (Got e n)
-word-parsed s l t l₁ d e u n k w g f i h p q =
+    → Pushed k w u n → Laid l (u .log) (recordOf (parts k w)) l₁ → n .breaks ≡ u .breaks
+    → Parses s d 4 (readEach g (k ∷ []) (readerOf s d)) l t l₁ t u (Got e n)
+word-parsed s l t l₁ d e u n k w g f i h p q b =
     let x = step-word s d e w h in
     accept s d 4 _ l t l₁ t u n e _ (word-good s g k d i w e h) (held-narrow l t l₁ u n k w (word-narrow k i) p q)
     (few-pushed s d e u n 1 k w f x (omega arith) p) (step-went s d e 1 x (f .left) (f .limited))
+    (spotted-word s d e u n k w x (word-other k i) b)
 
 -- a record of an enumerant was read
 pub enum-parsed : (s l t l₁ g : List ℕ) (d e : Decoder) (u n : Used) (k w p : ℕ) → Few s d u → isEnum k ≡ true → KnownAs s g k d w p e
-    → Pushed k w u n → Laid l (u .log) (recordOf (parts k w)) l₁ → Parses s d 4 (readEach (grammarOf g) (k ∷ []) (readerOf s d)) l t l₁ t u (Got e n)
-enum-parsed s l t l₁ g d e u n k w p f i h a q =
+    → Pushed k w u n → Laid l (u .log) (recordOf (parts k w)) l₁ → n .breaks ≡ u .breaks
+    → Parses s d 4 (readEach (grammarOf g) (k ∷ []) (readerOf s d)) l t l₁ t u (Got e n)
+enum-parsed s l t l₁ g d e u n k w p f i h a q b =
     accept s d 4 _ l t l₁ t u n e _ (enum-good s g k d (isEnum k) refl i w p e h) (held-narrow l t l₁ u n k w (enum-narrow k i) a q)
     (few-pushed s d e u n 1 k w f (h .step) (omega arith) a) (step-went s d e 1 (h .step) (f .left) (f .limited))
+    (spotted-enum s d e u n k w (h .step) i b)
 
 -- STRINGS
 
@@ -287,7 +341,7 @@ module _ (s : List ℕ) (from size : ℕ) (h : from + size < length s) where
   size-is = length-slice from (from + size) s (omega arith) ∙ omega arith
 
   -- a string's record and its bytes
-  held-text : (l t l₁ t₁ : List ℕ) (u n : Used) → u .base + u .strings < 4294967296 → Copied size u n
+  held-text : (l t l₁ t₁ : List ℕ) (u n : Used) → u .base + u .strings < 4294967296 → {b : ℕ} → Copied size b u n
       → Laid l (u .log) (recordOf (parts 40 (u .base + u .strings + 4294967296 * size))) l₁ → Laid t (u .strings) (slice from (from + size) s) t₁
       → Held l t l₁ t₁ u n (text (slice from (from + size) s) ∷ [])
   unfolding operandsLog operandLog operandsStrings operandString notes note bytesOf
@@ -306,8 +360,8 @@ module _ (s : List ℕ) (from size : ℕ) (h : from + size < length s) where
       }
 
 -- little is in use after a string
-few-copied : (s : List ℕ) (d e : Decoder) (u r : Used) (size : ℕ) → Few s d u → Step s d e (textWords size) → Copied size u r → Few s e r
-few-copied s d e u r size f t p =
+few-copied : (s : List ℕ) (d e : Decoder) (u r : Used) (size b : ℕ) → Few s d u → Step s d e (textWords size) → Copied size b u r → Few s e r
+few-copied s d e u r size b f t p =
     step-few s d e u r (textWords size) f t (omega arith) (one-more u r _ _ (p .noted)) (omega (arith, p .log)) (omega (arith, p .strings)) (p .base) (p .fits (f .fits))
 
 -- a string takes a word or more
@@ -315,6 +369,19 @@ text-went : (s : List ℕ) (d e : Decoder) (size m : ℕ) → Step s d e (textWo
 text-went s d e size m t q =
     let w = step-went s d e (textWords size) t m q in
     record { pace = w .pace; forth = omega (arith, w .forth) }
+
+-- what breaks a string is what breaks its padding
+spotted-text : (s : List ℕ) (d : Decoder) (u n : Used) (x : Text) → GotText x ≡ textFrom s d → Step s d (x .next) (textWords (x .length))
+    → n .breaks ≡ firstBreak (u .breaks) (x .breaks) → Spotted s d (x .next) u n (text (slice (x .start) (x .start + x .length) s) ∷ [])
+unfolding operandSize operandBreak
+spotted-text s d u n x h t b =
+    let g = text-got s d x h in
+    let size : length (slice (x .start) (x .start + x .length) s) ≡ x .length = size-is s (x .start) (x .length) (g .inside) in
+    spotted-one s d (x .next) u n (text (slice (x .start) (x .start + x .length) s))
+    (t .next ∙ ap (λ (i : ℕ). d .offset + 4 * textWords i) (sym size))
+    (b ∙ ap (firstBreak (u .breaks))
+    (g .breaks ∙ ap (λ (i : ℕ). textBreak i (x .length) (drop (d .offset) s)) (g .start)
+    ∙ ap (λ (i : ℕ). textBreak (d .offset) i (drop (d .offset) s)) (sym size)))
 
 -- a string may be added
 pub may-copy : {s : List ℕ} {d : Decoder} {u : Used} {x : Text} → Few s d u → GotText x ≡ textFrom s d
@@ -327,14 +394,15 @@ may-copy {s} {d} {u} {x} f h =
 
 -- a string was read
 pub text-parsed : (s l t l₁ t₁ : List ℕ) (d : Decoder) (u n : Used) (k : ℕ) (g : Grammar) (x : Text) → Few s d u → k ≡ 40 → GotText x ≡ textFrom s d
-    → Copied (x .length) u n → Laid l (u .log) (recordOf (parts 40 (u .base + u .strings + 4294967296 * x .length))) l₁
+    → Copied (x .length) (x .breaks) u n → Laid l (u .log) (recordOf (parts 40 (u .base + u .strings + 4294967296 * x .length))) l₁
     → Laid t (u .strings) (slice (x .start) (x .start + x .length) s) t₁
     → Parses s d 4 (readEach g (k ∷ []) (readerOf s d)) l t l₁ t₁ u (Got (x .next) n)
 text-parsed s l t l₁ t₁ d u n k g x f z h p q r =
     let y = step-text s d u x h f in
     accept s d 4 _ l t l₁ t₁ u n (x .next) _ (text-good s g k d z (f .inside) x h)
     (held-text s (x .start) (x .length) (text-inside s d x h) l t l₁ t₁ u n (omega (arith, few-small f .2)) p q r)
-    (few-copied s d (x .next) u n (x .length) f y p) (text-went s d (x .next) (x .length) (f .left) y (f .limited))
+    (few-copied s d (x .next) u n (x .length) (x .breaks) f y p) (text-went s d (x .next) (x .length) (f .left) y (f .limited))
+    (spotted-text s d u n x h y (p .breaks))
 
 -- LITERALS OF TWO WORDS
 

@@ -1,7 +1,7 @@
 -- Laws of the walk over a row's operands.
 use Prim.Native.Nat.{ℕ, zero, suc, _+_, _*_, _-_, _<_, _≤_}
 use mathlib.Core.Path.{_≡_, refl, ap, sym, subst, _∙_}
-use mathlib.Core.Bool.{Bool, true, false, and-eq-true-iff}
+use mathlib.Core.Bool.{Bool, true, false, _&&_, true≢false}
 use mathlib.Core.List.{List, [], _∷_}
 use native.Mathlib.Omega.{arith}
 use borrow.Author.Tests.{eq-eqb, ne-eqb, eqb-false}
@@ -10,12 +10,15 @@ use lib.ListN.{length}
 use Rattle.spec.specs.declared.Limit.{Limit}
 use Rattle.spec.specs.declared.Limit.the-variants.{Words}
 use Rattle.spec.specs.declared.Refusal.{Refusal}
-use Rattle.spec.specs.Base.{if_then_else_, every}
+use Rattle.spec.specs.Base.{if_then_else_}
+use Rattle.spec.proofs.Choice.{cases}
 use Rattle.spec.specs.Kinds.{mayBeOperand}
 use Rattle.spec.specs.Records.{operandsLog, operandsStrings, Entry}
 use Rattle.spec.specs.Reader.{Read, got, after, refusal, reached, readerAt}
-use Rattle.spec.specs.Grammar.{Grammar, Slot, slot, grammarOf}
+use Rattle.spec.specs.Grammar.{Grammar, Slot, slot, isSlot, grammarOf}
 use Rattle.spec.specs.Match.{Seen, nothingSeen, noneLeft, slotsAfter, readSlot, readRow}
+use Rattle.demands.proofs.Formed.{RowFrom}
+use Rattle.demands.proofs.Rows.{asOperands, Free, free-none, row-after}
 use Rattle.operand.proofs.LogLaws.{laid-nil}
 use Rattle.decoder.specs.declared.Decoder.{Decoder}
 use Rattle.decoder.specs.Answer.{readerOf, limitReached}
@@ -24,10 +27,11 @@ use Rattle.parser.specs.declared.used.Used.{Used}
 use Rattle.parser.specs.declared.used.Parsed.{Parsed}
 use Rattle.parser.specs.declared.used.Parsed.the-variants.{Got, Refused}
 use Rattle.parser.specs.declared.used.Frame.{Frame}
-use Rattle.parser.specs.Parse.{selectorOf, notesOf, notes, noNotes, wordIs, leftOf, Went, Few, isOperand, slotsAt, Walked, RowRead, Walks, SlotWalks}
+use Rattle.parser.specs.Parse.{selectorOf, notesOf, notes, noNotes, wordIs, leftOf, Went, Few, Spotted, slotsAt, Walked, Walks, ResultFree, SlotRead, SlotWalk, SlotWalks}
 use Rattle.parser.specs.Fresh.{unused, Fresh}
 use Rattle.parser.specs.Body.{Framed, startOf, rowRead}
-use Rattle.parser.proofs.Walk.{went-nowhere, went-then}
+use Rattle.parser.proofs.Carried.{row-leads}
+use Rattle.parser.proofs.Walk.{went-nowhere, went-then, spotted-nothing, spotted-then}
 
 -- THE NEXT OPERAND
 
@@ -72,17 +76,21 @@ pub record Rowing (s : List ℕ) (g : Grammar) (types : List Entry) (x : Read Se
   pub walked : Walked log₀ strs₀ log strs u₀ u seen
   pub few : Few s d u
   pub went : Went d₀ d 0
-  pub allowed : every isOperand ss ≡ true
+  pub type-free : Bool
+  pub id-free : Bool
+  pub allowed : RowFrom type-free id-free ss
+  pub free : Free type-free id-free seen
+  pub spotted : Spotted s d₀ d u₀ u (asOperands seen)
 
 -- what is in use where an instruction begins, as it is made
-pub fresh-unused : (at a b c : ℕ) (u : Used) → u ≡ unused a b c → 4 * a ≤ 9 * at → c + b ≤ at → Fresh at u
+pub fresh-unused : (at a b c x : ℕ) (u : Used) → u ≡ unused a b c x → 4 * a ≤ 9 * at → c + b ≤ at → Fresh at u
 unfolding unused
-fresh-unused at a b c u e p q = rw e (record { nothing = refl; few-log = p; few-strings = q })
+fresh-unused at a b c x u e p q = rw e (record { nothing = refl; few-log = p; few-strings = q })
 
 -- nothing is seen where nothing is in use
-walked-nothing : (log strs : List ℕ) (a b c : ℕ) → Walked log strs log strs (unused a b c) (unused a b c) nothingSeen
+walked-nothing : (log strs : List ℕ) (a b c x : ℕ) → Walked log strs log strs (unused a b c x) (unused a b c x) nothingSeen
 unfolding unused literalOf selectorOf notesOf notes noNotes wordIs operandsLog operandsStrings
-walked-nothing log strs a b c = record {
+walked-nothing log strs a b c x = record {
   rtype = refl;
   rid = refl;
   base = refl;
@@ -94,7 +102,7 @@ walked-nothing log strs a b c = record {
 }
 
 -- no operand is in use where an instruction begins
-none-used : (u : Used) → u ≡ unused (u .log) (u .strings) (u .base) → u .operands ≡ 0
+none-used : (u : Used) → u ≡ unused (u .log) (u .strings) (u .base) (u .breaks) → u .operands ≡ 0
 unfolding unused
 none-used u e = ap (λ (v : Used). v .operands) e
 
@@ -120,23 +128,21 @@ row-starts s g types log strs f u h q = record {
   fuel = f .words - 1;
   whole = refl;
   enough = omega arith;
-  walked = subst (λ (v : Used). Walked log strs log strs v v nothingSeen) (sym (q .nothing)) (walked-nothing log strs (u .log) (u .strings) (u .base));
+  walked = subst (λ (v : Used). Walked log strs log strs v v nothingSeen) (sym (q .nothing)) (walked-nothing log strs (u .log) (u .strings) (u .base) (u .breaks));
   few = few-nothing s g f u h q;
   went = went-nowhere (startOf f);
-  allowed = h .operands;
+  type-free = true;
+  id-free = true;
+  allowed = row-leads (f .opcode) (slotsAt g (f .place)) (h .operands);
+  free = (λ e. refl, λ e. (refl, refl));
+  spotted = spotted-nothing s (startOf f) u;
 }
 
--- the operands that come next are of an operand's kind
-operands-after : (j q : ℕ) (more : List Slot) → every isOperand (slot j q ∷ more) ≡ true → every isOperand more ≡ true
-    → (t : Bool) → every isOperand (if t then slot j q ∷ more else more) ≡ true
-operands-after j q more h i true = h
-operands-after j q more h i false = i
-
 -- an answer of an operand, taken apart
-answer-told : (s : List ℕ) (d : Decoder) (f : Seen → Read Seen) (log₀ strs₀ log strs log₁ strs₁ : List ℕ) (u₀ u : Used) (x : Seen) (v z : Parsed)
-    → Walked log₀ strs₀ log strs u₀ u x → SlotWalks s d f log strs log₁ strs₁ u v → v ≡ z → Walks s d 4 (f x) log₀ strs₀ log₁ strs₁ u₀ z
+answer-told : (s : List ℕ) (d : Decoder) (k : ℕ) (f : Seen → Read Seen) (log₀ strs₀ log strs log₁ strs₁ : List ℕ) (u₀ u : Used) (x : Seen) (v z : Parsed)
+    → Walked log₀ strs₀ log strs u₀ u x → SlotWalks s d k f log strs log₁ strs₁ u v → v ≡ z → SlotWalk s d k x (f x) log₀ strs₀ log₁ strs₁ u₀ u z
 unfolding SlotWalks
-answer-told s d f log₀ strs₀ log strs log₁ strs₁ u₀ u x v z w h q = rw q at (h log₀ strs₀ u₀ x w)
+answer-told s d k f log₀ strs₀ log strs log₁ strs₁ u₀ u x v z w h q = rw q at (h log₀ strs₀ u₀ x w)
 
 module _ {s : List ℕ} {g : Grammar} {types : List Entry} {x : Read Seen} {log₀ strs₀ log strs : List ℕ} {u₀ : Used} {d₀ d : Decoder} {u : Used} {ss : List Slot}
     (r : Rowing s g types x log₀ strs₀ log strs u₀ d₀ d u ss) where
@@ -151,7 +157,7 @@ module _ {s : List ℕ} {g : Grammar} {types : List Entry} {x : Read Seen} {log�
   -- a walk that ends here
   row-good : x ≡ got (r .seen) (readerOf s d) → Walks s d₀ 0 x log₀ strs₀ log strs u₀ (Got d u)
   unfolding Walks
-  row-good e = record { seen = r .seen; read = e; walked = r .walked; few = r .few; went = r .went }
+  row-good e = record { seen = r .seen; read = e; walked = r .walked; few = r .few; went = r .went; spotted = r .spotted }
 
   -- no operand is left
   pub row-ends : ss ≡ [] → Walks s d₀ 0 x log₀ strs₀ log strs u₀ (Got d u)
@@ -162,14 +168,17 @@ module _ {s : List ℕ} {g : Grammar} {types : List Entry} {x : Read Seen} {log�
     row-is : (y : Read Seen) → readRow g types (r .fuel) (slot j q ∷ more) (r .seen) (readerOf s d) ≡ y → x ≡ y
     row-is y h = r .whole ∙ ap (λ (l : List Slot). readRow g types (r .fuel) l (r .seen) (readerOf s d)) e ∙ h
 
-    -- the next operand and those after it are of an operand's kind
-    operand-next : (isOperand (slot j q) ≡ true) × (every isOperand more ≡ true)
-    operand-next = and-eq-true-iff (isOperand (slot j q)) (every isOperand more) .0 (rw e at (r .allowed))
+    -- the next operand and those after it meet the rules of their places
+    row-next : RowFrom (r .type-free) (r .id-free) (slot j q ∷ more)
+    row-next = subst (RowFrom (r .type-free) (r .id-free)) e (r .allowed)
 
     -- the next operand is of an operand's kind
     pub next-operand : mayBeOperand j ≡ true
-    unfolding isOperand
-    next-operand = operand-next .0
+    next-operand = row-next .0
+
+    -- a result is free where it comes next
+    result-free : ResultFree j (r .seen)
+    result-free = (λ h. r .free .0 (row-next .1 h .0), λ h. r .free .1 (row-next .2 h .0))
 
     module _ (t : Bool) (p : t ≡ limitReached d) where
       -- the limit, as it was tested
@@ -199,22 +208,33 @@ module _ {s : List ℕ} {g : Grammar} {types : List Entry} {x : Read Seen} {log�
             row-is _ (next-read s g types d (r .seen) j q more (r .fuel) fuel-some (limit-is false h)
             ∙ ap (λ (z : Read Seen). after z (λ o. readRow g types (r .fuel - 1) (slotsAfter j q more) o)) i)
 
-        module _ (log₁ strs₁ : List ℕ) (v : Parsed) (i : SlotWalks s d (λ y. readSlot g types y j (readerOf s d)) log strs log₁ strs₁ u v) where
+        module _ (log₁ strs₁ : List ℕ) (v : Parsed) (i : SlotWalks s d j (λ y. readSlot g types y j (readerOf s d)) log strs log₁ strs₁ u v) where
           -- it is refused
           pub row-stops : (y : Refusal) (f : Decoder) → v ≡ Refused y f → Walks s d₀ 0 x log₀ strs₀ log₁ strs₁ u₀ v
-          unfolding Walks
+          unfolding Walks SlotWalk
           row-stops y f z =
-              rw z (then-is _ (answer-told s d _ log₀ strs₀ log strs log₁ strs₁ u₀ u (r .seen) v (Refused y f) (r .walked) i z))
+              rw z (then-is _ (answer-told s d j _ log₀ strs₀ log strs log₁ strs₁ u₀ u (r .seen) v (Refused y f) (r .walked) i z))
 
           module _ (f : Decoder) (n : Used) (z : v ≡ Got f n) where
             -- the next operand's read
-            slot-is : RowRead s d 4 (readSlot g types (r .seen) j (readerOf s d)) log₀ strs₀ log₁ strs₁ u₀ f n
-            unfolding Walks
-            slot-is = answer-told s d _ log₀ strs₀ log strs log₁ strs₁ u₀ u (r .seen) v (Got f n) (r .walked) i z
+            slot-is : SlotRead s d j (r .seen) (readSlot g types (r .seen) j (readerOf s d)) log₀ strs₀ log₁ strs₁ u₀ u f n
+            unfolding SlotWalk
+            slot-is = answer-told s d j _ log₀ strs₀ log strs log₁ strs₁ u₀ u (r .seen) v (Got f n) (r .walked) i z
 
             -- it took a word or more
             pub row-less : leftOf (f .limit) < leftOf (d .limit)
             row-less = omega (arith, slot-is .went .pace, slot-is .went .forth)
+
+            -- what is free after it
+            free-then : Free false (r .type-free && isSlot 46 0 (slot j q)) (slot-is .seen)
+            free-then =
+                cases (eqb j 46)
+                (λ h. let nothing-yet = result-free .0 h in
+                let same = slot-is .others h in (
+                  λ k. absurd (true≢false (sym k)),
+                  λ k. (same .0 ∙ ap (λ (x : Seen). x .resultId) nothing-yet, same .1 ∙ ap (λ (x : Seen). x .operands) nothing-yet),
+                ))
+                (λ h. free-none (r .type-free) j q (slot-is .seen) h)
 
             -- it is read
             pub row-turn : (rest : List Slot) → slotsAfter j q more ≡ rest → Rowing s g types x log₀ strs₀ log₁ strs₁ u₀ d₀ f n rest
@@ -226,7 +246,11 @@ module _ {s : List ℕ} {g : Grammar} {types : List Entry} {x : Read Seen} {log�
               walked = slot-is .walked;
               few = slot-is .few;
               went = went-then (r .went) (slot-is .went);
-              allowed = rw⁻¹ o (operands-after j q more (rw e at (r .allowed)) (operand-next .1) (eqb q 2));
+              type-free = false;
+              id-free = r .type-free && isSlot 46 0 (slot j q);
+              allowed = subst (RowFrom false (r .type-free && isSlot 46 0 (slot j q))) o (row-after (r .type-free) (r .id-free) j q more row-next);
+              free = free-then;
+              spotted = subst (Spotted s d₀ f u₀ n) (sym (slot-is .adds result-free)) (spotted-then (r .spotted) (slot-is .spotted));
             }
 
 -- PLACES OF THE GRAMMAR

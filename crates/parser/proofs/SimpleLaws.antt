@@ -33,7 +33,7 @@ use Rattle.parser.specs.declared.simple.Simple.the-variants.{Got as Take
 use Rattle.parser.specs.Parse.{Pushed, Few, Parses, leftOf, isSingle, EnumIs, KnownAs, parametersAre, parametersAt}
 use Rattle.parser.specs.Simple.{There, IfTaken}
 use Rattle.parser.proofs.KindLaws.{enum-narrow}
-use Rattle.parser.proofs.One.{held-narrow, few-pushed, mask-known, value-known}
+use Rattle.parser.proofs.One.{held-narrow, few-pushed, spotted-enum, mask-known, value-known}
 use Rattle.parser.proofs.Walk.{same-read, seq, step-went}
 use Rattle.parser.proofs.Carried.{listed-single}
 use Rattle.parser.proofs.Values.{nothing, same-each, same-single, are-known, place-listed, operand-known}
@@ -157,13 +157,13 @@ module _ {s g : List ℕ} {d e : Decoder} {k w p : ℕ} (a : KnownAs s g k d w p
     pub known-few : Few s e n
     known-few = few-pushed s d e u n 1 k w f (a .step) (omega arith) q
 
-    module _ (l t l₁ : List ℕ) (i : isEnum k ≡ true) (x : Laid l (u .log) (recordOf (parts k w)) l₁) where
+    module _ (l t l₁ : List ℕ) (i : isEnum k ≡ true) (x : Laid l (u .log) (recordOf (parts k w)) l₁) (b : n .breaks ≡ u .breaks) where
       -- it is held, and its parameters are read then
       value-then : (l₂ t₂ : List ℕ) (v : Parsed) → Parses s e 0 (readEach (grammarOf g) (parametersAre k w (grammarOf g)) (readerOf s e)) l₁ t l₂ t₂ n v
           → Parses s d 4 (readOperand (grammarOf g) k (readerOf s d)) l t l₂ t₂ u v
       value-then l₂ t₂ v r =
           seq (held-narrow l t l₁ u n k w (enum-narrow k i) q x) s 0 l₂ t₂ _ _
-          (step-went s d e 1 (a .step) (f .left) (f .limited)) (operand-known s g k d (isEnum k) refl i w p e a) v r
+          (step-went s d e 1 (a .step) (f .left) (f .limited)) (spotted-enum s d e u n k w (a .step) i b) (operand-known s g k d (isEnum k) refl i w p e a) v r
 
       -- it has none
       pub value-alone : parametersAre k w (grammarOf g) ≡ [] → IfTaken (Parses s d 4 (readOperand (grammarOf g) k (readerOf s d)) l t l₁ t u) (Taken e n)

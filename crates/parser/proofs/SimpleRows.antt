@@ -32,12 +32,12 @@ module _ (s : List ℕ) (g : Grammar) (j l : ℕ) (d : Decoder) (log strs : List
     (f : kindIs l ≡ literalFor types u j) where
   -- a result
   pub reads-result : t ≡ true → Few s d u → (v : ℕ) (e : Decoder) → Word v e ≡ wordFrom s d → (i : ℕ) → wordIs i ≡ some v → (n : Used) → n ≡ withResult j i u
-      → IfTaken (SlotWalks s d (λ x. readSlot g types x j (readerOf s d)) log strs log strs u) (Taken e n)
+      → IfTaken (SlotWalks s d j (λ x. readSlot g types x j (readerOf s d)) log strs log strs u) (Taken e n)
   reads-result q m v e h i o n z = take _ e n (walks-result s g j l d log strs u t p types f q m v e h i o n z)
 
   -- any other operand, by its read
   pub reads-as : t ≡ false → (log₁ strs₁ : List ℕ) (v : Simple) (y : Read (List Operand)) → kindAlone g (kindIs l) j (readerOf s d) ≡ y
-      → IfTaken (Parses s d 4 y log strs log₁ strs₁ u) v → IfTaken (SlotWalks s d (λ x. readSlot g types x j (readerOf s d)) log strs log₁ strs₁ u) v
+      → IfTaken (Parses s d 4 y log strs log₁ strs₁ u) v → IfTaken (SlotWalks s d j (λ x. readSlot g types x j (readerOf s d)) log strs log₁ strs₁ u) v
   reads-as q log₁ strs₁ v y e h = take-so _ _ (λ a. walks-as s g j l d log strs u t p types f q log₁ strs₁ a y e) v h
 
 -- ROWS

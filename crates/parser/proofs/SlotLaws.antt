@@ -1,16 +1,17 @@
 -- Laws of one operand of a row: which read it is by its kind, and what the walk has seen with it.
 use Prim.Native.Nat.{ℕ, _+_, _-_, _≤_}
 use mathlib.Core.Path.{_≡_, refl, ap, sym, _∙_}
-use mathlib.Core.Bool.{Bool, true, false, not}
-use mathlib.Core.List.{List, [], _∷_}
+use mathlib.Core.Bool.{Bool, true, false, not, true≢false}
+use mathlib.Core.List.{List, [], _∷_, _++_, append-assoc, append-nil}
 use mathlib.Core.Option.{Option, some}
 use native.Mathlib.Omega.{arith}
-use borrow.Author.Tests.{eq-eqb, ne-eqb}
+use borrow.Author.Tests.{eq-eqb, ne-eqb, eqb-true}
 use lib.Dec.{eqb}
 use Rattle.spec.specs.declared.Refusal.{Refusal}
 use Rattle.spec.specs.Base.{if_then_else_, within}
 use Rattle.spec.specs.Kinds.{isResult}
 use Rattle.spec.specs.Records.{Operand, narrow, wide, text, Entry}
+use Rattle.spec.specs.Plain.{asIds}
 use Rattle.spec.specs.Reader.{Reader, Read, refused, after, give, readWord}
 use Rattle.spec.specs.Grammar.{Grammar}
 use Rattle.spec.specs.Match.{Seen, selector, withType, withId, withOperands, readEach, literalKindOf, typeOf, readLiteralAs, readLiteral, readEmbedded, readOperand, readPair, readKind, readSlot}
@@ -22,10 +23,10 @@ use Rattle.tracker.specs.Track.{literalOf}
 use Rattle.parser.specs.declared.used.Used.{Used}
 use Rattle.parser.specs.declared.used.Parsed.{Parsed}
 use Rattle.parser.specs.declared.used.Parsed.the-variants.{Got, Refused}
-use Rattle.parser.specs.Parse.{Notes, selectorOf, notesOf, noteAs, note, notes, noNotes, Step, Few, Held, Parses, wordIs, isWord, isUntyped, kindIs, literalFor, literalAlone, pairAlone, kindAlone, Walked, RowRead, Walks, SlotWalks}
+use Rattle.parser.specs.Parse.{Notes, selectorOf, notesOf, noteAs, note, notes, noNotes, Step, Few, Held, Parses, wordIs, isWord, isUntyped, kindIs, literalFor, literalAlone, pairAlone, kindAlone, Walked, SlotRead, SlotWalk, SlotWalks}
 use Rattle.parser.specs.Fresh.{unused, withResults, withResult}
 use Rattle.parser.proofs.KindLaws.{not-kind, word-no-enum, number-word, number-untyped, result-else}
-use Rattle.parser.proofs.One.{step-word}
+use Rattle.parser.proofs.One.{step-word, spotted-id}
 use Rattle.parser.proofs.Walk.{held-then, step-went, same-read}
 
 -- KINDS
@@ -122,7 +123,7 @@ module _ {log₀ strs₀ log strs : List ℕ} {u₀ u : Used} {x : Seen} (w : Wa
   -- WHAT IS SEEN
 
   -- what was seen is held, from the places where the row began
-  walked-held : Held log₀ strs₀ log strs (withResults (u .rtype) (u .rid) (unused (u₀ .log) (u₀ .strings) (u₀ .base))) u (x .operands)
+  walked-held : Held log₀ strs₀ log strs (withResults (u .rtype) (u .rid) (unused (u₀ .log) (u₀ .strings) (u₀ .base) (u₀ .breaks))) u (x .operands)
   unfolding withResults unused literalOf selectorOf notesOf noNotes wordIs
   walked-held = record {
     rtype = refl;
@@ -198,14 +199,18 @@ module _ {log₀ strs₀ log strs : List ℕ} {u₀ u : Used} {x : Seen} (w : Wa
 
       -- an operand that is no result
       slot-more : (log₁ strs₁ : List ℕ) (v : Parsed) → Parses s d 4 (kindAlone g (kindIs l) j (readerOf s d)) log strs log₁ strs₁ u v
-          → Walks s d 4 (readSlot g types x j (readerOf s d)) log₀ strs₀ log₁ strs₁ u₀ v
-      unfolding Parses Walks
+          → SlotWalk s d j x (readSlot g types x j (readerOf s d)) log₀ strs₀ log₁ strs₁ u₀ u v
+      unfolding Parses SlotWalk
       slot-more log₁ strs₁ (Got e n) p = record {
         seen = withOperands x (p .operands);
         read = more-by _ (p .read);
         walked = walked-more (p .held);
         few = p .few;
         went = p .went;
+        more = p .operands;
+        spotted = p .spotted;
+        adds = λ free. sym (append-assoc (asIds (x .resultType) ++ asIds (x .resultId)) (x .operands) (p .operands));
+        others = λ e. absurd (not-kind (λ i. not (isResult i)) j 46 (ap not h) refl (eqb-true j 46 e));
       }
       slot-more log₁ strs₁ (Refused y e) p = more-by _ p
 
@@ -221,13 +226,18 @@ module _ {log₀ strs₀ log strs : List ℕ} {u₀ u : Used} {x : Seen} (w : Wa
 
       -- a result
       slot-result : (v n : ℕ) → wordIs n ≡ some v → (e : Decoder) → Word v e ≡ wordFrom s d → Few s d u → (t : Bool) → eqb j 46 ≡ t
-          → RowRead s d 4 (readSlot g types x j (readerOf s d)) log₀ strs₀ log strs u₀ e (if t then withResults n (u .rid) u else withResults (u .rtype) n u)
+          → SlotRead s d j x (readSlot g types x j (readerOf s d)) log₀ strs₀ log strs u₀ u e (if t then withResults n (u .rid) u else withResults (u .rtype) n u)
+      unfolding withResults
       slot-result v n i e p f true q = record {
         seen = withType x v;
         read = result-by _ (word-got s d e v p .reads) true q;
         walked = walked-type v n i;
         few = result-few s d e u n (u .rid) f (step-word s d e v p);
         went = step-went s d e 1 (step-word s d e v p) (f .left) (f .limited);
+        more = narrow 33 v ∷ [];
+        spotted = spotted-id s d e u (withResults n (u .rid) u) v (step-word s d e v p) refl;
+        adds = λ free. rw (free .0 q);
+        others = λ e. (refl, refl);
       }
       slot-result v n i e p f false q = record {
         seen = withId x v;
@@ -235,6 +245,10 @@ module _ {log₀ strs₀ log strs : List ℕ} {u₀ u : Used} {x : Seen} (w : Wa
         walked = walked-id v n i;
         few = result-few s d e u (u .rtype) n f (step-word s d e v p);
         went = step-went s d e 1 (step-word s d e v p) (f .left) (f .limited);
+        more = narrow 33 v ∷ [];
+        spotted = spotted-id s d e u (withResults (u .rtype) n u) v (step-word s d e v p) refl;
+        adds = λ free. let none-yet = free .1 (result-else j h q) in simp (none-yet .0, none-yet .1, append-nil);
+        others = λ e. absurd (true≢false (sym e ∙ q));
       }
 
       -- no result
@@ -245,26 +259,26 @@ module _ (s : List ℕ) (g : Grammar) (j l : ℕ) (d : Decoder) (log strs : List
     (f : kindIs l ≡ literalFor types u j) where
   -- the walk goes on with a result
   pub walks-result : t ≡ true → Few s d u → (v : ℕ) (e : Decoder) → Word v e ≡ wordFrom s d → (i : ℕ) → wordIs i ≡ some v → (n : Used) → n ≡ withResult j i u
-      → SlotWalks s d (λ x. readSlot g types x j (readerOf s d)) log strs log strs u (Got e n)
-  unfolding SlotWalks Walks withResult
+      → SlotWalks s d j (λ x. readSlot g types x j (readerOf s d)) log strs log strs u (Got e n)
+  unfolding SlotWalks SlotWalk withResult
   walks-result q m v e h i o n z log₀ strs₀ u₀ x w = rw z (slot-result w s g types j d (sym p ∙ q) v i o e h m (eqb j 46) refl)
 
   -- it ends without the word of a result
   pub walks-none : t ≡ true → (y : Refusal) (e : Decoder) → NoWord y e ≡ wordFrom s d
-      → SlotWalks s d (λ x. readSlot g types x j (readerOf s d)) log strs log strs u (Refused y e)
-  unfolding SlotWalks Walks
+      → SlotWalks s d j (λ x. readSlot g types x j (readerOf s d)) log strs log strs u (Refused y e)
+  unfolding SlotWalks SlotWalk
   walks-none q y e h log₀ strs₀ u₀ x w = slot-none w s g types j d (sym p ∙ q) y e h
 
   module _ (q : t ≡ false) (log₁ strs₁ : List ℕ) (v : Parsed) where
     -- it goes on with operands, or ends where they are refused
     pub walks-more : Parses s d 4 (kindAlone g (kindIs l) j (readerOf s d)) log strs log₁ strs₁ u v
-        → SlotWalks s d (λ x. readSlot g types x j (readerOf s d)) log strs log₁ strs₁ u v
+        → SlotWalks s d j (λ x. readSlot g types x j (readerOf s d)) log strs log₁ strs₁ u v
     unfolding SlotWalks
     walks-more h log₀ strs₀ u₀ x w = slot-more w s g types j d l f (sym p ∙ q) log₁ strs₁ v h
 
     -- so it does by the read that is meant
     pub walks-as : (y : Read (List Operand)) → kindAlone g (kindIs l) j (readerOf s d) ≡ y → Parses s d 4 y log strs log₁ strs₁ u v
-        → SlotWalks s d (λ x. readSlot g types x j (readerOf s d)) log strs log₁ strs₁ u v
+        → SlotWalks s d j (λ x. readSlot g types x j (readerOf s d)) log strs log₁ strs₁ u v
     walks-as y e h = walks-more (same-read s d 4 _ y log strs log₁ strs₁ u v e h)
 
 -- PLACES AND RESULTS
@@ -280,14 +294,14 @@ goes-on p q e = simp (ne-eqb q 2 e)
 module _ (u : Used) (k n : ℕ) where
   -- a result type
   pub type-more : k ≡ 46
-      → record { rtype = n; rid = u .rid; operands = u .operands; kind1 = u .kind1; value1 = u .value1; kind2 = u .kind2; value2 = u .value2; log = u .log; strings = u .strings; base = u .base }
+      → record { rtype = n; rid = u .rid; operands = u .operands; kind1 = u .kind1; value1 = u .value1; kind2 = u .kind2; value2 = u .value2; log = u .log; strings = u .strings; base = u .base; breaks = u .breaks }
       ≡ withResult k n u
   unfolding withResult withResults
   type-more e = simp (eq-eqb k 46 e)
 
   -- a result id
   pub id-more : (k ≡ 46 → ⊥)
-      → record { rtype = u .rtype; rid = n; operands = u .operands; kind1 = u .kind1; value1 = u .value1; kind2 = u .kind2; value2 = u .value2; log = u .log; strings = u .strings; base = u .base }
+      → record { rtype = u .rtype; rid = n; operands = u .operands; kind1 = u .kind1; value1 = u .value1; kind2 = u .kind2; value2 = u .value2; log = u .log; strings = u .strings; base = u .base; breaks = u .breaks }
       ≡ withResult k n u
   unfolding withResult withResults
   id-more e = simp (ne-eqb k 46 e)

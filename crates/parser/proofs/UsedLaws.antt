@@ -1,13 +1,16 @@
 -- Laws of what is in use: one record more.
-use Prim.Native.Nat.{ℕ, _+_, _-_, _%_, _<_, _≤_}
+use Prim.Native.Nat.{ℕ, _+_, _-_, _/_, _%_, _<_, _≤_}
 use mathlib.Core.Path.{_≡_, refl, ap, sym, _∙_}
 use mathlib.Core.List.{List}
 use mathlib.Core.Option.{none, some}
 use native.Mathlib.Omega.{arith}
-use borrow.Author.Tests.{eq-eqb, ne-eqb, lt-ltb, le-ltb}
-use lib.Dec.{leb}
+use borrow.Author.Tests.{eq-eqb, ne-eqb, lt-ltb, le-ltb, ltb-true, ltb-false}
+use lib.Dec.{ltb, leb}
 use lib.ListN.{length, take, drop}
 use lib.Seq.{slice, take-add, drop-at, length-take-le}
+use Rattle.spec.specs.Base.{if_then_else_}
+use Rattle.spec.specs.Plain.{firstBreak}
+use Rattle.spec.proofs.Choice.{cases}
 use Rattle.operand.specs.Parts.{parts, isTwo, Fits}
 use Rattle.operand.specs.Log.{recordLength, lengthBy, kept, Laid}
 use Rattle.operand.proofs.LogLaws.{laid-kept}
@@ -55,7 +58,7 @@ module _ (u : Used) where
 module _ (u : Used) (k v log : ℕ) (f : Fits k v) (l : log ≡ u .log + recordLength (parts k v)) where
   -- the first operand
   pub note-first : u .operands ≡ 0
-      → Pushed k v u (record { rtype = u .rtype; rid = u .rid; operands = u .operands + 1; kind1 = k; value1 = v; kind2 = u .kind2; value2 = u .value2; log = log; strings = u .strings; base = u .base })
+      → Pushed k v u (record { rtype = u .rtype; rid = u .rid; operands = u .operands + 1; kind1 = k; value1 = v; kind2 = u .kind2; value2 = u .value2; log = log; strings = u .strings; base = u .base; breaks = u .breaks })
   unfolding notesOf selectorOf noteAs
   note-first e =
       record {
@@ -70,7 +73,7 @@ module _ (u : Used) (k v log : ℕ) (f : Fits k v) (l : log ≡ u .log + recordL
 
   -- the second
   pub note-second : u .operands ≡ 1
-      → Pushed k v u (record { rtype = u .rtype; rid = u .rid; operands = u .operands + 1; kind1 = u .kind1; value1 = u .value1; kind2 = k; value2 = v; log = log; strings = u .strings; base = u .base })
+      → Pushed k v u (record { rtype = u .rtype; rid = u .rid; operands = u .operands + 1; kind1 = u .kind1; value1 = u .value1; kind2 = k; value2 = v; log = log; strings = u .strings; base = u .base; breaks = u .breaks })
   unfolding notesOf selectorOf noteAs
   note-second e =
       record {
@@ -85,7 +88,7 @@ module _ (u : Used) (k v log : ℕ) (f : Fits k v) (l : log ≡ u .log + recordL
 
   -- a later one
   pub note-later : (u .operands ≡ 0 → ⊥) → (u .operands ≡ 1 → ⊥)
-      → Pushed k v u (record { rtype = u .rtype; rid = u .rid; operands = u .operands + 1; kind1 = u .kind1; value1 = u .value1; kind2 = u .kind2; value2 = u .value2; log = log; strings = u .strings; base = u .base })
+      → Pushed k v u (record { rtype = u .rtype; rid = u .rid; operands = u .operands + 1; kind1 = u .kind1; value1 = u .value1; kind2 = u .kind2; value2 = u .value2; log = log; strings = u .strings; base = u .base; breaks = u .breaks })
   unfolding notesOf selectorOf noteAs
   note-later h i =
       record {
@@ -104,12 +107,41 @@ module _ (u : Used) (k v log : ℕ) (f : Fits k v) (l : log ≡ u .log + recordL
 pub fits-text : (v : ℕ) → Fits 40 v
 fits-text v = record { known = refl; small = λ e. let z : _≡_ {A = ℕ} 0 1 = cc in absurd (omega arith) }
 
--- its bytes follow
-pub copied : (size v : ℕ) (u n : Used) → Pushed 40 v u n
-    → Copied size u (record { rtype = n .rtype; rid = n .rid; operands = n .operands; kind1 = n .kind1; value1 = n .value1; kind2 = n .kind2; value2 = n .value2; log = n .log; strings = u .strings + size; base = n .base })
+-- its bytes follow, and what breaks its padding is noted
+pub copied : (size v b x : ℕ) (u n : Used) → Pushed 40 v u n → x ≡ firstBreak (u .breaks) b
+    → Copied size b u (record { rtype = n .rtype; rid = n .rid; operands = n .operands; kind1 = n .kind1; value1 = n .value1; kind2 = n .kind2; value2 = n .value2; log = n .log; strings = u .strings + size; base = n .base; breaks = x })
 unfolding recordLength lengthBy notesOf selectorOf literalOf idRefOf
-copied size v u n p =
-    record { rtype = p .rtype; rid = p .rid; base = p .base; strings = refl; log = p .log; noted = p .noted; fits = p .fits }
+copied size v b x u n p e =
+    record { rtype = p .rtype; rid = p .rid; base = p .base; strings = refl; log = p .log; noted = p .noted; fits = p .fits; breaks = e }
+
+-- THE FIRST THAT BREAKS
+
+-- nothing broke before
+pub first-is : (a b : ℕ) → a ≡ 0 → b ≡ firstBreak a b
+unfolding firstBreak
+first-is a b e = simp (eq-eqb a 0 e)
+
+-- something did
+pub first-stays : (a b : ℕ) → (a ≡ 0 → ⊥) → a ≡ firstBreak a b
+unfolding firstBreak
+first-stays a b h = simp (ne-eqb a 0 h)
+
+-- EMBEDDED OPCODES
+
+-- a record more, whatever breaks it
+pub pushed-breaks : (k v b : ℕ) (u n : Used) → Pushed k v u n
+    → Pushed k v u (record { rtype = n .rtype; rid = n .rid; operands = n .operands; kind1 = n .kind1; value1 = n .value1; kind2 = n .kind2; value2 = n .value2; log = n .log; strings = n .strings; base = n .base; breaks = b })
+unfolding notesOf selectorOf
+pushed-breaks k v b u n p =
+    record { rtype = p .rtype; rid = p .rid; base = p .base; strings = p .strings; log = p .log; noted = p .noted; fits = p .fits }
+
+-- a word has something above its low sixteen bits
+pub opcode-breaks : (w at : ℕ) → (w / 65536 ≡ 0 → ⊥) → at ≡ (if ltb 65535 w then at else 0)
+opcode-breaks w at h = let z : 65535 < w = cases (ltb 65535 w) (λ e. ltb-true 65535 w e) (λ e. absurd (h (omega (arith, ltb-false 65535 w e)))) in simp (lt-ltb 65535 w z)
+
+-- it has nothing there
+pub opcode-low : (w at : ℕ) → w / 65536 ≡ 0 → 0 ≡ (if ltb 65535 w then at else 0)
+opcode-low w at h = simp (le-ltb 65535 w (omega arith))
 
 -- the bytes from a position on, as a part of all of them
 front-slice : (at n : ℕ) (s : List ℕ) → at ≤ length s → take n (drop at s) ≡ slice at (at + n) s

@@ -26,8 +26,8 @@ use Rattle.grammar.specs.Find.{placeFound, parametersFound, parametersThen, par
 use Rattle.parser.specs.declared.used.Used.{Used}
 use Rattle.parser.specs.declared.used.Parsed.{Parsed}
 use Rattle.parser.specs.declared.used.Parsed.the-variants.{Got, Refused}
-use Rattle.parser.specs.Parse.{Went, Few, Held, Accepted, Parses, prefix, isSingle, KnownAs, orNone, bitParameters, parametersAre, ifSet, parametersAt}
-use Rattle.parser.proofs.Walk.{prefix-prefix, prefix-nil, cons-prefix, each-cons, went-nowhere, went-then, held-then, held-nothing, seq, first-done, first-bad}
+use Rattle.parser.specs.Parse.{Went, Few, Held, Spotted, Accepted, Parses, prefix, isSingle, KnownAs, orNone, bitParameters, parametersAre, ifSet, parametersAt}
+use Rattle.parser.proofs.Walk.{prefix-prefix, prefix-nil, cons-prefix, each-cons, went-nowhere, went-then, held-then, held-nothing, spotted-nothing, spotted-then, seq, first-done, first-bad}
 
 -- SOME KINDS, THEN OTHERS
 
@@ -69,6 +69,7 @@ pub record Running (s : List ℕ) (x : Read (List Operand)) (log₀ strs₀ log 
   pub whole : x ≡ prefix acc (rest (readerOf s d))
   pub few : Few s d c
   pub went : Went d₀ d 0
+  pub spotted : Spotted s d₀ d c₀ c acc
 
 -- nothing yet
 pub begins : (s : List ℕ) (log strs : List ℕ) (d : Decoder) (c : Used) (rest : Parse (List Operand)) → Few s d c
@@ -79,6 +80,7 @@ begins s log strs d c rest f = record {
   whole = sym (prefix-nil _);
   few = f;
   went = went-nowhere d;
+  spotted = spotted-nothing s d c;
 }
 
 module _ {s : List ℕ} {x : Read (List Operand)} {log₀ strs₀ log strs : List ℕ} {c₀ : Used} {d₀ d : Decoder} {c : Used} {rest : Parse (List Operand)}
@@ -92,6 +94,7 @@ module _ {s : List ℕ} {x : Read (List Operand)} {log₀ strs₀ log strs : Lis
     held = r .held;
     few = r .few;
     went = r .went;
+    spotted = r .spotted;
   }
 
   module _ (y : Read (List Operand)) (b : Parse (List Operand)) (e : rest (readerOf s d) ≡ after y (λ os q. prefix os (b q))) where
@@ -104,13 +107,14 @@ module _ {s : List ℕ} {x : Read (List Operand)} {log₀ strs₀ log strs : Lis
       whole = r .whole ∙ ap (prefix (r .acc)) (first-done _ y b e (t .operands) _ (t .read)) ∙ prefix-prefix (r .acc) (t .operands) _;
       few = t .few;
       went = went-then (r .went) (t .went);
+      spotted = spotted-then (r .spotted) (t .spotted);
     }
 
     -- they are refused
     pub stops : (log₁ strs₁ : List ℕ) (m : ℕ) (v : Parsed) (z : Refusal) (f : Decoder)
         → Parses s d m y log strs log₁ strs₁ c v → v ≡ Refused z f → Parses s d₀ 0 x log₀ strs₀ log₁ strs₁ c₀ v
     stops log₁ strs₁ m v z f h q =
-        seq (r .held) s m log₁ strs₁ x _ (r .went) (r .whole) v (first-bad _ y b e s d m log strs log₁ strs₁ c v z f h q)
+        seq (r .held) s m log₁ strs₁ x _ (r .went) (r .spotted) (r .whole) v (first-bad _ y b e s d m log strs log₁ strs₁ c v z f h q)
 
 -- no kinds left
 pub each-none : (g : Grammar) (ks : List ℕ) (r : Reader) → ks ≡ [] → readEach g ks r ≡ got [] r

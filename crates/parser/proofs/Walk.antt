@@ -4,10 +4,13 @@ use mathlib.Core.Path.{_≡_, refl, ap, sym, _∙_}
 use mathlib.Core.List.{List, [], _∷_, _++_, append-assoc}
 use native.Mathlib.Omega.{arith}
 use native.Mathlib.Nat.{add-zero}
-use lib.ListN.{length, length-append}
+use lib.ListN.{length, drop, length-append}
+use lib.Seq.{drop-drop}
 use Rattle.spec.specs.declared.Limit.the-variants.{Words}
 use Rattle.spec.specs.declared.Refusal.{Refusal}
-use Rattle.spec.specs.Records.{Operand, operandLog, operandsLog, operandString, operandsStrings}
+use Rattle.spec.specs.Records.{Operand, operandSize, operandsSize, operandLog, operandsLog, operandString, operandsStrings}
+use Rattle.spec.specs.Plain.{firstBreak, operandBreak, operandsBreak}
+use Rattle.spec.proofs.Breaks.{first-after, first-last, breaks-append}
 use Rattle.spec.specs.Reader.{Reader, Read, got, refused, Parse, after, give}
 use Rattle.spec.specs.Grammar.{Grammar}
 use Rattle.spec.specs.Match.{readOne, readEach}
@@ -18,9 +21,15 @@ use Rattle.decoder.specs.Answer.{readerOf}
 use Rattle.parser.specs.declared.used.Used.{Used}
 use Rattle.parser.specs.declared.used.Parsed.{Parsed}
 use Rattle.parser.specs.declared.used.Parsed.the-variants.{Got, Refused}
-use Rattle.parser.specs.Parse.{Notes, notesOf, notes, note, FirstFits, Step, leftOf, Went, Few, Held, Accepted, Parses, prefix}
+use Rattle.parser.specs.Parse.{Notes, notesOf, notes, note, FirstFits, Step, leftOf, Went, Few, Held, Spotted, Accepted, Parses, prefix}
 
 -- RUNS OF OPERANDS
+
+-- the words of one run after another
+sizes-append : (a b : List Operand) → operandsSize (a ++ b) ≡ operandsSize a + operandsSize b
+unfolding operandsSize
+sizes-append [] b = omega arith
+sizes-append (o ∷ a) b = omega (arith, sizes-append a b)
 
 -- the strings of one run after another
 pub strings-append : (a b : List Operand) → operandsStrings (a ++ b) ≡ operandsStrings a ++ operandsStrings b
@@ -147,6 +156,37 @@ module _ {log₀ strs₀ log strs log₁ strs₁ : List ℕ} {c n m : Used} {a b
     strings-laid = laid-as refl (sym (strings-append a b)) (laid-append (h .strings-laid) (laid-as (h .nstrings) refl (g .strings-laid)));
   }
 
+-- WHAT BREAKS
+
+-- one operand, of so many words
+pub spotted-one : (s : List ℕ) (d e : Decoder) (u n : Used) (o : Operand) → e .offset ≡ d .offset + 4 * operandSize o
+    → n .breaks ≡ firstBreak (u .breaks) (operandBreak (d .offset) o (drop (d .offset) s)) → Spotted s d e u n (o ∷ [])
+unfolding operandsSize operandsBreak
+spotted-one s d e u n o p q = record { size = omega (arith, p); breaks = q ∙ ap (firstBreak (u .breaks)) (sym (first-last _)) }
+
+-- nowhere
+pub spotted-nothing : (s : List ℕ) (d : Decoder) (u : Used) → Spotted s d d u u []
+unfolding operandsSize operandsBreak
+spotted-nothing s d u = record { size = omega arith; breaks = sym (first-last (u .breaks)) }
+
+-- one run after another
+pub spotted-then : {s : List ℕ} {d e f : Decoder} {u n m : Used} {a b : List Operand} → Spotted s d e u n a → Spotted s e f n m b
+    → Spotted s d f u m (a ++ b)
+spotted-then {s} {d} {e} {f} {u} {n} {m} {a} {b} p q =
+    let k : ℕ = 4 * operandsSize a in
+    let at : e .offset ≡ d .offset + k = p .size in
+    let rest : operandsBreak (e .offset) b (drop (e .offset) s) ≡ operandsBreak (d .offset + k) b (drop k (drop (d .offset) s)) =
+    ap (λ (i : ℕ). operandsBreak i b (drop i s)) at
+    ∙ ap (operandsBreak (d .offset + k) b) (sym (drop-drop k (d .offset) s)) in
+    record {
+      size = omega (arith, q .size, at, sizes-append a b);
+      breaks =
+          q .breaks ∙ ap (λ (i : ℕ). firstBreak i (operandsBreak (e .offset) b (drop (e .offset) s))) (p .breaks)
+          ∙ first-after (u .breaks) (operandsBreak (d .offset) a (drop (d .offset) s)) _
+          ∙ ap (λ (i : ℕ). firstBreak (u .breaks) (firstBreak (operandsBreak (d .offset) a (drop (d .offset) s)) i)) rest
+          ∙ ap (firstBreak (u .breaks)) (sym (breaks-append (d .offset) a b (drop (d .offset) s)));
+    }
+
 -- no operands
 pub held-nothing : (log strs : List ℕ) (c : Used) → Held log strs log strs c c []
 unfolding operandsLog operandsStrings notes
@@ -163,17 +203,18 @@ held-nothing log strs c = record {
 
 module _ {log₀ strs₀ log strs : List ℕ} {c n : Used} {a : List Operand} (h : Held log₀ strs₀ log strs c n a) where
   -- a read after what is held
-  pub seq : (s : List ℕ) {d e₁ : Decoder} {i : ℕ} (j : ℕ) (log₁ strs₁ : List ℕ) (x z : Read (List Operand)) → Went d e₁ i → x ≡ prefix a z
-      → (v : Parsed) → Parses s e₁ j z log strs log₁ strs₁ n v → Parses s d i x log₀ strs₀ log₁ strs₁ c v
+  pub seq : (s : List ℕ) {d e₁ : Decoder} {i : ℕ} (j : ℕ) (log₁ strs₁ : List ℕ) (x z : Read (List Operand)) → Went d e₁ i
+      → Spotted s d e₁ c n a → x ≡ prefix a z → (v : Parsed) → Parses s e₁ j z log strs log₁ strs₁ n v → Parses s d i x log₀ strs₀ log₁ strs₁ c v
   unfolding Parses prefix
-  seq s j log₁ strs₁ x z w e (Got d p) r = record {
+  seq s j log₁ strs₁ x z w b e (Got d p) r = record {
     operands = a ++ r .operands;
     read = e ∙ ap (prefix a) (r .read);
     held = held-then h (r .held);
     few = r .few;
     went = went-then w (r .went);
+    spotted = spotted-then b (r .spotted);
   }
-  seq s j log₁ strs₁ x z w e (Refused y d) r = e ∙ ap (prefix a) r
+  seq s j log₁ strs₁ x z w b e (Refused y d) r = e ∙ ap (prefix a) r
 
 -- ANSWERS
 
@@ -196,9 +237,9 @@ deny s d m x l₀ t₀ l t c v y e q h = rw q h
 
 -- operands
 pub accept : (s : List ℕ) (d : Decoder) (m : ℕ) (x : Read (List Operand)) (l t l₁ t₁ : List ℕ) (c n : Used) (e : Decoder) (os : List Operand)
-    → x ≡ got os (readerOf s e) → Held l t l₁ t₁ c n os → Few s e n → Went d e m → Parses s d m x l t l₁ t₁ c (Got e n)
+    → x ≡ got os (readerOf s e) → Held l t l₁ t₁ c n os → Few s e n → Went d e m → Spotted s d e c n os → Parses s d m x l t l₁ t₁ c (Got e n)
 unfolding Parses
-accept s d m x l t l₁ t₁ c n e os q h f w = record { operands = os; read = q; held = h; few = f; went = w }
+accept s d m x l t l₁ t₁ c n e os q h f w b = record { operands = os; read = q; held = h; few = f; went = w; spotted = b }
 
 -- ONE READ, THEN ANOTHER
 

@@ -6,15 +6,15 @@ use mathlib.Core.List.{List}
 use mathlib.Core.Option.{some}
 use lib.ListN.{length}
 use Rattle.spec.specs.declared.Limit.the-variants.{Unlimited, Words}
-use Rattle.spec.specs.Base.{every}
 use Rattle.spec.specs.Grammar.{grammarOf}
 use Rattle.spec.specs.Records.{Instr, Entry}
 use Rattle.spec.specs.Reader.{Read, readerAt}
 use Rattle.spec.specs.Match.{Seen, nothingSeen, readRow, readBody}
+use Rattle.grammar.specs.Find.{rowGood}
 use Rattle.decoder.specs.declared.Decoder.{Decoder}
 use Rattle.decoder.specs.Answer.{decoder, readerOf}
 use Rattle.parser.specs.declared.used.Frame.{Frame}
-use Rattle.parser.specs.Parse.{leftOf, isOperand, slotsAt}
+use Rattle.parser.specs.Parse.{leftOf, slotsAt}
 
 -- an instruction whose first word stands in the module, and a row's operands in the grammar
 pub record Framed (s g : List ℕ) (f : Frame) : Type 0 where
@@ -22,7 +22,7 @@ pub record Framed (s g : List ℕ) (f : Frame) : Type 0 where
   pub inside : f .at + 4 ≤ length s
   pub moves : 1 ≤ f .words
   pub place-in : f .place ≤ length g
-  pub operands : every isOperand (slotsAt g (f .place)) ≡ true
+  pub operands : rowGood (f .opcode) (slotsAt g (f .place)) ≡ true
 
 -- the decoder before its operands
 abbrev pub startOf : Frame → Decoder

@@ -6,14 +6,15 @@ use mathlib.Core.List.{List}
 use lib.ListN.{length}
 use Rattle.spec.specs.declared.Limit.the-variants.{Unlimited}
 use Rattle.spec.specs.declared.Refusal.{Refusal}
-use Rattle.spec.specs.Base.{every}
 use Rattle.spec.specs.Records.{Instr, Entry, operandsLog, operandsStrings}
 use Rattle.spec.specs.Reader.{Reader, Read, got, refused, refusal, readerAt}
+use Rattle.spec.specs.Plain.{firstBreak, instrBreak}
 use Rattle.operand.specs.Log.{Laid}
+use Rattle.grammar.specs.Find.{rowGood}
 use Rattle.decoder.specs.declared.Decoder.{Decoder}
 use Rattle.decoder.specs.Answer.{limitReached}
 use Rattle.tracker.specs.Track.{idIs, FirstFit, literalOf, Literals}
-use Rattle.parser.specs.Parse.{wordIs, firstOf, secondOf, isOperand, slotsAt}
+use Rattle.parser.specs.Parse.{wordIs, firstOf, secondOf, slotsAt}
 use Rattle.parser.specs.Body.{bodyRead}
 use Rattle.parser.specs.declared.used.Used.{Used}
 use Rattle.parser.specs.declared.used.Frame.{Frame}
@@ -43,6 +44,7 @@ pub record Handed (s : List ℕ) (at : ℕ) (x : Read Instr) (log₀ strs₀ log
   pub few-strings : u .base + r .strings ≤ at + 4 * r .words
   pub log-laid : Laid log₀ (u .log) (operandsLog (u .base + u .strings) (instr .operands)) log
   pub strings-laid : Laid strs₀ (u .strings) (operandsStrings (instr .operands)) strs
+  pub breaks : r .breaks ≡ firstBreak (u .breaks) (instrBreak s instr)
 
 -- what is handed on of an instruction whose row was read
 pub record Ends (f : Frame) (n : Used) (r : Decoded) : Type 0 where
@@ -56,6 +58,7 @@ pub record Ends (f : Frame) (n : Used) (r : Decoded) : Type 0 where
   pub second : r .second ≡ secondOf n
   pub log : r .log ≡ n .log
   pub strings : r .strings ≡ n .strings
+  pub breaks : r .breaks ≡ n .breaks
 
 -- its answer: 7 where words are left over
 unfoldable pub Ended : Frame → Decoder → Used → InstRead → Type 0
@@ -90,7 +93,7 @@ ShapeIs f (Refused y) = Unit
 -- an instruction was read, by a row whose operands start at a place of the grammar
 pub record ByRow (g : List ℕ) (types : List Entry) (s : List ℕ) (at : ℕ) (x : Read Instr) (r : Decoded) : Type 0 where
   pub inside : r .place ≤ length g
-  pub operands : every isOperand (slotsAt g (r .place)) ≡ true
+  pub operands : rowGood (r .opcode) (slotsAt g (r .place)) ≡ true
   pub body : x ≡ bodyRead g types s (frameOf at r)
 
 -- the row of an instruction that was read

@@ -1,7 +1,7 @@
 -- The parser's answers, and the stores after those that are good, as what the reader of `spec` comes to.
 use Prim.Native.Nat.{ℕ, _+_, _*_, _-_, _%_, _≤_}
 use mathlib.Core.Path.{_≡_}
-use mathlib.Core.Bool.{Bool, false, _&&_, _||_}
+use mathlib.Core.Bool.{Bool, true, false, _&&_, _||_}
 use mathlib.Core.List.{List, [], _∷_, _++_}
 use mathlib.Core.Option.{Option, none, some}
 use lib.Dec.{eqb, ltb}
@@ -12,11 +12,12 @@ use Rattle.spec.specs.Base.{if_then_else_, within}
 use Rattle.spec.specs.Words.{bitsOf}
 use Rattle.spec.specs.Kinds.{isMask, isResult, mayBeOperand, mayBeParameter, mayEmbed}
 use Rattle.spec.specs.Grammar.{Grammar, Enumerant, Slot, slot, grammarOf, listed, parametersFor, parametersOf, slotsOf, items}
-use Rattle.spec.specs.Records.{narrow, operandsLog, operandsStrings, Entry}
+use Rattle.spec.specs.Records.{narrow, operandsSize, operandsLog, operandsStrings, Entry}
 use Rattle.spec.specs.Records as records
 use Rattle.spec.specs.Reader.{Read, got, refused, Parse, _>>=_, _into_, give, readWord}
+use Rattle.spec.specs.Plain.{firstBreak, operandsBreak, inOrder}
 use Rattle.spec.specs.Types.{literalInt}
-use Rattle.spec.specs.Match.{Seen, selector, known, readEnumerant, literalKindOf, typeOf, readLiteralAs, readOperand, readEmbedded}
+use Rattle.spec.specs.Match.{Seen, nothingSeen, selector, known, readEnumerant, literalKindOf, typeOf, readLiteralAs, readOperand, readEmbedded}
 use Rattle.operand.specs.declared.Parts.{Parts}
 use Rattle.operand.specs.Parts.{parts}
 use Rattle.operand.specs.Log.{recordLength, Laid}
@@ -97,8 +98,8 @@ pub record Pushed (k v : ℕ) (u r : Used) : Type 0 where
   pub noted : notesOf r ≡ noteAs (literalOf (parts k v)) (idRefOf (parts k v)) (notesOf u)
   pub fits : FirstFits u → FirstFits r
 
--- the same results, a string's record more, and so many bytes
-pub record Copied (size : ℕ) (u r : Used) : Type 0 where
+-- the same results, a string's record more, so many bytes, and what breaks its padding
+pub record Copied (size b : ℕ) (u r : Used) : Type 0 where
   pub rtype : r .rtype ≡ u .rtype
   pub rid : r .rid ≡ u .rid
   pub base : r .base ≡ u .base
@@ -106,6 +107,7 @@ pub record Copied (size : ℕ) (u r : Used) : Type 0 where
   pub log : r .log ≡ u .log + 9
   pub noted : notesOf r ≡ noteAs none none (notesOf u)
   pub fits : FirstFits u → FirstFits r
+  pub breaks : r .breaks ≡ firstBreak (u .breaks) b
 
 -- READS AND STORES
 
@@ -148,6 +150,11 @@ pub record Held (log₀ strs₀ log strs : List ℕ) (u n : Used) (os : List rec
   pub log-laid : Laid log₀ (u .log) (operandsLog (u .base + u .strings) os) log
   pub strings-laid : Laid strs₀ (u .strings) (operandsStrings os) strs
 
+-- operands stand one after the other from a decoder to a later one, and what breaks is what broke before them, else what breaks them
+pub record Spotted (s : List ℕ) (d e : Decoder) (u n : Used) (os : List records.Operand) : Type 0 where
+  pub size : e .offset ≡ d .offset + 4 * operandsSize os
+  pub breaks : n .breaks ≡ firstBreak (u .breaks) (operandsBreak (d .offset) os (drop (d .offset) s))
+
 -- operands were read, and they are held
 pub record Accepted (s : List ℕ) (d : Decoder) (m : ℕ) (x : Read (List records.Operand)) (log₀ strs₀ log strs : List ℕ) (u : Used) (e : Decoder) (n : Used) : Type 0 where
   pub operands : List records.Operand
@@ -155,6 +162,7 @@ pub record Accepted (s : List ℕ) (d : Decoder) (m : ℕ) (x : Read (List recor
   pub held : Held log₀ strs₀ log strs u n operands
   pub few : Few s e n
   pub went : Went d e m
+  pub spotted : Spotted s d e u n operands
 
 -- the answer to a read that comes to x, so many bytes on or more, and the stores after it where it is good
 unfoldable pub Parses : List ℕ → Decoder → ℕ → Read (List records.Operand) → List ℕ → List ℕ → List ℕ → List ℕ → Used → Parsed → Type 0
@@ -296,13 +304,37 @@ pub record RowRead (s : List ℕ) (d : Decoder) (m : ℕ) (x : Read Seen) (log�
   pub walked : Walked log₀ strs₀ log strs u n seen
   pub few : Few s e n
   pub went : Went d e m
+  pub spotted : Spotted s d e u n (inOrder (seen .resultType) (seen .resultId) (seen .operands))
 
 -- the answer to a walk over a row that comes to x, and the stores after it where it is good
 unfoldable pub Walks : List ℕ → Decoder → ℕ → Read Seen → List ℕ → List ℕ → List ℕ → List ℕ → Used → Parsed → Type 0
 Walks s d m x log₀ strs₀ log strs u (Got e n) = RowRead s d m x log₀ strs₀ log strs u e n
 Walks s d m x log₀ strs₀ log strs u (Refused y e) = x ≡ refused y (readerOf s e)
 
--- the answer to the read of one operand of a row, a word or more, whatever the walk has seen so far
-unfoldable pub SlotWalks : List ℕ → Decoder → (Seen → Read Seen) → List ℕ → List ℕ → List ℕ → List ℕ → Used → Parsed → Type 0
-SlotWalks s d f log strs log₁ strs₁ u v =
-    (log₀ strs₀ : List ℕ) (u₀ : Used) (x : Seen) → Walked log₀ strs₀ log strs u₀ u x → Walks s d 4 (f x) log₀ strs₀ log₁ strs₁ u₀ v
+-- where the kind is a result's, that result is free: nothing was seen before a result type, and no result id or operand before a result id
+abbrev pub ResultFree : ℕ → Seen → Type 0
+ResultFree k y =
+    (eqb k 46 ≡ true → y ≡ nothingSeen) × (eqb k 47 ≡ true → (y .resultId ≡ none) × (y .operands ≡ []))
+
+-- one operand of a row was read, a word or more, after what was seen: what stands there then follows on, where results come first
+pub record SlotRead (s : List ℕ) (d : Decoder) (k : ℕ) (y : Seen) (x : Read Seen) (log₀ strs₀ log strs : List ℕ) (u₀ u : Used) (e : Decoder) (n : Used) : Type 0 where
+  pub seen : Seen
+  pub read : x ≡ got seen (readerOf s e)
+  pub walked : Walked log₀ strs₀ log strs u₀ n seen
+  pub few : Few s e n
+  pub went : Went d e 4
+  pub more : List records.Operand
+  pub spotted : Spotted s d e u n more
+  pub adds : ResultFree k y
+      → inOrder (seen .resultType) (seen .resultId) (seen .operands) ≡ inOrder (y .resultType) (y .resultId) (y .operands) ++ more
+  pub others : eqb k 46 ≡ true → (seen .resultId ≡ y .resultId) × (seen .operands ≡ y .operands)
+
+-- the answer to the read of one operand of a row, after what was seen
+unfoldable pub SlotWalk : List ℕ → Decoder → ℕ → Seen → Read Seen → List ℕ → List ℕ → List ℕ → List ℕ → Used → Used → Parsed → Type 0
+SlotWalk s d k y x log₀ strs₀ log strs u₀ u (Got e n) = SlotRead s d k y x log₀ strs₀ log strs u₀ u e n
+SlotWalk s d k y x log₀ strs₀ log strs u₀ u (Refused z e) = x ≡ refused z (readerOf s e)
+
+-- the same, whatever the walk has seen so far
+unfoldable pub SlotWalks : List ℕ → Decoder → ℕ → (Seen → Read Seen) → List ℕ → List ℕ → List ℕ → List ℕ → Used → Parsed → Type 0
+SlotWalks s d k f log strs log₁ strs₁ u v =
+    (log₀ strs₀ : List ℕ) (u₀ : Used) (x : Seen) → Walked log₀ strs₀ log strs u₀ u x → SlotWalk s d k x (f x) log₀ strs₀ log₁ strs₁ u₀ u v

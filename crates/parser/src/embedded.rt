@@ -1,17 +1,22 @@
 // Embedded operations: the row of an operation inside OpSpecConstantOp, each operand once.
 ghost use mathlib.Core.Path.{_≡_};
 ghost use mathlib.Core.Bool.{true};
-ghost use Prim.Native.Nat.{_≤_};
+ghost use Prim.Native.Nat.{_%_, _≤_};
+ghost use lib.Dec.{ltb};
 ghost use lib.ListN.{length};
-ghost use Rattle.spec.specs.Base.{every};
+ghost use Rattle.spec.specs.Base.{if_then_else_, every};
+ghost use Rattle.spec.specs.Plain.{firstBreak};
 ghost use Rattle.spec.specs.Grammar.{grammarOf};
 ghost use Rattle.spec.specs.Match.{embeds, readOnce, readEmbedded};
 ghost use Rattle.decoder.specs.Answer.{readerOf};
 ghost use Rattle.grammar.specs.Index.{Indexed};
-ghost use Rattle.parser.specs.Parse.{Few, Parses, isOperand, isInner, onceAlone, slotsAt};
+ghost use Rattle.operand.specs.Parts.{parts};
+ghost use Rattle.operand.specs.Log.{recordOf, Laid};
+ghost use Rattle.parser.specs.Parse.{Pushed, Few, Parses, isOperand, isInner, onceAlone, slotsAt};
 use crate::operands::parse_operand;
 use crate::used::Parsed;
 use crate::used::Used;
+use crate::used::first_break;
 use crate::used::push;
 use crate::used::refused;
 use decoder::Decoder;
@@ -95,6 +100,29 @@ fn parse_once(
     Parsed::Got(d, u)
 }
 
+// What breaks the word of an embedded opcode: its offset, where it has something above its low sixteen bits.
+fn opcode_break(word: u32, at: usize) -> usize
+    ensures { λ r. ⌜ r ≡ (if ltb 65535 word then at else 0) ⌝ }
+{
+    if word / 65536 != 0 {
+        return at;
+    }
+    0
+}
+
+// The record of an embedded opcode, the low sixteen bits of a word that stands at an offset, kept where it fits; and what breaks it.
+fn push_opcode(log: &mut [u8], word: u32, at: usize, u: Used) -> Used
+    requires { ⌜ (u .log ≤ 1000000000) × (u .operands ≤ 1000000000) ⌝ }
+    ensures { λ r. ⌜ Pushed 39 (word % 65536) u r ⌝ }
+    ensures { λ r. ⌜ Laid (now (log .entry)) (u .log) (recordOf (parts 39 (word % 65536))) (now (log .exit)) ⌝ }
+    ensures { λ r. ⌜ r .breaks ≡ firstBreak (u .breaks) (if ltb 65535 word then at else 0) ⌝ }
+{
+    let before = u.breaks;
+    let mut n = push(log, kinds::EMBEDDED, (word % 65536) as u64, u);
+    n.breaks = first_break(before, opcode_break(word, at));
+    n
+}
+
 // An operation inside OpSpecConstantOp: 13 where it has no row, 14 where its row may not be embedded.
 pub fn parse_spec_constant_op(
     d: Decoder,
@@ -109,6 +137,7 @@ pub fn parse_spec_constant_op(
     requires { ⌜ Few (now s) d u ⌝ }
     ensures { λ r. ⌜ Parses (now (s .entry)) d 4 (readEmbedded (grammarOf (now (g .entry))) (readerOf (now (s .entry)) d)) (now (log .entry)) (now (strings .entry)) (now (log .exit)) (now (strings .exit)) u r ⌝ }
 {
+    let at = d.offset;
     let w = d.word(s);
     match w {
         WordRead::Refused(x, e) => Parsed::Refused(x, e),
@@ -121,7 +150,7 @@ pub fn parse_spec_constant_op(
             if !may_embed(g, p) {
                 return refused(refusals::EMBEDDED_ROW, e.offset, e);
             }
-            let n = push(log, kinds::EMBEDDED, opcode as u64, u);
+            let n = push_opcode(log, v, at, u);
             parse_once(e, s, g, index, p, log, strings, n)
         }
     }

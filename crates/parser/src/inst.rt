@@ -31,7 +31,7 @@ use tracker::Id;
 use tracker::TypeTracker;
 
 // An instruction that was read: its opcode, results and word count, where its row's operands start, how many operands, the first two,
-// and where log and strings go on after its records.
+// where log and strings go on after its records, and the lowest offset that breaks it, or 0.
 pub struct Decoded {
     pub opcode: u16,
     pub words: u16,
@@ -43,6 +43,7 @@ pub struct Decoded {
     pub second: Parts,
     pub log: usize,
     pub strings: usize,
+    pub breaks: usize,
 }
 
 // An instruction, or the first refusal in it.
@@ -83,6 +84,7 @@ fn finished(frame: Frame, e: Decoder, u: Used) -> InstRead
     };
     let log = u.log;
     let strings = u.strings;
+    let breaks = u.breaks;
     if e.limit_reached() {
         return InstRead::Got(Decoded {
             opcode,
@@ -95,6 +97,7 @@ fn finished(frame: Frame, e: Decoder, u: Used) -> InstRead
             second,
             log,
             strings,
+            breaks,
         });
     }
     no_inst(refusals::OPERAND_EXCEEDED, e.offset, 0)

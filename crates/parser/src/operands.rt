@@ -112,7 +112,7 @@ pub fn read_one(
                 TextRead::Refused(x, e) => Parsed::Refused(x, e),
                 TextRead::Got(x) => {
                     let e = x.next;
-                    let n = push_text(log, strings, s, x.start, x.length, u);
+                    let n = push_text(log, strings, s, x.start, x.length, x.breaks, u);
                     Parsed::Got(e, n)
                 }
             }

@@ -50,6 +50,7 @@ pub fn with_result(u: Used, kind: u8, id: u64) -> Used
     let log = u.log;
     let strings = u.strings;
     let base = u.base;
+    let breaks = u.breaks;
     if kind == kinds::RESULT_TYPE {
         return Used {
             rtype: id,
@@ -62,6 +63,7 @@ pub fn with_result(u: Used, kind: u8, id: u64) -> Used
             log,
             strings,
             base,
+            breaks,
         };
     }
     Used {
@@ -75,6 +77,7 @@ pub fn with_result(u: Used, kind: u8, id: u64) -> Used
         log,
         strings,
         base,
+        breaks,
     }
 }
 
@@ -131,7 +134,7 @@ fn parse_slot(
 ) -> Parsed
     requires { ⌜ Indexed (now g) (now index) ⌝ }
     requires { ⌜ Few (now s) d u × (mayBeOperand kind ≡ true) × (isLiteral literal ≡ true) ⌝ }
-    ensures { λ r. ⌜ ((types : List Entry) → kindIs literal ≡ literalFor types u kind → SlotWalks (now (s .entry)) d (λ x. readSlot (grammarOf (now (g .entry))) types x kind (readerOf (now (s .entry)) d)) (now (log .entry)) (now (strings .entry)) (now (log .exit)) (now (strings .exit)) u r) ⌝ }
+    ensures { λ r. ⌜ ((types : List Entry) → kindIs literal ≡ literalFor types u kind → SlotWalks (now (s .entry)) d kind (λ x. readSlot (grammarOf (now (g .entry))) types x kind (readerOf (now (s .entry)) d)) (now (log .entry)) (now (strings .entry)) (now (log .exit)) (now (strings .exit)) u r) ⌝ }
 {
     if grammar::is_result(kind) {
         let w = d.word(s);

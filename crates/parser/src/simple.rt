@@ -75,13 +75,16 @@ fn next_word(d: Decoder, s: &[u8]) -> Next
     Next { word, after }
 }
 
-// What was parsed, taken where it is good.
-fn taken(r: Parsed) -> Simple
+// What was parsed, taken where it is good and breaks no more than was broken before: so the short walk has no new break to carry.
+fn taken(r: Parsed, breaks: usize) -> Simple
     ensures { λ x. ⌜ IfTaken (λ v. r ≡ v) x ⌝ }
 {
     let Parsed::Got(e, n) = r else {
         return Simple::Pass;
     };
+    if n.breaks != breaks {
+        return Simple::Pass;
+    }
     let limit = e.limit;
     let Limit::Words(left) = limit else {
         return Simple::Pass;
@@ -115,8 +118,8 @@ fn simple_text(d: Decoder, s: &[u8], log: &mut [u8], strings: &mut [u8], u: Used
         return Simple::Pass;
     };
     let e = x.next;
-    let n = push_text(log, strings, s, x.start, x.length, u);
-    taken(Parsed::Got(e, n))
+    let n = push_text(log, strings, s, x.start, x.length, x.breaks, u);
+    taken(Parsed::Got(e, n), u.breaks)
 }
 
 // A literal of a kind, where that is one word.
@@ -165,7 +168,10 @@ fn simple_value(
     let ParameterAt::Parameter(_) = x else {
         return Simple::Got(e, n);
     };
-    taken(parse_parameters(e, s, g, index, place, log, strings, n))
+    taken(
+        parse_parameters(e, s, g, index, place, log, strings, n),
+        u.breaks,
+    )
 }
 
 // An operand of a row. Types, hints and tracker are handed down to its last line, so that only a literal asks for the kind that it is of.
@@ -187,7 +193,7 @@ fn simple_slot(
     requires { ⌜ There (now s) d ⌝ }
     requires { ⌜ 3 * tracker .count ≤ length (now types) ⌝ }
     requires { ⌜ Hinted tracker (now types) (now hints) ⌝ }
-    ensures { λ r. ⌜ IfTaken (SlotWalks (now (s .entry)) d (λ x. readSlot (grammarOf (now (g .entry))) (entriesOf (tracker .count) (now (types .entry))) x kind (readerOf (now (s .entry)) d)) (now (log .entry)) (now (strings .entry)) (now (log .exit)) (now (strings .exit)) u) r ⌝ }
+    ensures { λ r. ⌜ IfTaken (SlotWalks (now (s .entry)) d kind (λ x. readSlot (grammarOf (now (g .entry))) (entriesOf (tracker .count) (now (types .entry))) x kind (readerOf (now (s .entry)) d)) (now (log .entry)) (now (strings .entry)) (now (log .exit)) (now (strings .exit)) u) r ⌝ }
 {
     if grammar::is_result(kind) {
         let x = next_word(d, s);

@@ -4,6 +4,7 @@ ghost use mathlib.Core.Option.{some};
 ghost use Prim.Native.Nat.{_+_, _*_, _≤_};
 ghost use lib.ListN.{length};
 ghost use lib.Seq.{slice};
+ghost use Rattle.spec.specs.Plain.{firstBreak};
 ghost use Rattle.spec.specs.Reader.{refusal};
 ghost use Rattle.operand.specs.Parts.{parts, Fits};
 ghost use Rattle.operand.specs.Log.{recordOf, recordLength, Laid};
@@ -25,8 +26,9 @@ pub struct Frame {
 }
 
 // The results and the operands of an instruction so far: how many operands, kind and value of the first and of the second, how much of
-// the operand log and of the string bytes is in use, and how many string bytes there are before those of the store. A result that may be
-// missing is 2^32 and a word where it is there, else 0; an operand that is missing is of kind 0.
+// the operand log and of the string bytes is in use, how many string bytes there are before those of the store, and the first offset
+// that breaks an operand, or 0. A result that may be missing is 2^32 and a word where it is there, else 0; an operand that is missing is
+// of kind 0.
 pub struct Used {
     pub rtype: u64,
     pub rid: u64,
@@ -38,6 +40,7 @@ pub struct Used {
     pub log: usize,
     pub strings: usize,
     pub base: usize,
+    pub breaks: usize,
 }
 
 // Operands that were read, or a refusal; each with the decoder after it.
@@ -46,9 +49,10 @@ pub enum Parsed {
     Refused(Refusal, Decoder),
 }
 
-// What is in use where an instruction begins, from these places of log and strings on, with so many string bytes before those of the store.
-pub fn unused(log: usize, strings: usize, base: usize) -> Used
-    ensures { λ r. ⌜ r ≡ unused «log» «strings» base ⌝ }
+// What is in use where an instruction begins, from these places of log and strings on, with so many string bytes before those of the
+// store, where this is the first offset that breaks what was read before it, or 0.
+pub fn unused(log: usize, strings: usize, base: usize, breaks: usize) -> Used
+    ensures { λ r. ⌜ r ≡ unused «log» «strings» base breaks ⌝ }
 {
     Used {
         rtype: 0,
@@ -61,7 +65,18 @@ pub fn unused(log: usize, strings: usize, base: usize) -> Used
         log,
         strings,
         base,
+        breaks,
     }
+}
+
+// The first of two offsets that break, 0 for none.
+pub fn first_break(a: usize, b: usize) -> usize
+    ensures { λ r. ⌜ r ≡ firstBreak a b ⌝ }
+{
+    if a == 0 {
+        return b;
+    }
+    a
 }
 
 // A refusal without a value.
@@ -110,7 +125,7 @@ pub fn selector_of(u: Used) -> Id
 // One operand more, whose record ends there in the log.
 fn noted(u: Used, kind: u8, value: u64, log: usize) -> Used
     requires { ⌜ (u .operands ≤ 1000000000) × Fits kind value × (log ≡ u .log + recordLength (parts kind value)) ⌝ }
-    ensures { λ r. ⌜ Pushed kind value u r ⌝ }
+    ensures { λ r. ⌜ Pushed kind value u r × (r .breaks ≡ u .breaks) ⌝ }
 {
     let rtype = u.rtype;
     let rid = u.rid;
@@ -121,6 +136,7 @@ fn noted(u: Used, kind: u8, value: u64, log: usize) -> Used
     let value2 = u.value2;
     let strings = u.strings;
     let base = u.base;
+    let breaks = u.breaks;
     if u.operands == 0 {
         return Used {
             rtype,
@@ -133,6 +149,7 @@ fn noted(u: Used, kind: u8, value: u64, log: usize) -> Used
             log,
             strings,
             base,
+            breaks,
         };
     }
     if u.operands == 1 {
@@ -147,6 +164,7 @@ fn noted(u: Used, kind: u8, value: u64, log: usize) -> Used
             log,
             strings,
             base,
+            breaks,
         };
     }
     Used {
@@ -160,6 +178,7 @@ fn noted(u: Used, kind: u8, value: u64, log: usize) -> Used
         log,
         strings,
         base,
+        breaks,
     }
 }
 
@@ -168,32 +187,36 @@ pub fn push(log: &mut [u8], kind: u8, value: u64, u: Used) -> Used
     requires { ⌜ (u .log ≤ 1000000000) × (u .operands ≤ 1000000000) × Fits kind value ⌝ }
     ensures { λ r. ⌜ Pushed kind value u r ⌝ }
     ensures { λ r. ⌜ Laid (now (log .entry)) (u .log) (recordOf (parts kind value)) (now (log .exit)) ⌝ }
+    ensures { λ r. ⌜ r .breaks ≡ u .breaks ⌝ }
 {
     let at = u.log;
     let next = operand::keep_record(log, at, Parts { kind, value });
     noted(u, kind, value, next)
 }
 
-// A string's record, and its bytes, those of `s` from a place on: each kept where it fits.
+// A string's record, and its bytes, those of `s` from a place on: each kept where it fits; and what breaks its padding.
 pub fn push_text(
     log: &mut [u8],
     strings: &mut [u8],
     s: &[u8],
     from: usize,
     size: usize,
+    breaks: usize,
     u: Used,
 ) -> Used
     requires { ⌜ (u .log ≤ 1000000000) × (u .operands ≤ 1000000000) × (u .strings ≤ 1000000000) × (size ≤ 1000000000) × (u .base ≤ 1000000000) ⌝ }
     requires { ⌜ from + size ≤ length (now s) ⌝ }
-    ensures { λ r. ⌜ Copied size u r ⌝ }
+    ensures { λ r. ⌜ Copied size breaks u r ⌝ }
     ensures { λ r. ⌜ Laid (now (log .entry)) (u .log) (recordOf (parts 40 (u .base + u .strings + 4294967296 * size))) (now (log .exit)) ⌝ }
     ensures { λ r. ⌜ Laid (now (strings .entry)) (u .strings) (slice from (from + size) (now (s .entry))) (now (strings .exit)) ⌝ }
 {
     let start = u.strings;
     let to = from + size;
     let at = (u.base + start) as u64;
+    let before = u.breaks;
     let mut n = push(log, kinds::STRING, at + 4294967296 * (size as u64), u);
     operand::keep_bytes(strings, start, &s[from..to]);
     n.strings = start + size;
+    n.breaks = first_break(before, breaks);
     n
 }

@@ -2,6 +2,7 @@
 -- are words.
 use Prim.Native.Nat.{ℕ, _+_, _*_}
 use mathlib.Core.List.{List}
+use lib.Dec.{eqb}
 use lib.ListN.{getD, take, drop}
 use contract.Lifetimes.{Lfts}
 use denote.Ref.{now}
@@ -104,6 +105,8 @@ loadedBy ws =
       value = getD ws 3 0;
       header = take 5 (drop 8 ws);
       counts = counts (getD ws 4 0) (getD ws 5 0) (getD ws 6 0) (getD ws 7 0);
+      plain = eqb (getD ws 13 0) 1;
+      breaks = getD ws 14 0;
     }
 
 -- a call of `kollafrin_load`

@@ -14,8 +14,7 @@ use Rattle.spec.specs.declared.Loaded.{Loaded}
 use Rattle.spec.specs.declared.Written.{Written}
 use Rattle.spec.specs.Layout.{endNumber}
 use Rattle.spec.specs.Records.{recordSize}
-use Rattle.spec.specs.Load.{Outcome, lacksRoom, load, Stores, lent, storesOf, roomIn, laidOn}
-use Rattle.spec.specs.Plain.{plainBy, isPlain}
+use Rattle.spec.specs.Load.{Outcome, lacksRoom, withPlain, load, Stores, lent, storesOf, roomIn, laidOn}
 use Rattle.spec.specs.Check.{check, givenBy}
 use Rattle.spec.specs.Write.{parseBytes, moduleBytes, Writing, writeParse, writeModule, written, wrote}
 use Rattle.loader.specs.Loading.{loading}
@@ -160,8 +159,8 @@ module _ (c : Loading) where
       let l : Loads v = loads c in
       let m : Loads (seen d) = loads d in
       let cut = first-fault (v .grammar) (roomIn (v .before)) (v .bytes) (rw (← l .leaves .said) h) in
-      let same : outcome (seen d) ≡ ended (cut .0) (outcome v) = rw (g, t, s) (cut .1) in
-      let told : seen d .answer ≡ ended (cut .0) (outcome v) .said = m .leaves .said ∙ ap (λ (o : Outcome). o .said) same in
+      let same : outcome (seen d) ≡ withPlain (seen d .bytes) (ended (cut .0) (outcome v)) = rw (g, t, s) (cut .1) in
+      let told : seen d .answer ≡ withPlain (seen d .bytes) (ended (cut .0) (outcome v)) .said = m .leaves .said ∙ ap (λ (o : Outcome). o .said) same in
       record {
         stores =
             m .leaves .stores ∙ ap₂ (λ (b : Stores) (o : Outcome). laidOn b (storesOf o)) t same ∙ sym (l .leaves .stores);
@@ -192,9 +191,13 @@ write-module-refused c not-0 =
 
 -- DEMAND 3
 
--- the module that was loaded is plain
+-- the load says that the module is plain
 abbrev pub PlainLoad : Loading → Type 0
-PlainLoad c = isPlain (seen c .grammar) (roomIn (seen c .before)) (seen c .bytes) ≡ true
+PlainLoad c = seen c .answer .plain ≡ true
+
+-- what it says is so by the definition
+plain-load : (c : Loading) → PlainLoad c → outcome (seen c) .said .plain ≡ true
+plain-load c plain = ap (λ (a : Loaded). a .plain) (sym (loads c .leaves .said)) ∙ plain
 
 -- two plain modules whose loads answer the same header words and leave the same records are the same bytes
 pub same-bytes : (c d : Loading) → PlainLoad c → PlainLoad d → seen c .answer .header ≡ seen d .answer .header
@@ -206,8 +209,8 @@ same-bytes c d plain-c plain-d header same =
     let u : Load = seen d in
     let l : Loads v = loads c in
     let m : Loads u = loads d in
-    same-records (v .grammar) (u .grammar) (roomIn (v .before)) (roomIn (u .before)) (v .bytes) (u .bytes) (l .bytes) (m .bytes) plain-c
-    plain-d (ap (λ (a : Loaded). a .header) (sym (l .leaves .said)) ∙ header ∙ ap (λ (a : Loaded). a .header) (m .leaves .said))
+    same-records (v .grammar) (u .grammar) (roomIn (v .before)) (roomIn (u .before)) (v .bytes) (u .bytes) (l .bytes) (m .bytes)
+    (plain-load c plain-c) (plain-load d plain-d) (ap (λ (a : Loaded). a .header) (sym (l .leaves .said)) ∙ header ∙ ap (λ (a : Loaded). a .header) (m .leaves .said))
     (sym (records-are v l) ∙ same ∙ records-are u m)
 
 -- a write w is handed the header words and records of a load v, as the load left them
@@ -239,7 +242,7 @@ module _ (c : Loading) (p : ParseWriting) (hands : Hands (seen c) (parse-seen p)
       (parse-seen p .answer ≡ it .said) × (parse-seen p .after ≡ it .output)
   unfolding loading
   written-back plain fits =
-      let is : v .bytes ≡ written (outcome v) = plain-is-written (v .grammar) (roomIn (v .before)) (v .bytes) (loads c .bytes) plain in
+      let is : v .bytes ≡ written (outcome v) = plain-is-written (v .grammar) (roomIn (v .before)) (v .bytes) (loads c .bytes) (plain-load c plain) in
       let wrote-it : writeParse (w .header) (w .records) (w .before) ≡ wrote (v .bytes) (w .before) =
       handed-writes (subst (λ (s : List ℕ). length s ≤ length (w .before)) is fits) ∙ ap (λ (s : List ℕ). wrote s (w .before)) (sym is) in
       (parse-writes p .said ∙ ap (λ (x : Writing). x .said) wrote-it, parse-writes p .output ∙ ap (λ (x : Writing). x .output) wrote-it)
@@ -251,7 +254,7 @@ module _ (c : Loading) (p : ParseWriting) (hands : Hands (seen c) (parse-seen p)
       → seen d .bytes ≡ take (parse-seen p .answer .bytes) (parse-seen p .after)
       → PlainLoad d × (seen d .answer .header ≡ seen c .answer .header) × (seen d .answer .counts ≡ seen c .answer .counts)
       × (records (seen d) ≡ records (seen c))
-  unfolding loading isPlain
+  unfolding loading
   comes-again accepted fits d g roomy s =
       let u : Load = seen d in
       let zero : outcome v .said .number ≡ 0 = ap (λ (a : Loaded). a .number) (sym (loads c .leaves .said)) ∙ accepted in
@@ -269,7 +272,7 @@ module _ (c : Loading) (p : ParseWriting) (hands : Hands (seen c) (parse-seen p)
       (rw again) in
       let answer-d = loads d .leaves .said ∙ ap (λ (o : Outcome). o .said) room in
       let answer-c = sym (loads c .leaves .said) in (
-        ap₂ plainBy bytes room ∙ back .plain,
+        ap (λ (a : Loaded). a .plain) answer-d ∙ back .plain,
         ap (λ (a : Loaded). a .header) answer-d ∙ back .same .header ∙ ap (λ (a : Loaded). a .header) answer-c,
         ap (λ (a : Loaded). a .counts) answer-d ∙ back .same .counts ∙ ap (λ (a : Loaded). a .counts) answer-c,
         records-are u (loads d) ∙ ap storesOf room ∙ back .stores ∙ sym (records-are v (loads c)),

@@ -1,14 +1,15 @@
 -- What follows from what the contracts of loading and writing tell.
 use Prim.Native.Nat.{ℕ, _+_, _*_, _/_, _%_}
-use mathlib.Core.Path.{_≡_, refl, ap, _∙_}
+use mathlib.Core.Path.{_≡_, refl, ap, _∙_, ap₂}
 use mathlib.Core.List.{List, [], _∷_}
 use native.Mathlib.Omega.{arith}
-use lib.Dec.{ltb}
+use mathlib.Core.Bool.{Bool, true, false}
+use lib.Dec.{ltb, eqb}
 use lib.ListN.{length, getD}
 use lib.Seq.{take-at}
 use Rattle.spec.specs.declared.Loaded.{Loaded}
 use Rattle.spec.specs.declared.Written.{Written}
-use Rattle.spec.specs.Base.{joined}
+use Rattle.spec.specs.Base.{joined, if_then_else_}
 use Rattle.spec.specs.Records.{Placed, recordSize, recordsFrom, logFrom, stringStore, entrySize, entryWords}
 use Rattle.spec.specs.Load.{Outcome, load, Stores, storesOf, roomIn}
 use Rattle.spec.specs.Check.{Checked, bad, good}
@@ -34,6 +35,11 @@ five-words (a ∷ b ∷ c ∷ []) n = absurd (omega arith)
 five-words (a ∷ b ∷ c ∷ d ∷ []) n = absurd (omega arith)
 five-words (a ∷ b ∷ c ∷ d ∷ e ∷ f ∷ h) n = absurd (omega arith)
 
+-- yes as 1 is yes
+yes-is : (b : Bool) → eqb (if b then 1 else 0) 1 ≡ b
+yes-is true = refl
+yes-is false = refl
+
 -- a load at the door is one whose answer its words say
 pub loaded-by : {m g : List ℕ} {before after : Stores} {ws : List ℕ} {r : ℕ} → LoadAnswers m g before after ws r
     → LoadsSo m g before after (loadedBy ws)
@@ -42,14 +48,16 @@ loaded-by {m} {g} {before} a =
     let x : Loaded = load g (roomIn before) m .said in
     let said =
     ap loadedBy (a .words)
-    ∙ ap (λ (h : List ℕ). record {
+    ∙ ap₂ (λ (h : List ℕ) (p : Bool). record {
       number = x .number;
       offset = x .offset;
       index = x .index;
       value = x .value;
       header = h;
       counts = x .counts;
-    }) (five-words (x .header) (header-five (load-is g (roomIn before) m))) in
+      plain = p;
+      breaks = x .breaks;
+    }) (five-words (x .header) (header-five (load-is g (roomIn before) m))) (yes-is (x .plain)) in
     record { leaves = record { said = said; stores = a .stores }; bytes = a .bytes }
 
 -- the words of a writer's answer say it

@@ -13,7 +13,6 @@ use Rattle.spec.specs.declared.Loaded.{Loaded}
 use Rattle.spec.specs.declared.Written.{Written}
 use Rattle.spec.specs.Records.{Placed, recordSize}
 use Rattle.spec.specs.Load.{Outcome, Same, load, Stores, storesOf, laidOver, roomIn, laidOn}
-use Rattle.spec.specs.Plain.{plainBy, isPlain}
 use Rattle.spec.specs.Check.{Given, Checked, bad, good, check, givenBy}
 use Rattle.spec.specs.Write.{parseBytes, Writing, unwritten, writeBy, writeParse, written, wrote}
 use Rattle.spec.specs.Words.{AllBytes}
@@ -85,7 +84,7 @@ module _ (g s : List ℕ) (by : AllBytes s) (t : Stores) (out : List ℕ) (u : S
 
   -- an accepted module, whose bytes fit the output and are not refused for room, came back
   returned : X .said .number ≡ 0 → length (written X) ≤ length out → Roomy (load g (roomIn u) (written X)) → CameBack g s t out u
-  unfolding first loading isPlain
+  unfolding first loading
   returned z h f =
       let c : ComesBack g (roomIn t) s (written X) = comes-back g (roomIn t) s by z in
       let again : load g (roomIn t) (written X) .said .number ≡ 0 = plain-accepted g (roomIn t) (written X) (c .bytes) (c .plain) in
@@ -96,7 +95,7 @@ module _ (g s : List ℕ) (by : AllBytes s) (t : Stores) (out : List ℕ) (u : S
         accepted = z;
         output = back-fits h;
         itself = λ p. sym (plain-is-written g (roomIn t) s by p);
-        plain = ap (plainBy (written X)) room ∙ c .plain;
+        plain = ap (λ (o : Outcome). o .said .plain) came ∙ c .plain;
         again = ap (λ (o : Outcome). o .said .number) came ∙ again;
         same = subst (λ (o : Outcome). Same o X) (sym came) (c .same);
         stores = ap storesOf came ∙ c .stores;

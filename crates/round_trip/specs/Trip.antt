@@ -4,8 +4,7 @@ use mathlib.Core.Path.{_≡_}
 use mathlib.Core.Bool.{Bool, true, false}
 use mathlib.Core.List.{List}
 use lib.ListN.{length, take}
-use Rattle.spec.specs.Load.{Outcome, Same, lacksRoom, Stores, storesOf, roomIn, laidOn}
-use Rattle.spec.specs.Plain.{isPlain}
+use Rattle.spec.specs.Load.{Outcome, Same, lacksRoom, Stores, storesOf, laidOn}
 use Rattle.spec.specs.Write.{Writing, writeParse, written, wrote}
 use Rattle.spec.specs.Check.{givenBy}
 use Rattle.loader.specs.Loading.{loading}
@@ -29,8 +28,8 @@ module _ (grammar s : List ℕ) (t : Stores) (out : List ℕ) (u : Stores) where
   pub record CameBack : Type 0 where
     pub accepted : first .said .number ≡ 0
     pub output : back ≡ wrote (written first) out
-    pub itself : isPlain grammar (roomIn t) s ≡ true → written first ≡ s
-    pub plain : isPlain grammar (roomIn u) (written first) ≡ true
+    pub itself : first .said .plain ≡ true → written first ≡ s
+    pub plain : second .said .plain ≡ true
     pub again : second .said .number ≡ 0
     pub same : Same second first
     pub stores : storesOf second ≡ storesOf first

@@ -1,3 +1,4 @@
+pub mod Breaks
 pub mod Choice
 pub mod Faultless
 pub mod Range

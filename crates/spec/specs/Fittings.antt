@@ -28,17 +28,15 @@ use Rattle.spec.specs.Digits
 use Rattle.spec.specs.Listing
 use Rattle.spec.specs.Listing.{outcomeText, listing}
 use Rattle.spec.specs.Plain
-use Rattle.spec.specs.Plain.{plainBy}
 
--- all that a load shows: its answer, the four stores up to their counts, and whether the module is plain
+-- all that a load shows: its answer, and the four stores up to their counts
 pub record Shown : Type 0 where
   pub said : Loaded
   pub stores : Stores
-  pub plain : Bool
 
--- what a load of some bytes shows
-unfoldable pub shown : List ℕ → Outcome → Shown
-shown s x = record { said = x .said; stores = storesOf x; plain = plainBy s x }
+-- what a load shows
+unfoldable pub shown : Outcome → Shown
+shown x = record { said = x .said; stores = storesOf x }
 
 -- a fitting: a module's bytes, and what its load shows
 pub data Fitting : Type 0 where
@@ -51,7 +49,7 @@ roomFor s = enough (length s / 4 - 5)
 -- what the loads of a table's modules show
 unfoldable pub found : (List ℕ → Outcome) → List Fitting → List Shown
 found load-of [] = []
-found load-of (fitting s x ∷ fs) = shown s (load-of s) ∷ found load-of fs
+found load-of (fitting s x ∷ fs) = shown (load-of s) ∷ found load-of fs
 
 -- what the table says that they show
 unfoldable pub claimed : List Fitting → List Shown
@@ -68,26 +66,26 @@ H = 0x07230203 ∷ 0x00010000 ∷ 0 ∷ 0 ∷ 0 ∷ []
 abbrev pub module-of : List ℕ → List ℕ
 module-of ws = joined bytesOf ws
 
--- an answer: number, offset, index, value; header words; counts
-abbrev pub answer : ℕ → ℕ → ℕ → ℕ → List ℕ → Counts → Loaded
-answer n o i v h c = record { number = n; offset = o; index = i; value = v; header = h; counts = c }
+-- an answer: number, offset, index, value; header words; counts; is the module plain, and what breaks it
+abbrev pub answer : ℕ → ℕ → ℕ → ℕ → List ℕ → Counts → Bool → ℕ → Loaded
+answer n o i v h c p b =
+    record { number = n; offset = o; index = i; value = v; header = h; counts = c; plain = p; breaks = b }
 
 -- nothing kept
-abbrev pub bare : ℕ → ℕ → ℕ → ℕ → List ℕ → Bool → Shown
-bare n o i v h plain = record { said = answer n o i v h (counts 0 0 0 0); stores = lent [] [] [] []; plain = plain }
+abbrev pub bare : ℕ → ℕ → ℕ → ℕ → List ℕ → Bool → ℕ → Shown
+bare n o i v h p b = record { said = answer n o i v h (counts 0 0 0 0) p b; stores = lent [] [] [] [] }
 
 -- H and some words, refused at the first instruction
 abbrev pub refusedAt : ℕ → ℕ → ℕ → List ℕ → Fitting
-refusedAt n o v ws = fitting (module-of (H ++ ws)) (bare n o 1 v H false)
+refusedAt n o v ws = fitting (module-of (H ++ ws)) (bare n o 1 v H false 0)
 
 -- "string "ab"", from one word
-abbrev pub ab : ℕ → Bool → Fitting
-ab w plain =
+abbrev pub ab : ℕ → Bool → ℕ → Fitting
+ab w p b =
     fitting (module-of (H ++ (0x00030007 ∷ 1 ∷ w ∷ [])))
     (record {
-      said = answer 0 32 2 0 H (counts 1 9 2 0);
+      said = answer 0 32 2 0 H (counts 1 9 2 0) p b;
       stores = lent (0x20007 ∷ 7 ∷ 20 ∷ 0 ∷ 1 ∷ 0 ∷ 1 ∷ 3 ∷ []) (40 ∷ bytesOf 0 ++ bytesOf 2) (ascii "ab") [];
-      plain = plain;
     })
 
 -- the module of fitting 6
@@ -97,34 +95,32 @@ six = module-of (H ++ (0x0003000E ∷ 0 ∷ 1 ∷ []))
 -- the fourteen
 unfoldable pub fittings : List Fitting
 fittings =
-    fitting [] (bare 1 0 0 0 noWords false)  -- 1
-    ∷ fitting (take 19 (module-of H)) (bare 1 16 0 0 noWords false)  -- 2
-    ∷ fitting (module-of (0x03022307 ∷ 0x00010000 ∷ 0 ∷ 0 ∷ 0 ∷ [])) (bare 3 0 0 0 noWords false)  -- 3
-    ∷ fitting (module-of H) (bare 0 20 1 0 H true)  -- 4
-    ∷ fitting (module-of H ++ (1 ∷ 2 ∷ 3 ∷ [])) (bare 0 20 1 0 H false)  -- 5
+    fitting [] (bare 1 0 0 0 noWords false 0)  -- 1
+    ∷ fitting (take 19 (module-of H)) (bare 1 16 0 0 noWords false 0)  -- 2
+    ∷ fitting (module-of (0x03022307 ∷ 0x00010000 ∷ 0 ∷ 0 ∷ 0 ∷ [])) (bare 3 0 0 0 noWords false 0)  -- 3
+    ∷ fitting (module-of H) (bare 0 20 1 0 H true 0)  -- 4
+    ∷ fitting (module-of H ++ (1 ∷ 2 ∷ 3 ∷ [])) (bare 0 20 1 0 H false 20)  -- 5
     ∷ fitting six  -- 6
     (record {
-      said = answer 0 32 2 0 H (counts 1 10 0 0);
+      said = answer 0 32 2 0 H (counts 1 10 0 0) true 0;
       stores = lent (14 ∷ 4 ∷ 20 ∷ 0 ∷ 0 ∷ 0 ∷ 2 ∷ 3 ∷ []) (0x0B ∷ 0 ∷ 0 ∷ 0 ∷ 0 ∷ 0x0C ∷ 1 ∷ 0 ∷ 0 ∷ 0 ∷ []) [] [];
-      plain = true;
     })
     ∷ refusedAt 4 20 0 (0 ∷ [])  -- 7
     ∷ refusedAt 5 20 0xFFFF (0x0001FFFF ∷ [])  -- 8
     ∷ refusedAt 6 28 0 (0x0002000E ∷ 0 ∷ [])  -- 9
     ∷ refusedAt 7 32 0 (0x0004000E ∷ 0 ∷ 1 ∷ 0 ∷ [])  -- 10
     ∷ refusedAt 9 28 0 (0x0003000E ∷ 0 ∷ [])  -- 11
-    ∷ ab 0x00006261 true  -- 12
-    ∷ ab 0x01006261 false  -- 13
+    ∷ ab 0x00006261 true 0  -- 12
+    ∷ ab 0x01006261 false 31  -- 13
     ∷ fitting (module-of (H ++ (0x00040015 ∷ 2 ∷ 0x40 ∷ 0 ∷ 0x0005002B ∷ 2 ∷ 3 ∷ 7 ∷ 1 ∷ [])))  -- 14
     (record {
-      said = answer 0 56 3 0 H (counts 2 19 0 2);
+      said = answer 0 56 3 0 H (counts 2 19 0 2) true 0;
       stores =
           lent
           (0x20015 ∷ 11 ∷ 20 ∷ 0 ∷ 2 ∷ 0 ∷ 2 ∷ 4 ∷ 0x3002B ∷ 11 ∷ 36 ∷ 2 ∷ 3 ∷ 10 ∷ 1 ∷ 5 ∷ [])
           ((34 ∷ bytesOf 64) ++ (34 ∷ bytesOf 0) ++ (36 ∷ longBytes 4294967303))
           []
           (2 ∷ 64 ∷ 1 ∷ 3 ∷ 64 ∷ 1 ∷ []);
-      plain = true;
     })
     ∷ []
 
@@ -143,7 +139,7 @@ by-items [] = refl
 by-items (fitting s x ∷ fs) = cc (load-builtin (roomFor s) s, by-items fs)
 
 computed : found (λ s. loadWith (grammarBy table) (roomFor s) s) fittings ≡ claimed fittings
-unfolding found claimed fittings shown storesOf table bytesOf Words.frontOf Words.wordsOf Words.bitsFrom Words.bitsOf Text.untilZero Text.leadOf Text.dueAfter Text.utf8From Text.isUtf8 Reader.wordAt Reader.readLong Reader.readText Header.headerFrom grammarBy Grammar.slotsOf Grammar.parametersOf Grammar.rowsOf Grammar.enumerantsOf Grammar.rowOf Grammar.listed Grammar.bitsListed Grammar.parametersFor Records.operandSize Records.operandLog Records.operandString Records.operandsLog Records.operandsStrings Records.stringStore Records.logFrom Records.fieldsOf Records.fieldWords Records.recordsFrom Layout.kindFrom Layout.opcodeKind Layout.layoutAt Layout.layoutOf Types.entryOf Types.define Types.track Match.readEnumerant Match.readOne Match.readEach Match.readOperand Match.readLiteralAs Match.readLiteral Match.readOnce Match.readEmbedded Match.readPair Match.readKind Match.readSlot Match.readRow Match.allRead Match.readInstr enough Load.roomFault Load.loadFrom loadWith Plain.plainOperand Plain.plainOperands Plain.plainInstr plainBy
+unfolding found claimed fittings shown storesOf table bytesOf Words.frontOf Words.wordsOf Words.bitsFrom Words.bitsOf Text.untilZero Text.leadOf Text.dueAfter Text.utf8From Text.isUtf8 Reader.wordAt Reader.readLong Reader.readText Header.headerFrom grammarBy Grammar.slotsOf Grammar.parametersOf Grammar.rowsOf Grammar.enumerantsOf Grammar.rowOf Grammar.listed Grammar.bitsListed Grammar.parametersFor Records.operandSize Records.operandLog Records.operandString Records.operandsLog Records.operandsStrings Records.stringStore Records.logFrom Records.fieldsOf Records.fieldWords Records.recordsFrom Layout.kindFrom Layout.opcodeKind Layout.layoutAt Layout.layoutOf Types.entryOf Types.define Types.track Match.readEnumerant Match.readOne Match.readEach Match.readOperand Match.readLiteralAs Match.readLiteral Match.readOnce Match.readEmbedded Match.readPair Match.readKind Match.readSlot Match.readRow Match.allRead Match.readInstr enough Load.roomFault Load.loadFrom loadWith Text.notZero Text.textBreak Plain.firstBreak Plain.operandBreak Plain.operandsBreak Plain.instrBreak Plain.keptBreak Plain.tailBreak Plain.moduleBreak
 computed = refl
 
 -- the fourteen fittings hold

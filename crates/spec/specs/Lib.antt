@@ -11,8 +11,8 @@ pub mod Records
 pub mod Layout
 pub mod Types
 pub mod Match
-pub mod Load
 pub mod Plain
+pub mod Load
 pub mod Check
 pub mod Write
 pub mod Digits

@@ -1,7 +1,7 @@
 -- Loading a module: the first refusals, the header, the instructions, the end, and the stores afterwards.
 use Prim.Native.Nat.{ℕ, zero, suc, _+_, _*_, _/_, _≤_, _<_}
 use mathlib.Core.Path.{_≡_}
-use mathlib.Core.Bool.{Bool}
+use mathlib.Core.Bool.{Bool, false, _&&_}
 use mathlib.Core.List.{List, [], _∷_, _++_}
 use lib.Dec.{ltb, eqb}
 use lib.ListN.{length, drop}
@@ -22,6 +22,7 @@ use Rattle.spec.specs.Grammar.{Grammar, grammarOf, wellFormed}
 use Rattle.spec.specs.Layout.{layoutOf, endNumber}
 use Rattle.spec.specs.Types.{track}
 use Rattle.spec.specs.Match.{readInstr}
+use Rattle.spec.specs.Plain.{moduleBreak}
 
 -- COUNTS AND ROOM
 
@@ -102,7 +103,7 @@ pub record Same (x y : Outcome) : Type 0 where
 abbrev pub lacksRoom : Loaded → Bool
 lacksRoom x = within 25 (x .number) 28
 
--- its place, index and counts each fit a word of 32 bits
+-- its offsets, index and counts each fit a word of 32 bits
 pub record Small (x : Loaded) : Type 0 where
   pub offset : x .offset < 4294967296
   pub index : x .index < 4294967296
@@ -110,13 +111,23 @@ pub record Small (x : Loaded) : Type 0 where
   pub log : x .counts .log < 4294967296
   pub strings : x .counts .strings < 4294967296
   pub types : x .counts .types < 4294967296
+  pub breaks : x .breaks < 4294967296
 
 -- the end of a load, at the instruction after those kept: number, place, value
 abbrev pub stop : List ℕ → Book → ℕ → ℕ → ℕ → Outcome
 stop h b n at v =
     record {
       said =
-          record { number = n; offset = at; index = b .used .instructions + 1; value = v; header = h; counts = b .used };
+          record {
+            number = n;
+            offset = at;
+            index = b .used .instructions + 1;
+            value = v;
+            header = h;
+            counts = b .used;
+            plain = false;
+            breaks = 0;
+          };
       kept = b .kept;
       left = b .kept;
       types = b .types;
@@ -126,7 +137,17 @@ stop h b n at v =
 abbrev pub nothing : ℕ → ℕ → Outcome
 nothing n at =
     record {
-      said = record { number = n; offset = at; index = 0; value = 0; header = noWords; counts = counts 0 0 0 0 };
+      said =
+          record {
+            number = n;
+            offset = at;
+            index = 0;
+            value = 0;
+            header = noWords;
+            counts = counts 0 0 0 0;
+            plain = false;
+            breaks = 0;
+          };
       kept = [];
       left = [];
       types = [];
@@ -168,11 +189,33 @@ loadFrom g room h (suc n) b r =
 
 -- THE WHOLE
 
+-- "an accepted load says whether the module is plain and, if not, the lowest byte offset that breaks it .. Otherwise the offset is 0,
+-- and a refused load says no."
+abbrev pub withPlain : List ℕ → Outcome → Outcome
+withPlain s x =
+    let breaks = moduleBreak s (x .kept) in
+    record {
+      said =
+          record {
+            number = x .said .number;
+            offset = x .said .offset;
+            index = x .said .index;
+            value = x .said .value;
+            header = x .said .header;
+            counts = x .said .counts;
+            plain = eqb (x .said .number) 0 && eqb breaks 0;
+            breaks = if eqb (x .said .number) 0 then breaks else 0;
+          };
+      kept = x .kept;
+      left = x .left;
+      types = x .types;
+    }
+
 -- the header's refusal, or the instructions after it
 abbrev pub afterHeader : Grammar → Counts → List ℕ → HeaderRead → Outcome
 afterHeader g room s h =
     if eqb (h .refusal .number) 0
-    then loadFrom g room (h .words) (length s / 4) emptyBook (reader 20 Unlimited (drop 20 s))
+    then withPlain s (loadFrom g room (h .words) (length s / 4) emptyBook (reader 20 Unlimited (drop 20 s)))
     else nothing (h .refusal .number) (h .refusal .place)
 
 -- a load with the rows and enumerants of a grammar

@@ -1,40 +1,56 @@
--- Plain form: nothing in the bytes that the header words and records do not say.
-use Prim.Native.Nat.{ℕ, _+_, _*_, _%_}
-use mathlib.Core.Bool.{Bool, true, _&&_}
-use mathlib.Core.List.{List, [], _∷_}
-use lib.Dec.{eqb}
-use lib.ListN.{length, take, drop}
-use Rattle.spec.specs.declared.Counts.{Counts}
-use Rattle.spec.specs.Base.{implies, every}
-use Rattle.spec.specs.Records.{Operand, narrow, wide, text, Instr, operandSize, idSize}
-use Rattle.spec.specs.Load.{Outcome, load}
+-- Plain form: nothing in the bytes that the header words and records do not say; and the lowest offset of what breaks it. No operand
+-- stands at offset 0, so 0 is none.
+use Prim.Native.Nat.{ℕ, _+_, _*_, _/_, _%_}
+use mathlib.Core.Bool.{_&&_}
+use mathlib.Core.List.{List, [], _∷_, _++_}
+use mathlib.Core.Option.{Option, none, some}
+use lib.Dec.{ltb, eqb}
+use lib.ListN.{length, drop}
+use Rattle.spec.specs.Base.{if_then_else_}
+use Rattle.spec.specs.Words.{fourAt}
+use Rattle.spec.specs.Text.{textBreak}
+use Rattle.spec.specs.Records.{Operand, narrow, wide, text, Instr, Placed, operandSize}
 
--- is each byte zero
-abbrev pub zeros : List ℕ → Bool
-zeros bs = every (λ b. eqb b 0) bs
+-- of two offsets that break, the one whose bytes come first: the lowest
+unfoldable pub firstBreak : ℕ → ℕ → ℕ
+firstBreak a b = if eqb a 0 then b else a
 
--- the bytes that an operand was read from say no more than it does: "zero padding after strings, nothing above the low sixteen bits
--- of an embedded opcode"
-unfoldable pub plainOperand : Operand → List ℕ → Bool
-plainOperand (narrow k v) bs = implies (eqb k 39) (zeros (drop 2 bs))
-plainOperand (wide k v) bs = true
-plainOperand (text s) bs = zeros (drop (length s) bs)
+-- what breaks an operand, of the bytes from it on: "the first nonzero padding byte, the embedded opcode's word" where it has something
+-- above its low sixteen bits
+unfoldable pub operandBreak : ℕ → Operand → List ℕ → ℕ
+operandBreak at (narrow k v) bs = if eqb k 39 && ltb 65535 (fourAt 0 bs) then at else 0
+operandBreak at (wide k v) bs = 0
+operandBreak at (text s) bs = textBreak at (length s) bs
 
--- operands one after the other, from the first byte of the first
-unfoldable pub plainOperands : List Operand → List ℕ → Bool
-plainOperands [] bs = true
-plainOperands (o ∷ os) bs =
-    plainOperand o (take (4 * operandSize o) bs) && plainOperands os (drop (4 * operandSize o) bs)
+-- operands one after the other, of the bytes from the first on
+unfoldable pub operandsBreak : ℕ → List Operand → List ℕ → ℕ
+operandsBreak at [] bs = 0
+operandsBreak at (o ∷ os) bs =
+    firstBreak (operandBreak at o bs) (operandsBreak (at + 4 * operandSize o) os (drop (4 * operandSize o) bs))
 
--- an instruction's operands stand after its first word and its result words
-unfoldable pub plainInstr : List ℕ → Instr → Bool
-plainInstr s i =
-    plainOperands (i .operands) (drop (i .offset + 4 * (1 + idSize (i .resultType) + idSize (i .resultId))) s)
+-- a result that is there is a word, as an id is
+abbrev pub asIds : Option ℕ → List Operand
+asIds none = []
+asIds (some w) = narrow 33 w ∷ []
 
--- the bytes of a load are plain: it is accepted, "no stray tail bytes", and each instruction is plain
-unfoldable pub plainBy : List ℕ → Outcome → Bool
-plainBy s x = eqb (x .said .number) 0 && eqb (length s % 4) 0 && every (λ p. plainInstr s (p .instr)) (x .kept)
+-- results and operands in the order of their words
+abbrev pub inOrder : Option ℕ → Option ℕ → List Operand → List Operand
+inOrder t i os = asIds t ++ asIds i ++ os
 
--- a module is plain, with a grammar and room
-unfoldable pub isPlain : List ℕ → Counts → List ℕ → Bool
-isPlain g room s = plainBy s (load g room s)
+-- an instruction in a module: its results and operands stand after its first word
+unfoldable pub instrBreak : List ℕ → Instr → ℕ
+instrBreak s i =
+    operandsBreak (i .offset + 4) (inOrder (i .resultType) (i .resultId) (i .operands)) (drop (i .offset + 4) s)
+
+-- instructions one after the other
+unfoldable pub keptBreak : List ℕ → List Placed → ℕ
+keptBreak s [] = 0
+keptBreak s (p ∷ ps) = firstBreak (instrBreak s (p .instr)) (keptBreak s ps)
+
+-- "the first tail byte": the whole words' length of so many bytes
+unfoldable pub tailBreak : ℕ → ℕ
+tailBreak n = if eqb (n % 4) 0 then 0 else 4 * (n / 4)
+
+-- a module of which these are the instructions
+unfoldable pub moduleBreak : List ℕ → List Placed → ℕ
+moduleBreak s ps = firstBreak (keptBreak s ps) (tailBreak (length s))

@@ -62,7 +62,8 @@ pub struct Counts {
     pub types: usize,
 }
 
-// What a load answers: the number (0 accepted), its byte offset, its instruction index, its value; the header words; the counts.
+// What a load answers: the number (0 accepted), its byte offset, its instruction index, its value; the header words; the counts; whether
+// the module is plain, and the lowest byte offset that breaks it, or 0.
 pub struct Loaded {
     pub number: u32,
     pub offset: usize,
@@ -70,6 +71,8 @@ pub struct Loaded {
     pub value: u32,
     pub header: [u32; 5],
     pub counts: Counts,
+    pub plain: bool,
+    pub breaks: usize,
 }
 
 // What a writer answers: the number (0 written), the index of the first bad record or 0, the bytes written.

@@ -1,4 +1,5 @@
 -- `kollafrin::say_loaded`: each word of the answer is cast from what fits it.
+use mathlib.Core.Path.{refl}
 use borrow.Author.Needs.{needs}
 use Rattle.kollafrin.specs.Answers.{loadAnswer}
 use Rattle.kollafrin.proofs.say_loaded.Statement.{statement}
@@ -9,6 +10,7 @@ unfolding loadAnswer
 say-loaded-spec =
     tie.close
     (tie.spec
+    (λ c κs. search needs)
     (λ c. search needs)
     (λ c. search needs)
     (λ c. search needs)
@@ -20,4 +22,5 @@ say-loaded-spec =
     (λ c. search needs)
     (λ c. search needs)
     (λ c. search needs)
-    (λ c. search needs))
+    (λ c. search needs)
+    (λ c. let at-yes-or-no = c .before .before .before .before .before .before .before .before in (refl, rw (at-yes-or-no .yes-or-no .ensures))))

@@ -1,18 +1,13 @@
 -- `loader::parts::stopped` meets its contract.
-use Rattle.loader.specs.Steps.{saidAt}
-use mathlib.Core.Path.{refl}
 use borrow.Author.Needs.{needs}
+use Rattle.loader.proofs.Beginning.{said-stopped}
 use Rattle.loader.proofs.parts.stopped.Statement.{statement}
 use Rattle.loader.proofs.parts.stopped.Tie as tie
-
-returns : tie.Need-returns
-unfolding saidAt
-returns c =
-    refl
 
 pub stopped-spec : {M : Type 1} → statement M
 stopped-spec =
     tie.close
     (tie.spec
+    (λ c κs. search needs)
     (λ c. search needs)
-    returns)
+    (λ c. let at-breaks-of = c .before .before in said-stopped _ _ _ _ (at-breaks-of .breaks-of .ensures)))

@@ -31,23 +31,26 @@ decode-requires : tie.Need-decode-requires Inv-loop μ-loop
 decode-requires c κs =
     let at-if1 = c .before .before .before .before in
     let turn = at-if1 .before .before in
+    let asked = turn .before .before .before .before .before .before .before .before .before .before .before .before .before .before .pre in
     let running = turn .loop .inv .0 in
-    (turn .before .before .before .before .before .before .before .before .before .before .before .before .before .before .pre .0, ((running .short, omega (arith, running .inside, at-if1 .if1 .taken)), (running .bounded, running .typed)))
+    (asked .0, ((running .short, omega (arith, running .inside, at-if1 .if1 .taken)), (running .bounded, running .typed)))
 
 admit-requires : tie.Need-admit-requires Inv-loop μ-loop
 admit-requires c κs =
     let decoded = c .before .before .before .before .before .before in
     let turn = decoded .before .before .before .before .before .before .before in
+    let asked = turn .before .before .before .before .before .before .before .before .before .before .before .before .before .before .pre in
     let running = turn .loop .inv .0 in
-    (turn .before .before .before .before .before .before .before .before .before .before .before .before .before .before .pre .1 .1 .0, ((running .bounded, running .typed), fair _ _ _ _ _ _ _ (decoded .decode .ensures) (running .short)))
+    (asked .1 .1 .0, ((running .bounded, running .typed), fair _ _ _ _ _ _ _ (decoded .decode .ensures) (running .short)))
 
 returns : tie.Need-returns Inv-loop μ-loop
 returns c =
     let judged = c .before .before .before in
     let decoded = judged .before .before .before .before .before .before .before in
     let turn = decoded .before .before .before .before .before .before .before in
+    let asked = turn .before .before .before .before .before .before .before .before .before .before .before .before .before .before .pre in
     let running = turn .loop .inv .0 in
-    (halts running (decoded .before .before .before .before .before .if1 .taken) _ (verdict _ _ _ _ _ _ _ _ (decoded .decode .ensures) _ (judged .admit .ensures) _ (c .before .verdict .given .1)), few-kept running)
+    (halts running (decoded .before .before .before .before .before .if1 .taken) _ (verdict _ _ _ _ _ _ _ (asked .0) _ (decoded .decode .ensures) _ (judged .admit .ensures) _ (c .before .verdict .given .1)), few-kept running)
 
 keep-operands-requires : tie.Need-keep-operands-requires Inv-loop μ-loop
 keep-operands-requires c κs =
@@ -55,11 +58,12 @@ keep-operands-requires c κs =
     let judged = taken .before .before in
     let decoded = judged .before .before .before .before .before .before .before in
     let turn = decoded .before .before .before .before .before .before .before in
+    let asked = turn .before .before .before .before .before .before .before .before .before .before .before .before .before .before .pre in
     let running = turn .loop .inv .0 in
     let word = decoded .before .before .before .before .before .if1 .taken in
-    let goes-in = verdict _ _ _ _ _ _ _ _ (decoded .decode .ensures) _ (judged .admit .ensures) _ (taken .verdict2 .given .1) in
+    let goes-in = verdict _ _ _ _ _ _ _ (asked .0) _ (decoded .decode .ensures) _ (judged .admit .ensures) _ (taken .verdict2 .given .1) in
     let stands = here running goes-in in
-    (turn .before .before .before .before .before .before .before .before .before .before .before .before .before .before .pre .0, ((stands .short, omega (arith, stands .inside, more running goes-in word)), ((stands .bounded, stands .typed), (operands-fit running goes-in, goes-in .shown))))
+    (asked .0, ((stands .short, omega (arith, stands .inside, more running goes-in word)), ((stands .bounded, stands .typed), (operands-fit running goes-in, goes-in .shown))))
 
 keep-record-requires : tie.Need-keep-record-requires Inv-loop μ-loop
 keep-record-requires c κs =
@@ -67,8 +71,9 @@ keep-record-requires c κs =
     let judged = taken .before .before in
     let decoded = judged .before .before .before .before .before .before .before in
     let turn = decoded .before .before .before .before .before .before .before in
+    let asked = turn .before .before .before .before .before .before .before .before .before .before .before .before .before .before .pre in
     let running = turn .loop .inv .0 in
-    let goes-in = verdict _ _ _ _ _ _ _ _ (decoded .decode .ensures) _ (judged .admit .ensures) _ (taken .verdict2 .given .1) in
+    let goes-in = verdict _ _ _ _ _ _ _ (asked .0) _ (decoded .decode .ensures) _ (judged .admit .ensures) _ (taken .verdict2 .given .1) in
     let stands = here running goes-in in
     ((stands .bounded, stands .typed), (moderate (goes-in .shown) (stands .short), (record-fits running goes-in, entries-fit running goes-in)))
 
@@ -79,9 +84,10 @@ loop-less c =
     let judged = taken .before .before in
     let decoded = judged .before .before .before .before .before .before .before in
     let turn = decoded .before .before .before .before .before .before .before in
+    let asked = turn .before .before .before .before .before .before .before .before .before .before .before .before .before .before .pre in
     let running = turn .loop .inv .0 in
     let word = decoded .before .before .before .before .before .if1 .taken in
-    let goes-in = verdict _ _ _ _ _ _ _ _ (decoded .decode .ensures) _ (judged .admit .ensures) _ (taken .verdict2 .given .1) in
+    let goes-in = verdict _ _ _ _ _ _ _ (asked .0) _ (decoded .decode .ensures) _ (judged .admit .ensures) _ (taken .verdict2 .given .1) in
     fewer running goes-in word (recorded .keep-record .ensures)
 
 loop-again : tie.Need-loop-again Inv-loop μ-loop
@@ -92,12 +98,13 @@ loop-again c =
     let judged = taken .before .before in
     let decoded = judged .before .before .before .before .before .before .before in
     let turn = decoded .before .before .before .before .before .before .before in
+    let asked = turn .before .before .before .before .before .before .before .before .before .before .before .before .before .before .pre in
     let running = turn .loop .inv .0 in
     let word = decoded .before .before .before .before .before .if1 .taken in
-    let goes-in = verdict _ _ _ _ _ _ _ _ (decoded .decode .ensures) _ (judged .admit .ensures) _ (taken .verdict2 .given .1) in
+    let goes-in = verdict _ _ _ _ _ _ _ (asked .0) _ (decoded .decode .ensures) _ (judged .admit .ensures) _ (taken .verdict2 .given .1) in
     let at-spare = judged .before .before .before .before in
     let at-scratch = at-spare .before .before in (
-      goes-on running goes-in word (recorded .keep-record .ensures) _ _ _ (turn .before .before .before .before .before .before .before .before .before .before .before .before .before .before .pre .0) (stored .keep-operands .ensures) (c .before .hints .given),
+      goes-on running goes-in word (recorded .keep-record .ensures) _ _ _ (asked .0) (stored .keep-operands .ensures) (c .before .hints .given),
       (at-scratch .scratch .given ∙ turn .loop .inv .1 .0, at-spare .spare .given ∙ turn .loop .inv .1 .1),
     )
 

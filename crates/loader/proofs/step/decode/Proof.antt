@@ -12,7 +12,7 @@ parse-inst-requires c κs =
     let asked = at-unused .before .before .before .before .before .before .before .before .before .pre in
     let stands = asked .1 .1 .0 in
     let typed = asked .1 .1 .1 in
-    (asked .0, ((asked .1 .0 .0, omega (arith, asked .1 .0 .1), fresh-unused _ _ _ _ _ (at-unused .unused .ensures) (omega arith) (omega (arith, stands .few-strings))), (typed .inside, typed .hinted)))
+    (asked .0, ((asked .1 .0 .0, omega (arith, asked .1 .0 .1), fresh-unused _ _ _ _ _ _ (at-unused .unused .ensures) (omega arith) (omega (arith, stands .few-strings))), (typed .inside, typed .hinted)))
 
 returns : tie.Need-returns
 returns c =

@@ -46,7 +46,7 @@ parse-body-requires c κs =
             place-in = shown .row .inside;
             operands = shown .row .operands;
           },
-          fresh-unused _ _ _ _ _ (at-unused .unused .ensures) (stands .few-log) (omega (arith, stands .few-strings)),
+          fresh-unused _ _ _ _ _ _ (at-unused .unused .ensures) (stands .few-log) (omega (arith, stands .few-strings)),
         ),
         (typed .inside, typed .hinted),
       ),

@@ -2,7 +2,7 @@
 use native.Mathlib.Omega.{arith}
 use mathlib.Core.Path.{refl, sym, _∙_}
 use Rattle.parser.proofs.KindLaws.{literal-word, word-single, long-fits}
-use Rattle.parser.proofs.One.{may-push, few-pushed, held-wide, step-long, long-went}
+use Rattle.parser.proofs.One.{may-push, few-pushed, held-wide, step-long, long-went, spotted-long}
 use Rattle.parser.proofs.Walk.{deny, accept, same-read}
 use Rattle.parser.proofs.TypeLaws.{literal-none, literal-one, long-good, long-bad}
 use borrow.Author.Needs.{needs}
@@ -15,7 +15,7 @@ returns-3 c =
     let at-long2 = at-push .before .before .before in
     let at-int64 = at-long2 .before .before in
     let at-if2 = at-int64 .before in
-    let f = c .before .before .before .before .before .before .before .before .before .before .before .before .before .before .before .pre .1 .0 in let t = step-long _ _ _ _ (sym (at-long2 .long2 .given .1) ∙ at-int64 .int64 .ensures) in accept _ _ _ _ _ _ _ _ _ _ _ _ (long-good _ _ _ (at-if2 .if2 .taken) _ _ (sym (at-long2 .long2 .given .1) ∙ at-int64 .int64 .ensures)) (held-wide _ _ _ _ _ _ _ (at-if2 .if2 .taken) (at-push .push .ensures .0) (at-push .push .ensures .1)) (few-pushed _ _ _ _ _ _ _ _ f t (omega arith) (at-push .push .ensures .0)) (long-went _ _ _ _ t (f .limited))
+    let f = c .before .before .before .before .before .before .before .before .before .before .before .before .before .before .before .pre .1 .0 in let t = step-long _ _ _ _ (sym (at-long2 .long2 .given .1) ∙ at-int64 .int64 .ensures) in accept _ _ _ _ _ _ _ _ _ _ _ _ (long-good _ _ _ (at-if2 .if2 .taken) _ _ (sym (at-long2 .long2 .given .1) ∙ at-int64 .int64 .ensures)) (held-wide _ _ _ _ _ _ _ (at-if2 .if2 .taken) (at-push .push .ensures .0) (at-push .push .ensures .1 .0)) (few-pushed _ _ _ _ _ _ _ _ f t (omega arith) (at-push .push .ensures .0)) (long-went _ _ _ _ t (f .limited)) (spotted-long _ _ _ _ _ _ _ t (at-push .push .ensures .1 .1))
 
 pub parse-literal-spec : {M : Type 1} → statement M
 parse-literal-spec =

@@ -13,7 +13,7 @@ returns-2 c =
     let at-r = at-read-one .before .before .before .before in
     let at-parse-literal = at-r .before .before .before .before .before .before in
     let at-start = at-parse-literal .before .before .before .before .before .before .before .before in
-    let a = good-told _ _ _ (at-parse-literal .parse-literal .ensures) (at-r .r .given .1) in seq (a .held) _ _ _ _ _ _ (a .went) (first-done _ _ _ (pair-is (grammarOf (at-start .args .g .now)) _ _) _ _ (a .read)) _ (at-read-one .read-one .ensures)
+    let a = good-told _ _ _ (at-parse-literal .parse-literal .ensures) (at-r .r .given .1) in seq (a .held) _ _ _ _ _ _ (a .went) (a .spotted) (first-done _ _ _ (pair-is (grammarOf (at-start .args .g .now)) _ _) _ _ (a .read)) _ (at-read-one .read-one .ensures)
 
 pub parse-literal-pair-spec : {M : Type 1} → statement M
 parse-literal-pair-spec =

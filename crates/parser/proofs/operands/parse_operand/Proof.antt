@@ -1,7 +1,7 @@
 -- `parser::operands::parse_operand` meets its contract. Assumes nothing.
 use native.Mathlib.Omega.{arith}
 use mathlib.Core.Path.{refl, sym, _∙_}
-use Rattle.parser.proofs.One.{may-push, known-told, unread-told, held-narrow, few-pushed}
+use Rattle.parser.proofs.One.{may-push, known-told, unread-told, held-narrow, few-pushed, spotted-enum}
 use Rattle.parser.proofs.Walk.{same-read, seq, deny, step-went}
 use Rattle.parser.proofs.KindLaws.{enum-narrow, narrow-fits, untyped-single, id-single, number-single}
 use Rattle.parser.proofs.Values.{place-listed, operand-known, operand-bad, pair-number, pair-ids, single}
@@ -26,7 +26,7 @@ returns-4 c =
     let at-if1 = at-read-enumerant .before in
     let at-is-enum = at-if1 .before in
     let at-start = at-is-enum .before .before .before .before .before .before in
-    let k = known-told _ _ _ _ _ _ _ _ (at-read-enumerant .read-enumerant .ensures) (at-r2 .r2 .given .1) in seq (held-narrow _ _ _ _ _ _ _ (enum-narrow _ (sym (at-is-enum .is-enum .ensures) ∙ at-if1 .if1 .taken)) (at-push .push .ensures .0) (at-push .push .ensures .1)) _ _ _ _ _ _ (step-went _ _ _ _ (k .step) _ (at-start .pre .1 .0 .limited)) (operand-known _ _ _ _ _ (at-is-enum .is-enum .ensures) (at-if1 .if1 .taken) _ _ _ k) _ (at-parse-values .parse-values .ensures)
+    let k = known-told _ _ _ _ _ _ _ _ (at-read-enumerant .read-enumerant .ensures) (at-r2 .r2 .given .1) in seq (held-narrow _ _ _ _ _ _ _ (enum-narrow _ (sym (at-is-enum .is-enum .ensures) ∙ at-if1 .if1 .taken)) (at-push .push .ensures .0) (at-push .push .ensures .1 .0)) _ _ _ _ _ _ (step-went _ _ _ _ (k .step) _ (at-start .pre .1 .0 .limited)) (spotted-enum _ _ _ _ _ _ _ (k .step) (sym (at-is-enum .is-enum .ensures) ∙ at-if1 .if1 .taken) (at-push .push .ensures .1 .1)) (operand-known _ _ _ _ _ (at-is-enum .is-enum .ensures) (at-if1 .if1 .taken) _ _ _ k) _ (at-parse-values .parse-values .ensures)
 
 pub parse-operand-spec : {M : Type 1} → statement M
 parse-operand-spec =

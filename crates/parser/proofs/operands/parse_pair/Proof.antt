@@ -12,7 +12,7 @@ returns-2 c =
     let at-read-one2 = c .before .before .before .before in
     let at-r = at-read-one2 .before .before .before .before in
     let at-read-one = at-r .before .before .before .before .before .before in
-    let a = good-told _ _ _ (at-read-one .read-one .ensures) (at-r .r .given .1) in seq (a .held) _ _ _ _ _ _ (a .went) (each-done _ (33 ∷ []) _ _ _ _ (a .read)) _ (at-read-one2 .read-one2 .ensures)
+    let a = good-told _ _ _ (at-read-one .read-one .ensures) (at-r .r .given .1) in seq (a .held) _ _ _ _ _ _ (a .went) (a .spotted) (each-done _ (33 ∷ []) _ _ _ _ (a .read)) _ (at-read-one2 .read-one2 .ensures)
 
 pub parse-pair-spec : {M : Type 1} → statement M
 parse-pair-spec =

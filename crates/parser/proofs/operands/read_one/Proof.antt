@@ -25,7 +25,7 @@ read-one-spec =
     (λ c κs. let at-if1 = c .before .before in let at-is-enum = at-if1 .before in let at-start = at-is-enum .before .before .before .before .before .before in (at-start .pre .1 .0, single-word _ (at-start .pre .1 .1) (sym (at-is-enum .is-enum .ensures) ∙ at-if1 .if1 .left) (c .before .if2 .left)))
     (λ c. let at-read-enumerant = c .before .before .before in let at-if1 = at-read-enumerant .before in let at-is-enum = at-if1 .before in deny _ _ _ _ _ _ _ _ _ _ _ _ refl (enum-bad _ _ _ _ _ (at-is-enum .is-enum .ensures) (at-if1 .if1 .taken) _ _ (unread-told _ _ _ _ _ _ _ (at-read-enumerant .read-enumerant .ensures) (c .before .r .given .1))))
     (λ c. search needs)
-    (λ c. let at-push = c .before .before in let at-r2 = at-push .before .before .before in let at-read-enumerant = at-r2 .before .before in let at-if1 = at-read-enumerant .before in let at-is-enum = at-if1 .before in let at-start = at-is-enum .before .before .before .before .before .before in enum-parsed _ _ _ _ _ _ _ _ _ _ _ _ (at-start .pre .1 .0) (sym (at-is-enum .is-enum .ensures) ∙ at-if1 .if1 .taken) (known-told _ _ _ _ _ _ _ _ (at-read-enumerant .read-enumerant .ensures) (at-r2 .r2 .given .1)) (at-push .push .ensures .0) (at-push .push .ensures .1))
+    (λ c. let at-push = c .before .before in let at-r2 = at-push .before .before .before in let at-read-enumerant = at-r2 .before .before in let at-if1 = at-read-enumerant .before in let at-is-enum = at-if1 .before in let at-start = at-is-enum .before .before .before .before .before .before in enum-parsed _ _ _ _ _ _ _ _ _ _ _ _ (at-start .pre .1 .0) (sym (at-is-enum .is-enum .ensures) ∙ at-if1 .if1 .taken) (known-told _ _ _ _ _ _ _ _ (at-read-enumerant .read-enumerant .ensures) (at-r2 .r2 .given .1)) (at-push .push .ensures .0) (at-push .push .ensures .1 .0) (at-push .push .ensures .1 .1))
     (λ c. let at-string = c .before .before .before in let at-if2 = at-string .before in let at-start = at-if2 .before .before .before .before .before .before .before .before in deny _ _ _ _ _ _ _ _ _ _ _ _ refl (text-bad _ _ _ _ (at-if2 .if2 .taken) (at-start .pre .1 .0 .inside) _ _ (sym (c .before .t .given .1) ∙ at-string .string .ensures)))
     (λ c. search needs)
     (λ c. search needs)

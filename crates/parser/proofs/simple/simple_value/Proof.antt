@@ -17,7 +17,7 @@ returns-2 c =
     let at-is-mask = at-if1 .before in
     let at-next-word = at-is-mask .before .before in
     let at-start = at-next-word .before .before .before .before .before .before in
-    let m = sym (at-is-mask .is-mask .ensures) ∙ at-if1 .if1 .taken in value-alone (known-zero _ _ _ _ (at-start .pre .1 .1) _ _ (at-next-word .next-word .ensures) m (at-if2 .if2 .left)) (at-start .pre .1 .0 .0) (at-push .push .ensures .0) _ _ _ (at-start .pre .1 .0 .1) (at-push .push .ensures .1) (zero-none _ _ m)
+    let m = sym (at-is-mask .is-mask .ensures) ∙ at-if1 .if1 .taken in value-alone (known-zero _ _ _ _ (at-start .pre .1 .1) _ _ (at-next-word .next-word .ensures) m (at-if2 .if2 .left)) (at-start .pre .1 .0 .0) (at-push .push .ensures .0) _ _ _ (at-start .pre .1 .0 .1) (at-push .push .ensures .1 .0) (at-push .push .ensures .1 .1) (zero-none _ _ m)
 
 returns-4 : tie.Need-returns-4
 returns-4 c =
@@ -29,7 +29,7 @@ returns-4 c =
     let at-is-mask = at-if1 .before in
     let at-next-word = at-is-mask .before .before in
     let at-start = at-next-word .before .before .before .before .before .before in
-    let m = sym (at-is-mask .is-mask .ensures) ∙ at-if1 .if1 .left in value-end (known-found _ _ _ _ (at-start .pre .1 .1) _ _ (at-next-word .next-word .ensures) (sym (at-is-mask .is-mask .ensures) ∙ at-if1 .if1 .left) _ _ (at-guess-enumerant .guess-enumerant .ensures .0) (at-guess-enumerant .guess-enumerant .ensures .1) (at-found .found .given .1)) (at-start .pre .1 .0 .0) (at-push2 .push2 .ensures .0) _ _ _ (at-start .pre .1 .0 .1) (at-push2 .push2 .ensures .1) m (none-told _ _ _ (at-parameter-at .parameter-at .ensures .0) (c .enum-told3 .given .1))
+    let m = sym (at-is-mask .is-mask .ensures) ∙ at-if1 .if1 .left in value-end (known-found _ _ _ _ (at-start .pre .1 .1) _ _ (at-next-word .next-word .ensures) (sym (at-is-mask .is-mask .ensures) ∙ at-if1 .if1 .left) _ _ (at-guess-enumerant .guess-enumerant .ensures .0) (at-guess-enumerant .guess-enumerant .ensures .1) (at-found .found .given .1)) (at-start .pre .1 .0 .0) (at-push2 .push2 .ensures .0) _ _ _ (at-start .pre .1 .0 .1) (at-push2 .push2 .ensures .1 .0) (at-push2 .push2 .ensures .1 .1) m (none-told _ _ _ (at-parameter-at .parameter-at .ensures .0) (c .enum-told3 .given .1))
 
 parse-parameters-requires : tie.Need-parse-parameters-requires
 parse-parameters-requires c κs =
@@ -52,7 +52,7 @@ returns-5 c =
     let at-is-mask = at-if1 .before in
     let at-next-word = at-is-mask .before .before in
     let at-start = at-next-word .before .before .before .before .before .before in
-    let m = sym (at-is-mask .is-mask .ensures) ∙ at-if1 .if1 .left in value-parsed (known-found _ _ _ _ (at-start .pre .1 .1) _ _ (at-next-word .next-word .ensures) (sym (at-is-mask .is-mask .ensures) ∙ at-if1 .if1 .left) _ _ (at-guess-enumerant .guess-enumerant .ensures .0) (at-guess-enumerant .guess-enumerant .ensures .1) (at-found .found .given .1)) (at-start .pre .1 .0 .0) (at-push2 .push2 .ensures .0) _ _ _ (at-start .pre .1 .0 .1) (at-push2 .push2 .ensures .1) m _ _ _ _ (at-parse-parameters .parse-parameters .ensures) (c .taken .ensures)
+    let m = sym (at-is-mask .is-mask .ensures) ∙ at-if1 .if1 .left in value-parsed (known-found _ _ _ _ (at-start .pre .1 .1) _ _ (at-next-word .next-word .ensures) (sym (at-is-mask .is-mask .ensures) ∙ at-if1 .if1 .left) _ _ (at-guess-enumerant .guess-enumerant .ensures .0) (at-guess-enumerant .guess-enumerant .ensures .1) (at-found .found .given .1)) (at-start .pre .1 .0 .0) (at-push2 .push2 .ensures .0) _ _ _ (at-start .pre .1 .0 .1) (at-push2 .push2 .ensures .1 .0) (at-push2 .push2 .ensures .1 .1) m _ _ _ _ (at-parse-parameters .parse-parameters .ensures) (c .taken .ensures)
 
 pub simple-value-spec : {M : Type 1} → statement M
 simple-value-spec =

@@ -15,4 +15,4 @@ simple-word-spec =
     (λ c. search needs)
     (λ c κs. let at-start = c .before .before .before .before .before .before in may-push (at-start .pre .0 .0) (narrow-fits _ _ (word-narrow _ (at-start .pre .0 .1)) (omega arith)))
     (λ c. search needs)
-    (λ c. let at-push = c .before .before in let at-next-word = at-push .before .before .before .before in let at-start = at-next-word .before .before .before in λ g t. take _ _ _ (word-parsed _ _ _ _ _ _ _ _ _ _ _ (at-start .pre .0 .0) (at-start .pre .0 .1) (at-next-word .next-word .ensures) (at-push .push .ensures .0) (at-push .push .ensures .1))))
+    (λ c. let at-push = c .before .before in let at-next-word = at-push .before .before .before .before in let at-start = at-next-word .before .before .before in λ g t. take _ _ _ (word-parsed _ _ _ _ _ _ _ _ _ _ _ (at-start .pre .0 .0) (at-start .pre .0 .1) (at-next-word .next-word .ensures) (at-push .push .ensures .0) (at-push .push .ensures .1 .0) (at-push .push .ensures .1 .1))))

@@ -11,4 +11,4 @@ push-spec =
     (λ c κs. search needs)
     (λ c κs. search needs)
     (λ c. search needs)
-    (λ c. let at-keep-record = c .before .before .before in (c .noted .ensures, laid-kept _ _ _ _ _ (length-record _) (at-keep-record .keep-record .ensures .1))))
+    (λ c. let at-keep-record = c .before .before .before in (c .noted .ensures .0, (laid-kept _ _ _ _ _ (length-record _) (at-keep-record .keep-record .ensures .1), c .noted .ensures .1))))

@@ -18,6 +18,7 @@ push-text-spec =
     (λ c. search needs)
     (λ c κs. search needs)
     (λ c. search needs)
+    (λ c κs. search needs)
     (λ c. search needs)
     (λ c. search needs)
-    (λ c. let at-keep-bytes = c .before .before in let at-push = at-keep-bytes .before .before .before .before .before in let at-start = at-push .before .before .before .before .before .before in (copied _ _ _ _ (at-push .push .ensures .0), (at-push .push .ensures .1, part-laid _ _ _ _ _ _ (at-keep-bytes .keep-bytes .ensures) (at-start .pre .1)))))
+    (λ c. let at-keep-bytes = c .before .before .before in let at-push = at-keep-bytes .before .before .before .before .before in let at-start = at-push .before .before .before .before .before .before in (copied _ _ _ _ _ _ (at-push .push .ensures .0) (c .first-break .ensures), (at-push .push .ensures .1 .0, part-laid _ _ _ _ _ _ (at-keep-bytes .keep-bytes .ensures) (at-start .pre .1)))))
