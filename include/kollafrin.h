@@ -28,7 +28,7 @@ extern "C" {
 
 /* The version of this header. It changes whenever the layout of a store or an answer changes, or what a call takes. A program compares it
  * with kollafrin_version() before any other call: where they differ, this header is not that of the library. */
-#define KOLLAFRIN_VERSION 1
+#define KOLLAFRIN_VERSION 2
 
 /* The numbers that the functions return; docs/REFERENCE.md ("The numbers") says more of each. The offset of a load's answer is where
  * each is found; where nothing is said of offset or value, they are 0. "Its instruction" is where the instruction starts. */
@@ -70,7 +70,7 @@ enum kollafrin_number {
     KOLLAFRIN_JOINED_SHORT = 35                 /* The output is shorter than the two grammars joined. */
 };
 
-/* The sixteen words of a load's answer; words 13 to 15 are 0. */
+/* The sixteen words of a load's answer; word 15 is 0. */
 enum kollafrin_load_word {
     KOLLAFRIN_LOAD_NUMBER = 0,       /* The number, as returned. */
     KOLLAFRIN_LOAD_OFFSET = 1,       /* Its byte offset in the module. */
@@ -80,7 +80,9 @@ enum kollafrin_load_word {
     KOLLAFRIN_LOAD_LOG = 5,          /* How many bytes of the operand log. */
     KOLLAFRIN_LOAD_STRINGS = 6,      /* How many bytes of strings. */
     KOLLAFRIN_LOAD_TYPES = 7,        /* How many type entries, of three words each. */
-    KOLLAFRIN_LOAD_HEADER = 8        /* Words 8 to 12: the five header words; 0 after 1, 2, 3, 24 and 31. */
+    KOLLAFRIN_LOAD_HEADER = 8,       /* Words 8 to 12: the five header words; 0 after 1, 2, 3, 24 and 31. */
+    KOLLAFRIN_LOAD_PLAIN = 13,       /* 1 where the module is accepted and plain, else 0. */
+    KOLLAFRIN_LOAD_BREAKS = 14       /* The lowest byte offset that breaks an accepted module that is not plain, else 0. */
 };
 
 /* The words of an instruction record. */

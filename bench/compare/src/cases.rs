@@ -1327,6 +1327,13 @@ fn plain(p: &mut Cases) {
         inst(52, &[1, 2, 0x0001_0000]),
         inst(52, &[1, 2, 5, 7, 0x0100_0061]),
         insts(&[inst(52, &[1, 2, 128, 5, 6]), inst(52, &[1, 3, 0x0001_0080, 5, 6])]),
+        // two or three breaks at once: the lowest is said
+        insts(&[name(1, 0x0100_0061), name(2, 0x0100_0062)]),
+        insts(&[name(1, 0x0101_0061), inst(52, &[1, 2, 0x0001_0080, 5, 6])]),
+        insts(&[inst(52, &[1, 2, 0x0001_0080, 5, 6]), name(1, 0x0100_0061)]),
+        insts(&[inst(52, &[1, 2, 0x0001_0080, 5, 6]), inst(52, &[1, 3, 0x0001_0080, 5, 6]), name(1, 0x0100_0061)]),
+        inst(71, &[1, 5834, 0x0001_0061, 0x0001_0062]),
+        inst(52, &[1, 2, 0x0001_0005, 7, 0x0100_0061]),
         insts(&[inst(21, &[2, 64, 0]), inst(43, &[2, 3, 7, 0xFFFF_FFFF])]),
         insts(&[inst(22, &[2, 32]), inst(43, &[2, 3, 0x7F80_0001])]),
         insts(&[inst(21, &[2, 8, 1]), inst(43, &[2, 3, 0xFFFF_FFFF])]),
@@ -1343,6 +1350,8 @@ fn plain(p: &mut Cases) {
     .enumerate()
     {
         case(p, &format!("words/{n}"), &module(words), None);
+        // and with tail bytes; by the built-in grammar as bytes, so that the replay sample does not choose from these
+        case(p, &format!("words-tail/{n}"), &[module(words), vec![1; n % 3 + 1]].concat(), Some(crate::GRAMMAR));
     }
     let odd = [MAGIC, 0xFF01_05EE, 0x0102_0304, 0xFFFF_FFFE, 9];
     case(p, "header/odd", &bytes_of(&[&odd[..], &inst(17, &[1])].concat()), None);

@@ -4,7 +4,7 @@ use crate::library::{self, byte_before, word_before, Form, Loaded};
 use compare::grow::enough;
 use compare::joining;
 use compare::krate;
-use compare::reading::{self, layout, layout_kind, Grammar, Kind, Load, State, Stores, RECORD};
+use compare::reading::{self, layout, layout_kind, Break, Grammar, Kind, Load, State, Stores, RECORD};
 use compare::text;
 use std::collections::BTreeMap;
 
@@ -27,6 +27,8 @@ pub struct Tally {
     pub let_through: BTreeMap<&'static str, u64>,
     pub groups: BTreeMap<&'static str, Group>,
     pub plain: u64,
+    /// accepted modules by what breaks them: 0 for plain ones, then as in `reading::BROKEN`
+    pub broken: [u64; 8],
     pub standing: u64,
     /// records that break this rule of standing alone
     pub but_for: [u64; 4],
@@ -45,6 +47,7 @@ impl Default for Tally {
             let_through: BTreeMap::new(),
             groups: BTreeMap::new(),
             plain: 0,
+            broken: [0; 8],
             standing: 0,
             but_for: [0; 4],
         }
@@ -70,6 +73,7 @@ impl Tally {
             ours.accepted += group.accepted;
         }
         self.plain += other.plain;
+        self.broken.iter_mut().zip(other.broken).for_each(|(a, b)| *a += b);
         self.standing += other.standing;
         self.but_for.iter_mut().zip(other.but_for).for_each(|(a, b)| *a += b);
     }
@@ -214,7 +218,7 @@ impl Judge<'_> {
         self.count(group, loaded.number() == 0);
         self.tally.with_crate += 1;
         let by_reading = reading::load_with(module, self.builtin, rooms);
-        let result = same_load(&loaded, &by_reading)
+        let result = same_load(module, &loaded, &by_reading)
             .and_then(|()| self.same_as_the_crate(module, &loaded))
             .and_then(|()| self.same_writing(module, &loaded, &by_reading));
         if let Err(what) = result {
@@ -323,6 +327,9 @@ impl Judge<'_> {
         if loaded.number() == 0 {
             let plain = reading::is_plain(module, by_reading);
             self.tally.plain += u64::from(plain);
+            let broken = reading::all_breaks(module, by_reading);
+            let has = |what: Break| usize::from(broken.iter().any(|(which, _)| *which == what));
+            self.tally.broken[has(Break::Padding) + 2 * has(Break::Embedded) + 4 * has(Break::Tail)] += 1;
             let parse = if short { library::write(Form::Parse, loaded.header(), &stores, needed) } else { parse };
             let back = parse.returned == 0 && parse.out.get(..parse.answer[2] as usize) == Some(module);
             differ("parse order gives the module back exactly when it is plain", back, plain)?;
@@ -339,7 +346,7 @@ impl Judge<'_> {
             Some(grammar) => reading::load(module, grammar, rooms),
             None => reading::load_with(module, self.builtin, rooms),
         };
-        let result = same_load(&loaded, &by_reading).and_then(|()| self.same_writing(module, &loaded, &by_reading));
+        let result = same_load(module, &loaded, &by_reading).and_then(|()| self.same_writing(module, &loaded, &by_reading));
         if let Err(what) = result {
             self.differs(group, &what, || {
                 let grammar = grammar.map_or("built-in".to_string(), hex);
@@ -444,7 +451,7 @@ fn stores_of(loaded: &Loaded) -> Stores {
     }
 }
 
-fn same_load(loaded: &Loaded, by_reading: &Load) -> Result<(), Difference> {
+fn same_load(module: &[u8], loaded: &Loaded, by_reading: &Load) -> Result<(), Difference> {
     let mut answer = [0; 16];
     let fields = [by_reading.number, by_reading.offset as u32, by_reading.index as u32, by_reading.value];
     answer[..4].copy_from_slice(&fields);
@@ -452,7 +459,12 @@ fn same_load(loaded: &Loaded, by_reading: &Load) -> Result<(), Difference> {
         *word = count as u32;
     }
     answer[8..13].copy_from_slice(&by_reading.header);
-    differ("the answer (number, offset, index, value, counts, header words)", loaded.answer, answer)?;
+    if by_reading.number == 0 {
+        let breaks = reading::breaks(module, by_reading);
+        answer[13] = u32::from(breaks.is_none());
+        answer[14] = breaks.unwrap_or(0) as u32;
+    }
+    differ("the answer (number, offset, index, value, counts, header words, plain, what breaks it)", loaded.answer, answer)?;
     differ("the number returned", loaded.returned, by_reading.number)?;
     store("instructions", &loaded.instructions, &by_reading.instructions.concat(), word_before)?;
     store("log", &loaded.log, &by_reading.log, byte_before)?;

@@ -6,7 +6,7 @@ mod inputs;
 mod judge;
 mod library;
 
-use compare::reading::{is_mask, Grammar, STANDING};
+use compare::reading::{is_mask, Grammar, BROKEN, STANDING};
 use compare::{krate, GRAMMAR};
 use judge::{Judge, Tally, KIND_NAMES};
 use std::path::Path;
@@ -113,6 +113,8 @@ fn print(tally: &Tally) {
     let kinds: Vec<String> = tally.kinds.iter().enumerate().skip(1).map(|(n, times)| format!("{n}:{times}")).collect();
     println!("log kinds {}", kinds.join(" "));
     println!("plain modules given back by parse order: {}; standing: {}", tally.plain, tally.standing);
+    let broken: Vec<String> = BROKEN.iter().zip(&tally.broken[1..]).map(|(what, times)| format!("{what} {times}")).collect();
+    println!("not plain: {}", broken.join(", "));
     let but_for: Vec<String> = STANDING.iter().zip(tally.but_for).map(|(rule, times)| format!("{rule} {times}")).collect();
     println!("standing but for one rule: {}", but_for.join(", "));
     for (rule, times) in &tally.let_through {
@@ -123,8 +125,8 @@ fn print(tally: &Tally) {
 /// No call gives this number.
 const NOT_GIVEN: usize = 33;
 
-/// What a run must show: every number, every layout cell, every log kind, each rule of standing broken alone, a third of the random
-/// modules accepted.
+/// What a run must show: every number, every layout cell, every log kind, plain form broken in every way, each rule of standing broken
+/// alone, a third of the random modules accepted.
 fn missing(tally: &Tally) -> Vec<String> {
     let mut all = vec![];
     all.extend(tally.numbers.iter().enumerate().filter(|(n, times)| **times == 0 && *n != NOT_GIVEN).map(|(n, _)| format!("number {n}")));
@@ -133,6 +135,7 @@ fn missing(tally: &Tally) -> Vec<String> {
         all.extend(cells.iter().zip(states).filter(|(times, _)| **times == 0).map(|(_, state)| format!("layout cell {name}, {state}")));
     }
     all.extend(tally.kinds.iter().enumerate().skip(1).filter(|(_, times)| **times == 0).map(|(n, _)| format!("log kind {n}")));
+    all.extend(BROKEN.iter().zip(&tally.broken[1..]).filter(|(_, times)| **times == 0).map(|(what, _)| format!("not plain: {what}")));
     all.extend(STANDING.iter().zip(tally.but_for).filter(|(_, times)| *times == 0).map(|(rule, _)| format!("standing but for: {rule}")));
     let random = tally.groups.get("random modules").copied().unwrap_or_default();
     if 3 * random.accepted < random.inputs {

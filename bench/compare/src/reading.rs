@@ -677,10 +677,37 @@ fn load_one(
 /// Plain: accepted, and nothing in the module that the records do not keep: no tail bytes, only
 /// zeros from a string's zero byte to the end of its last word, embedded numbers below 65,536.
 pub fn is_plain(module: &[u8], load: &Load) -> bool {
-    load.number == 0 && module.len() % 4 == 0 && load.instructions.iter().all(|r| record_is_plain(module, load, r))
+    load.number == 0 && breaks(module, load).is_none()
 }
 
-fn record_is_plain(module: &[u8], load: &Load, record: &[u32; RECORD]) -> bool {
+/// What can break plain form.
+#[derive(Clone, Copy, Debug, PartialEq, Eq, Hash)]
+pub enum Break {
+    Padding,
+    Embedded,
+    Tail,
+}
+
+/// The ways in which a module can be not plain: padding is 1, an embedded opcode 2, tail bytes are 4, and the sum of those it has, less
+/// one, is the place here.
+pub const BROKEN: [&str; 7] =
+    ["padding", "embedded opcode", "padding and embedded opcode", "tail", "padding and tail", "embedded opcode and tail", "all three"];
+
+/// The lowest offset that breaks an accepted module.
+pub fn breaks(module: &[u8], load: &Load) -> Option<usize> {
+    all_breaks(module, load).into_iter().map(|(_, offset)| offset).min()
+}
+
+/// Every offset that breaks an accepted module: each padding byte that is not zero, each word of
+/// an embedded number that is too high, and the first tail byte.
+pub fn all_breaks(module: &[u8], load: &Load) -> Vec<(Break, usize)> {
+    let tail = (module.len() % 4 != 0).then_some((Break::Tail, module.len() / 4 * 4));
+    load.instructions.iter().flat_map(|r| record_breaks(module, load, r)).chain(tail).collect()
+}
+
+/// Every offset that breaks the instruction of a record.
+fn record_breaks(module: &[u8], load: &Load, record: &[u32; RECORD]) -> Vec<(Break, usize)> {
+    let mut all = vec![];
     let mut at = record[2] as usize + 4 * (1 + (record[0] >> 16).count_ones() as usize);
     let mut log = &load.log[record[5] as usize..];
     for _ in 0..record[6] {
@@ -690,18 +717,21 @@ fn record_is_plain(module: &[u8], load: &Load, record: &[u32; RECORD]) -> bool {
             40 => {
                 let length = u32::from_le_bytes([log[5], log[6], log[7], log[8]]) as usize;
                 let words = string_words(length);
-                if module[at + length..at + 4 * words].iter().any(|b| *b != 0) {
-                    return false;
-                }
+                all.extend((at + length..at + 4 * words).filter(|i| module[*i] != 0).map(|i| (Break::Padding, i)));
                 words
             }
-            39 if module[at + 2..at + 4] != [0, 0] => return false,
+            39 => {
+                if module[at + 2..at + 4] != [0, 0] {
+                    all.push((Break::Embedded, at));
+                }
+                1
+            }
             _ => 1,
         };
         at += 4 * words;
         log = &log[operand_bytes(kind)..];
     }
-    true
+    all
 }
 
 /// Log bytes of one operand: the kind, then 4 bytes, "8 for kinds 36, 38 and 40".

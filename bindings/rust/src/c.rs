@@ -2,7 +2,7 @@
 //! bench take this file over by its path.
 
 /// KOLLAFRIN_VERSION: what `kollafrin_version` says of a library that these declarations fit.
-pub const VERSION: u32 = 1;
+pub const VERSION: u32 = 2;
 
 /// KOLLAFRIN_RECORD: how many words an instruction record has.
 pub const RECORD: usize = 8;

@@ -71,13 +71,31 @@ pub fn join(first: &[u8], second: &[u8]) -> Result<Vec<u8>, Error> {
 /// a result id), section tag, byte offset, result type or 0, result id or 0, start in the operand log, operand count, word
 /// count. The operand log: a kind byte, then 4 bytes, 8 for kinds 36, 38 and 40. String bytes without their zeros. Types: id,
 /// width, and 1 for unsigned, 2 for signed, 3 for float.
-#[derive(Clone, Debug, Default, PartialEq, Eq, Hash)]
+///
+/// Two are equal where header words and stores are, whatever the bytes that they were loaded from.
+#[derive(Clone, Debug, Default)]
 pub struct Module {
     header: [u32; 5],
     instructions: Vec<u32>,
     log: Vec<u8>,
     strings: Vec<u8>,
     types: Vec<u32>,
+    plain: bool,
+    breaks: u32,
+}
+
+impl PartialEq for Module {
+    fn eq(&self, other: &Module) -> bool {
+        self.parts() == other.parts()
+    }
+}
+
+impl Eq for Module {}
+
+impl std::hash::Hash for Module {
+    fn hash<H: std::hash::Hasher>(&self, state: &mut H) {
+        self.parts().hash(state);
+    }
 }
 
 impl Module {
@@ -117,10 +135,14 @@ impl Module {
             log: room::zeros(9 * words)?,
             strings: room::zeros(4 * words)?,
             types: room::zeros(3 * words)?,
+            plain: false,
+            breaks: 0,
         };
         let mut answer = [0; 16];
         let number = call(&mut module, &mut answer)?;
         module.header.copy_from_slice(&answer[8..13]);
+        module.plain = answer[13] == 1;
+        module.breaks = answer[14];
         module.instructions = room::cut(module.instructions, RECORD * answer[4] as usize);
         module.log = room::cut(module.log, answer[5] as usize);
         module.strings = room::cut(module.strings, answer[6] as usize);
@@ -133,11 +155,22 @@ impl Module {
     /// breaks the layout of the stores (docs/REFERENCE.md, "Writing"). Words past the last whole record are left out.
     pub fn from_stores(header: [u32; 5], mut instructions: Vec<u32>, log: Vec<u8>, strings: Vec<u8>, types: Vec<u32>) -> Module {
         instructions.truncate(instructions.len() / RECORD * RECORD);
-        Module { header, instructions, log, strings, types }
+        Module { header, instructions, log, strings, types, plain: false, breaks: 0 }
     }
 
-    /// The bytes of the module: header words and instructions as they were read. Of a plain module (no bytes after the last
-    /// whole word, only zeros after the ends of strings, embedded opcodes below 65,536) these are the bytes it was loaded from.
+    /// Whether the load that made this was accepted and the bytes were plain: no bytes after the last whole word, only zeros after
+    /// the ends of strings, embedded opcodes below 65,536. Of records from elsewhere: no.
+    pub fn is_plain(&self) -> bool {
+        self.plain
+    }
+
+    /// The lowest byte offset that breaks plain form in the bytes of an accepted load, else 0.
+    pub fn breaks(&self) -> u32 {
+        self.breaks
+    }
+
+    /// The bytes of the module: header words and instructions as they were read. Of a plain module ([`Module::is_plain`]) these
+    /// are the bytes it was loaded from.
     pub fn write_parse_order(&self) -> Result<Vec<u8>, Error> {
         self.write(door::write_parse_order)
     }
@@ -193,6 +226,11 @@ impl Module {
             0 => Ok(answer[2] == 1),
             number => Err(refused(number, answer)),
         }
+    }
+
+    /// Header words and stores.
+    fn parts(&self) -> (&[u32; 5], &[u32], &[u8], &[u8], &[u32]) {
+        (&self.header, &self.instructions, &self.log, &self.strings, &self.types)
     }
 
     /// The five header words: magic number, version, generator, bound, reserved.

@@ -80,6 +80,10 @@ fn writing_gives_the_bytes_back() {
     let plain = module(&[0x0003_000E, 0, 1, 0x0003_0007, 1, 0x0000_6261]);
     let loaded = Module::load_builtin(&plain).unwrap();
     assert_eq!(loaded.write_parse_order().unwrap(), plain);
+    assert!(loaded.is_plain() && loaded.breaks() == 0);
+    let broken = module(&[0x0003_000E, 0, 1, 0x0003_0007, 1, 0x0100_6261]);
+    let other = Module::load_builtin(&broken).unwrap();
+    assert!(other == loaded && !other.is_plain() && other.breaks() == 43);
     let order = loaded.write_module_order().unwrap();
     assert_eq!(order[20..], plain[20..]);
     assert_eq!(order[8..12], 0x000F_0000u32.to_le_bytes());
@@ -189,7 +193,7 @@ fn every_error_says_what_it_is() {
     let refusal = Refusal { number: 30, offset: 0, index: 1, value: 0 };
     assert_eq!(Error::Refused(refusal).to_string(), refusal.to_string());
     assert_eq!(Error::NoMemory.to_string(), "no memory");
-    assert_eq!(Error::Version(7).to_string(), "the library has version 7, and this crate is for version 1");
+    assert_eq!(Error::Version(7).to_string(), "the library has version 7, and this crate is for version 2");
 }
 
 /// Every module kept under samples/: loaded and written back, or refused without a panic.
