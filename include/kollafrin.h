@@ -88,6 +88,84 @@ enum kollafrin_load_word {
 /* The words of an instruction record. */
 enum kollafrin_record { KOLLAFRIN_RECORD = 8 };
 
+/* The presence bits of an instruction record's first word, which is the opcode + 65536 * these. */
+enum kollafrin_presence { KOLLAFRIN_PRESENCE_RESULT_TYPE = 1, KOLLAFRIN_PRESENCE_RESULT_ID = 2 };
+
+/* The section tags: the second word of an instruction record. */
+enum kollafrin_tag {
+    KOLLAFRIN_TAG_CAPABILITY = 1,             /* Capabilities. */
+    KOLLAFRIN_TAG_EXTENSION = 2,              /* Extensions. */
+    KOLLAFRIN_TAG_EXT_INST_IMPORT = 3,        /* Imports of extended instruction sets. */
+    KOLLAFRIN_TAG_MEMORY_MODEL = 4,           /* Memory model. */
+    KOLLAFRIN_TAG_ENTRY_POINT = 5,            /* Entry points. */
+    KOLLAFRIN_TAG_EXECUTION_MODE = 6,         /* Execution modes. */
+    KOLLAFRIN_TAG_DEBUG_STRING_SOURCE = 7,    /* Strings and sources. */
+    KOLLAFRIN_TAG_DEBUG_NAME = 8,             /* Names. */
+    KOLLAFRIN_TAG_DEBUG_MODULE_PROCESSED = 9, /* Notes of what processed the module. */
+    KOLLAFRIN_TAG_ANNOTATION = 10,            /* Annotations. */
+    KOLLAFRIN_TAG_TYPE_CONSTANT_GLOBAL = 11,  /* Types, constants, global variables, undefs and lines outside blocks. */
+    KOLLAFRIN_TAG_FUNCTION = 12,              /* A function's definition (OpFunction). */
+    KOLLAFRIN_TAG_FUNCTION_PARAMETER = 13,    /* A function's parameter. */
+    KOLLAFRIN_TAG_LABEL = 14,                 /* A block's label. */
+    KOLLAFRIN_TAG_BLOCK = 15,                 /* An instruction in a block, its terminator included. */
+    KOLLAFRIN_TAG_FUNCTION_END = 16           /* A function's end. */
+};
+
+/* The kinds of operands: the first byte of a log record. 46 to 51 stand in grammars alone. */
+enum kollafrin_kind {
+    KOLLAFRIN_KIND_IMAGE_OPERANDS = 1,
+    KOLLAFRIN_KIND_FP_FAST_MATH_MODE = 2,
+    KOLLAFRIN_KIND_SELECTION_CONTROL = 3,
+    KOLLAFRIN_KIND_LOOP_CONTROL = 4,
+    KOLLAFRIN_KIND_FUNCTION_CONTROL = 5,
+    KOLLAFRIN_KIND_MEMORY_SEMANTICS = 6,
+    KOLLAFRIN_KIND_MEMORY_ACCESS = 7,
+    KOLLAFRIN_KIND_KERNEL_PROFILING_INFO = 8,
+    KOLLAFRIN_KIND_SOURCE_LANGUAGE = 9,
+    KOLLAFRIN_KIND_EXECUTION_MODEL = 10,
+    KOLLAFRIN_KIND_ADDRESSING_MODEL = 11,
+    KOLLAFRIN_KIND_MEMORY_MODEL = 12,
+    KOLLAFRIN_KIND_EXECUTION_MODE = 13,
+    KOLLAFRIN_KIND_STORAGE_CLASS = 14,
+    KOLLAFRIN_KIND_DIM = 15,
+    KOLLAFRIN_KIND_SAMPLER_ADDRESSING_MODE = 16,
+    KOLLAFRIN_KIND_SAMPLER_FILTER_MODE = 17,
+    KOLLAFRIN_KIND_IMAGE_FORMAT = 18,
+    KOLLAFRIN_KIND_IMAGE_CHANNEL_ORDER = 19,
+    KOLLAFRIN_KIND_IMAGE_CHANNEL_DATA_TYPE = 20,
+    KOLLAFRIN_KIND_FP_ROUNDING_MODE = 21,
+    KOLLAFRIN_KIND_LINKAGE_TYPE = 22,
+    KOLLAFRIN_KIND_ACCESS_QUALIFIER = 23,
+    KOLLAFRIN_KIND_FUNCTION_PARAMETER_ATTRIBUTE = 24,
+    KOLLAFRIN_KIND_DECORATION = 25,
+    KOLLAFRIN_KIND_BUILT_IN = 26,
+    KOLLAFRIN_KIND_SCOPE = 27,
+    KOLLAFRIN_KIND_GROUP_OPERATION = 28,
+    KOLLAFRIN_KIND_KERNEL_ENQUEUE_FLAGS = 29,
+    KOLLAFRIN_KIND_CAPABILITY = 30,
+    KOLLAFRIN_KIND_ID_MEMORY_SEMANTICS = 31,
+    KOLLAFRIN_KIND_ID_SCOPE = 32,
+    KOLLAFRIN_KIND_ID_REF = 33,
+    KOLLAFRIN_KIND_LITERAL_INT32 = 34,
+    KOLLAFRIN_KIND_LITERAL_EXT_INST_INTEGER = 35,
+    KOLLAFRIN_KIND_LITERAL_INT64 = 36,
+    KOLLAFRIN_KIND_LITERAL_FLOAT32 = 37,
+    KOLLAFRIN_KIND_LITERAL_FLOAT64 = 38,
+    KOLLAFRIN_KIND_LITERAL_SPEC_CONSTANT_OP_INTEGER = 39,
+    KOLLAFRIN_KIND_LITERAL_STRING = 40,
+    KOLLAFRIN_KIND_RAY_FLAGS = 41,
+    KOLLAFRIN_KIND_RAY_QUERY_INTERSECTION = 42,
+    KOLLAFRIN_KIND_RAY_QUERY_COMMITTED_INTERSECTION_TYPE = 43,
+    KOLLAFRIN_KIND_RAY_QUERY_CANDIDATE_INTERSECTION_TYPE = 44,
+    KOLLAFRIN_KIND_FRAGMENT_SHADING_RATE = 45,
+    KOLLAFRIN_KIND_ID_RESULT_TYPE = 46,
+    KOLLAFRIN_KIND_ID_RESULT = 47,
+    KOLLAFRIN_KIND_LITERAL_CONTEXT_DEPENDENT_NUMBER = 48,
+    KOLLAFRIN_KIND_PAIR_LITERAL_INTEGER_ID_REF = 49,
+    KOLLAFRIN_KIND_PAIR_ID_REF_LITERAL_INTEGER = 50,
+    KOLLAFRIN_KIND_PAIR_ID_REF_ID_REF = 51
+};
+
 /* The bytes of stack that a call takes at most on x86-64, for every input: the frames of the function and of all that it calls, return
  * addresses included, as counted in the compiled library and rounded up; for C's memset and memcpy, which the loads call, 4,096 are
  * counted. _SHORT is for a module of 16,384 bytes or less. */
@@ -104,6 +182,51 @@ enum kollafrin_stack {
     KOLLAFRIN_STACK_STANDING = 1500,
     KOLLAFRIN_STACK_JOIN = 60000
 };
+
+/* A sentence for each number, for people; docs/REFERENCE.md ("In words") has the same. 9 has two causes, and for it alone `missing` is looked
+ * at: 1 where the words of the instruction are all in the module, and a value or mask is missing at their end; 0 where the module ends. The
+ * instruction refused starts where the last record kept ends, or at 20. */
+static inline const char *kollafrin_sentence(uint32_t number, int missing) {
+    switch (number) {
+    case 0: return "the input is accepted";
+    case 1: return "the module ends inside its header";
+    case 2: return "the first word is not the magic number: this is no SPIR-V module";
+    case 3: return "the first word is the magic number in the other byte order: the bytes of every word are swapped";
+    case 4: return "the instruction says that it has no words";
+    case 5: return "the opcode is not known to this grammar";
+    case 6: return "the instruction's words end where an operand has to begin";
+    case 7: return "words are left over after the last operand that the instruction has in this grammar";
+    case 8: return "the instruction's words end inside an operand";
+    case 9: return missing ? "a value or mask that belongs to an operand is missing at the end of the instruction's words"
+                           : "the module ends inside an operand";
+    case 10: return "the value or mask is not known to this grammar";
+    case 11: return "a string is not well-formed UTF-8";
+    case 12: return "the literal's type has a width that is not read";
+    case 13: return "the embedded opcode is not known to this grammar";
+    case 14: return "the embedded operation has operands that are not read there";
+    case 15: return "a function begins inside a function";
+    case 16: return "the module ends inside a function";
+    case 17: return "a function ends where none has begun";
+    case 18: return "a function parameter stands outside a function";
+    case 19: return "a block begins outside a function";
+    case 20: return "a block begins inside a block";
+    case 21: return "a block is not ended";
+    case 22: return "a terminator stands outside a block";
+    case 23: return "the instruction is read in a block alone, and stands outside";
+    case 24: return "the grammar is not well-formed";
+    case 25: return "there is no room for another instruction record";
+    case 26: return "there is no room in the operand log";
+    case 27: return "there is no room for the string's bytes";
+    case 28: return "there is no room for another type entry";
+    case 29: return "the output is too short";
+    case 30: return "a record breaks the layout of the stores, or has no name in a listing";
+    case 31: return "the module has more than 67,108,864 bytes";
+    case 32: return "the output is too short for the text";
+    case 34: return "the two grammars have a row or an enumerant each in its own way";
+    case 35: return "the output is too short for the two grammars joined";
+    default: return "this number is not given";
+    }
+}
 
 /* The version of the library, which is KOLLAFRIN_VERSION of its header. */
 uint32_t kollafrin_version(void);

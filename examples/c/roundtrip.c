@@ -55,6 +55,13 @@ static uint8_t *contents(const char *path, size_t *length) {
     return bytes;
 }
 
+/* Whether the words of the instruction behind the last record are all there: which of its two causes the refusal 9 has. */
+static int whole(const uint8_t *module, size_t length, const uint32_t *instructions, size_t count) {
+    const uint32_t *end = instructions + KOLLAFRIN_RECORD * count;
+    size_t start = count == 0 ? 20 : end[-6] + 4 * (size_t)end[-1];
+    return start + 4 <= length && start + 4 * (module[start + 2] + 256 * (size_t)module[start + 3]) <= length;
+}
+
 int main(int argc, char **argv) {
     size_t length, words, written;
     uint8_t *module, *log, *strings, *out;
@@ -85,6 +92,7 @@ int main(int argc, char **argv) {
     if (number != KOLLAFRIN_ACCEPTED) {
         printf("refused at byte %u, instruction %u, value %u\n", (unsigned)load[KOLLAFRIN_LOAD_OFFSET],
                (unsigned)load[KOLLAFRIN_LOAD_INDEX], (unsigned)load[KOLLAFRIN_LOAD_VALUE]);
+        puts(kollafrin_sentence(number, whole(module, length, instructions, load[KOLLAFRIN_LOAD_INSTRUCTIONS])));
         return 1;
     }
 

@@ -1,11 +1,32 @@
-//! The functions of the library, on slices. A slice passes as its pointer and its length, a reference to an array as its pointer.
-//! No function is called of a library with another version than the declarations here: each asks for the version first, which costs
-//! less than to remember it.
+//! All that is unsafe in this crate: the functions of the library, on slices, and memory of zeros. A slice passes as its pointer and its
+//! length, a reference to an array as its pointer. No function is called of a library with another version than the declarations here:
+//! each asks for the version first, which costs less than to remember it.
 
-use crate::{c, Error, Module};
+use crate::{c, Error, Records};
+use std::alloc::{alloc_zeroed, Layout};
 
-// Safety of every call below: each pointer comes from a live slice or array with its own length, the written ones are
-// borrowed mutably, so that no two overlap, and the library reads and writes nothing else and keeps no pointer.
+/// An element of a store.
+pub trait Element: Copy {}
+impl Element for u8 {}
+impl Element for u32 {}
+
+/// So many zeros. Memory that is never written to is not taken up, which is why a store may be far larger than what it comes to hold.
+pub fn zeros<T: Element>(count: usize) -> Result<Vec<T>, Error> {
+    let layout = Layout::array::<T>(count).map_err(|_| Error::NoMemory)?;
+    if count == 0 {
+        return Ok(Vec::new());
+    }
+    // Safety: the layout has a size over 0. It is that of a vector with room for `count` elements, of the allocator that vectors use, and
+    // zero bytes are so many elements, since an element is a u8 or a u32.
+    unsafe {
+        let start = alloc_zeroed(layout).cast::<T>();
+        if start.is_null() {
+            Err(Error::NoMemory)
+        } else {
+            Ok(Vec::from_raw_parts(start, count, count))
+        }
+    }
+}
 
 /// An error where a library has another version than the declarations.
 fn fits(version: u32) -> Result<(), Error> {
@@ -17,11 +38,13 @@ fn fits(version: u32) -> Result<(), Error> {
 }
 
 fn same_version() -> Result<(), Error> {
+    // Safety: it takes nothing and reads nothing that changes.
     fits(unsafe { c::kollafrin_version() })
 }
 
 pub fn builtin(out: &mut [u8]) -> Result<usize, Error> {
     same_version()?;
+    // Safety: the pointer is that of a live slice with its length, borrowed to be written.
     Ok(unsafe { c::kollafrin_builtin(out.as_mut_ptr(), out.len()) })
 }
 
@@ -35,6 +58,8 @@ pub fn load(
     answer: &mut [u32; 16],
 ) -> Result<u32, Error> {
     same_version()?;
+    // Safety: each pointer is that of a live slice with its own length, or of the answer's array. Those that are written are borrowed
+    // mutably, so that no two overlap. The library reads and writes nothing else, and keeps no pointer.
     Ok(unsafe {
         c::kollafrin_load(
             module.as_ptr(),
@@ -63,6 +88,8 @@ pub fn load_builtin(
     answer: &mut [u32; 16],
 ) -> Result<u32, Error> {
     same_version()?;
+    // Safety: each pointer is that of a live slice with its own length, or of the answer's array. Those that are written are borrowed
+    // mutably, so that no two overlap. The library reads and writes nothing else, and keeps no pointer.
     Ok(unsafe {
         c::kollafrin_load_builtin(
             module.as_ptr(),
@@ -80,20 +107,21 @@ pub fn load_builtin(
     })
 }
 
-pub fn write_parse_order(module: &Module, out: &mut [u8], answer: &mut [u32; 4]) -> Result<u32, Error> {
+pub fn write_parse_order(records: Records<'_>, out: &mut [u8], answer: &mut [u32; 4]) -> Result<u32, Error> {
     same_version()?;
+    // Safety: as for a load: live slices with their lengths, the header's array, and output and answer, which are borrowed mutably.
     Ok(unsafe {
         c::kollafrin_write_parse_order(
-            &module.header,
-            module.instructions.as_ptr(),
-            module.instructions.len(),
-            module.log.as_ptr(),
-            module.log.len(),
-            module.strings.as_ptr(),
-            module.strings.len(),
-            module.instructions.len() / c::RECORD,
-            module.log.len(),
-            module.strings.len(),
+            &records.header,
+            records.instructions.as_ptr(),
+            records.instructions.len(),
+            records.log.as_ptr(),
+            records.log.len(),
+            records.strings.as_ptr(),
+            records.strings.len(),
+            records.instructions.len() / c::RECORD,
+            records.log.len(),
+            records.strings.len(),
             out.as_mut_ptr(),
             out.len(),
             answer,
@@ -101,20 +129,21 @@ pub fn write_parse_order(module: &Module, out: &mut [u8], answer: &mut [u32; 4])
     })
 }
 
-pub fn write_module_order(module: &Module, out: &mut [u8], answer: &mut [u32; 4]) -> Result<u32, Error> {
+pub fn write_module_order(records: Records<'_>, out: &mut [u8], answer: &mut [u32; 4]) -> Result<u32, Error> {
     same_version()?;
+    // Safety: as for a load: live slices with their lengths, the header's array, and output and answer, which are borrowed mutably.
     Ok(unsafe {
         c::kollafrin_write_module_order(
-            &module.header,
-            module.instructions.as_ptr(),
-            module.instructions.len(),
-            module.log.as_ptr(),
-            module.log.len(),
-            module.strings.as_ptr(),
-            module.strings.len(),
-            module.instructions.len() / c::RECORD,
-            module.log.len(),
-            module.strings.len(),
+            &records.header,
+            records.instructions.as_ptr(),
+            records.instructions.len(),
+            records.log.as_ptr(),
+            records.log.len(),
+            records.strings.as_ptr(),
+            records.strings.len(),
+            records.instructions.len() / c::RECORD,
+            records.log.len(),
+            records.strings.len(),
             out.as_mut_ptr(),
             out.len(),
             answer,
@@ -122,20 +151,21 @@ pub fn write_module_order(module: &Module, out: &mut [u8], answer: &mut [u32; 4]
     })
 }
 
-pub fn disassemble(module: &Module, out: &mut [u8], answer: &mut [u32; 4]) -> Result<u32, Error> {
+pub fn disassemble(records: Records<'_>, out: &mut [u8], answer: &mut [u32; 4]) -> Result<u32, Error> {
     same_version()?;
+    // Safety: as for a load: live slices with their lengths, the header's array, and output and answer, which are borrowed mutably.
     Ok(unsafe {
         c::kollafrin_disassemble(
-            &module.header,
-            module.instructions.as_ptr(),
-            module.instructions.len(),
-            module.log.as_ptr(),
-            module.log.len(),
-            module.strings.as_ptr(),
-            module.strings.len(),
-            module.instructions.len() / c::RECORD,
-            module.log.len(),
-            module.strings.len(),
+            &records.header,
+            records.instructions.as_ptr(),
+            records.instructions.len(),
+            records.log.as_ptr(),
+            records.log.len(),
+            records.strings.as_ptr(),
+            records.strings.len(),
+            records.instructions.len() / c::RECORD,
+            records.log.len(),
+            records.strings.len(),
             out.as_mut_ptr(),
             out.len(),
             answer,
@@ -143,19 +173,20 @@ pub fn disassemble(module: &Module, out: &mut [u8], answer: &mut [u32; 4]) -> Re
     })
 }
 
-pub fn standing(module: &Module, answer: &mut [u32; 4]) -> Result<u32, Error> {
+pub fn standing(records: Records<'_>, answer: &mut [u32; 4]) -> Result<u32, Error> {
     same_version()?;
+    // Safety: as for a load: live slices with their lengths, and the answer, which alone is written and is borrowed mutably.
     Ok(unsafe {
         c::kollafrin_standing(
-            module.instructions.as_ptr(),
-            module.instructions.len(),
-            module.log.as_ptr(),
-            module.log.len(),
-            module.strings.as_ptr(),
-            module.strings.len(),
-            module.instructions.len() / c::RECORD,
-            module.log.len(),
-            module.strings.len(),
+            records.instructions.as_ptr(),
+            records.instructions.len(),
+            records.log.as_ptr(),
+            records.log.len(),
+            records.strings.as_ptr(),
+            records.strings.len(),
+            records.instructions.len() / c::RECORD,
+            records.log.len(),
+            records.strings.len(),
             answer,
         )
     })
@@ -163,6 +194,7 @@ pub fn standing(module: &Module, answer: &mut [u32; 4]) -> Result<u32, Error> {
 
 pub fn join(first: &[u8], second: &[u8], out: &mut [u8], answer: &mut [u32; 4]) -> Result<u32, Error> {
     same_version()?;
+    // Safety: as for a load: live slices with their lengths, and output and answer, which are borrowed mutably.
     Ok(unsafe { c::kollafrin_join(first.as_ptr(), first.len(), second.as_ptr(), second.len(), out.as_mut_ptr(), out.len(), answer) })
 }
 
@@ -175,5 +207,14 @@ mod tests {
         assert_eq!(same_version(), Ok(()));
         assert_eq!(fits(c::VERSION + 1), Err(Error::Version(c::VERSION + 1)));
         assert_eq!(fits(0), Err(Error::Version(0)));
+    }
+
+    #[test]
+    fn more_than_there_can_be() {
+        assert_eq!(zeros::<u8>(usize::MAX / 2), Err(Error::NoMemory));
+        assert_eq!(zeros::<u32>(usize::MAX / 2), Err(Error::NoMemory));
+        assert_eq!(zeros::<u32>(usize::MAX), Err(Error::NoMemory));
+        assert_eq!(zeros::<u8>(0), Ok(vec![]));
+        assert_eq!(zeros::<u32>(3), Ok(vec![0; 3]));
     }
 }

@@ -5,13 +5,23 @@
 //! input, and a call that lacks memory answers [`Error::NoMemory`]; a clone of a module alone ends the program then, as any clone
 //! does. A library with another [`VERSION`] than this crate is an [`Error::Version`], and none of its other functions is called.
 //!
-//! ```no_run
-//! let bytes = std::fs::read("shader.spv")?;
+//! ```
+//! let bytes = std::fs::read("../../samples/colour.spv")?;
 //! let module = kollafrin::Module::load_builtin(&bytes)?;
 //! for instruction in module.instructions() {
 //!     println!("{} {}", instruction.offset, instruction.opcode);
 //! }
-//! std::fs::write("same.spv", module.write_parse_order()?)?;
+//! assert_eq!(module.write_parse_order()?, bytes);
+//! # Ok::<(), Box<dyn std::error::Error>>(())
+//! ```
+//!
+//! Of an input that is refused the error says why, and [`Refusal::told`] by which names:
+//!
+//! ```
+//! let bytes = std::fs::read("../../samples/third-bad.spv")?;
+//! let (module, refusal) = kollafrin::Module::load_builtin_kept(&bytes)?;
+//! assert_eq!(module.instructions().len(), 2);
+//! assert_eq!(refusal.unwrap().to_string(), "4 at byte 40, instruction 3: the instruction says that it has no words");
 //! # Ok::<(), Box<dyn std::error::Error>>(())
 //! ```
 //!
@@ -27,19 +37,27 @@
 //! told on one page, docs/REFERENCE.md of the repository.
 
 #![warn(missing_docs)]
+#![deny(unsafe_code)]
 
 mod c;
+#[allow(unsafe_code)]
 mod door;
 mod error;
+mod kinds;
 mod records;
 mod refusal;
 mod room;
+mod stores;
+mod told;
 
 use c::RECORD;
 pub use c::VERSION;
 pub use error::Error;
+pub use kinds::{kind, presence, tag};
 pub use records::{Instruction, Instructions, Operand, Operands, Value};
-pub use refusal::{sentence, Refusal, Unjoined};
+pub use refusal::{sentence, Refusal, Unjoined, MISSING};
+pub use stores::{Records, Stores};
+pub use told::{opcode_name, Told, BUILTIN};
 
 /// The longest module that is read, in bytes. A longer one is refused with 31.
 pub const MOST_MODULE_BYTES: usize = 67_108_864;
@@ -60,7 +78,10 @@ pub fn join(first: &[u8], second: &[u8]) -> Result<Vec<u8>, Error> {
     let most = MOST_GRAMMAR_BYTES.min(first.len().saturating_add(second.len()));
     let (mut bytes, mut answer) = (room::zeros(most)?, [0; 4]);
     match door::join(first, second, &mut bytes, &mut answer)? {
-        0 => Ok(room::cut(bytes, answer[3] as usize)),
+        0 => {
+            bytes.truncate(answer[3] as usize);
+            Ok(bytes)
+        }
         number => Err(Error::Unjoined(Unjoined { number, place: answer[1], value: answer[2] })),
     }
 }
@@ -86,7 +107,7 @@ pub struct Module {
 
 impl PartialEq for Module {
     fn eq(&self, other: &Module) -> bool {
-        self.parts() == other.parts()
+        self.records() == other.records()
     }
 }
 
@@ -94,7 +115,7 @@ impl Eq for Module {}
 
 impl std::hash::Hash for Module {
     fn hash<H: std::hash::Hasher>(&self, state: &mut H) {
-        self.parts().hash(state);
+        self.records().parts().hash(state);
     }
 }
 
@@ -111,44 +132,19 @@ impl Module {
 
     /// As [`Module::load`], with the records of the instructions before the fault where the module is refused, which is then no error.
     pub fn load_kept(bytes: &[u8], grammar: &[u8]) -> Result<(Module, Option<Refusal>), Error> {
-        Module::with_room(bytes, |m, answer| {
-            door::load(bytes, grammar, &mut m.instructions, &mut m.log, &mut m.strings, &mut m.types, answer)
-        })
+        Module::kept(bytes, Some(grammar))
     }
 
     /// As [`Module::load_kept`], by the built-in grammar.
     pub fn load_builtin_kept(bytes: &[u8]) -> Result<(Module, Option<Refusal>), Error> {
-        Module::with_room(bytes, |m, answer| {
-            door::load_builtin(bytes, &mut m.instructions, &mut m.log, &mut m.strings, &mut m.types, answer)
-        })
+        Module::kept(bytes, None)
     }
 
-    /// Stores that suffice for any module of this length, filled by the call and cut to what it kept.
-    fn with_room(
-        bytes: &[u8],
-        call: impl FnOnce(&mut Module, &mut [u32; 16]) -> Result<u32, Error>,
-    ) -> Result<(Module, Option<Refusal>), Error> {
-        let words = if bytes.len() > MOST_MODULE_BYTES { 0 } else { (bytes.len() / 4).saturating_sub(5) };
-        let mut module = Module {
-            header: [0; 5],
-            instructions: room::zeros(RECORD * words)?,
-            log: room::zeros(9 * words)?,
-            strings: room::zeros(4 * words)?,
-            types: room::zeros(3 * words)?,
-            plain: false,
-            breaks: 0,
-        };
-        let mut answer = [0; 16];
-        let number = call(&mut module, &mut answer)?;
-        module.header.copy_from_slice(&answer[8..13]);
-        module.plain = answer[13] == 1;
-        module.breaks = answer[14];
-        module.instructions = room::cut(module.instructions, RECORD * answer[4] as usize);
-        module.log = room::cut(module.log, answer[5] as usize);
-        module.strings = room::cut(module.strings, answer[6] as usize);
-        module.types = room::cut(module.types, 3 * answer[7] as usize);
-        let refusal = Refusal { number, offset: answer[1], index: answer[2], value: answer[3] };
-        Ok((module, if number == 0 { None } else { Some(refusal) }))
+    /// Stores that suffice for any module of this length, and a copy of what the load kept in them.
+    fn kept(bytes: &[u8], grammar: Option<&[u8]>) -> Result<(Module, Option<Refusal>), Error> {
+        let mut stores = Stores::default();
+        let (records, refusal) = stores.load(bytes, grammar)?;
+        Ok((records.to_module()?, refusal))
     }
 
     /// A module of records from elsewhere. Nothing is checked here: the writers and [`Module::standing`] refuse with 30 what
@@ -172,65 +168,39 @@ impl Module {
     /// The bytes of the module: header words and instructions as they were read. Of a plain module ([`Module::is_plain`]) these
     /// are the bytes it was loaded from.
     pub fn write_parse_order(&self) -> Result<Vec<u8>, Error> {
-        self.write(door::write_parse_order)
+        self.records().write_parse_order()
     }
 
     /// The bytes of the module in the order of its sections, then function by function, with the header that the crate rspirv writes:
     /// of the version major and minor alone, the bound, and constants. Of several memory models the last alone is written.
     pub fn write_module_order(&self) -> Result<Vec<u8>, Error> {
-        self.write(door::write_module_order)
-    }
-
-    /// Writes into no room at first: bad records are refused before anything else is (30), and good ones for want of room (29), since
-    /// there is always a header. Only then is memory asked for, by the end of the last record: neither order writes more.
-    fn write(&self, call: impl Fn(&Module, &mut [u8], &mut [u32; 4]) -> Result<u32, Error>) -> Result<Vec<u8>, Error> {
-        let mut answer = [0; 4];
-        match call(self, &mut [], &mut answer)? {
-            29 => (),
-            number => return Err(refused(number, answer)),
-        }
-        let end = self.instructions.chunks_exact(RECORD).last().map_or(20, |record| record[2] as usize + 4 * record[7] as usize);
-        let mut bytes = room::zeros(end)?;
-        match call(self, &mut bytes, &mut answer)? {
-            0 => {
-                bytes.truncate(answer[2] as usize + ((answer[3] as usize) << 32));
-                Ok(bytes)
-            }
-            number => Err(refused(number, answer)),
-        }
+        self.records().write_module_order()
     }
 
     /// The module as text, for people: four lines for the header, then a line for each instruction in module order, by its names
     /// (docs/REFERENCE.md, "The listing"). 30 where a record breaks the layout or lacks a name.
     pub fn disassemble(&self) -> Result<String, Error> {
-        let mut room = 256 + 4 * (self.instructions.len() + self.log.len() + self.strings.len());
-        loop {
-            let (mut bytes, mut answer) = (room::zeros(room)?, [0; 4]);
-            match door::disassemble(self, &mut bytes, &mut answer)? {
-                0 => {
-                    bytes.truncate(answer[2] as usize + ((answer[3] as usize) << 32));
-                    return Ok(String::from_utf8_lossy(&bytes).into_owned());
-                }
-                32 => room = room.saturating_mul(2),
-                number => return Err(refused(number, answer)),
-            }
-        }
+        self.records().disassemble()
     }
 
     /// Whether the module stands: its sections come first and in order, no parameter follows a label in its function, exactly one
     /// memory model is given, and no function without a label follows one with a label. On a module that stands both orders of
     /// writing agree after the header.
     pub fn standing(&self) -> Result<bool, Error> {
-        let mut answer = [0; 4];
-        match door::standing(self, &mut answer)? {
-            0 => Ok(answer[2] == 1),
-            number => Err(refused(number, answer)),
-        }
+        self.records().standing()
     }
 
-    /// Header words and stores.
-    fn parts(&self) -> (&[u32; 5], &[u32], &[u8], &[u8], &[u32]) {
-        (&self.header, &self.instructions, &self.log, &self.strings, &self.types)
+    /// Header words and records, borrowed.
+    pub fn records(&self) -> Records<'_> {
+        Records {
+            header: self.header,
+            instructions: &self.instructions,
+            log: &self.log,
+            strings: &self.strings,
+            types: &self.types,
+            plain: self.plain,
+            breaks: self.breaks,
+        }
     }
 
     /// The five header words: magic number, version, generator, bound, reserved.
@@ -240,12 +210,12 @@ impl Module {
 
     /// Major and minor version.
     pub fn version(&self) -> (u8, u8) {
-        ((self.header[1] >> 16) as u8, (self.header[1] >> 8) as u8)
+        self.records().version()
     }
 
     /// The instructions in the order they were read.
     pub fn instructions(&self) -> Instructions<'_> {
-        Instructions::of(&self.instructions, &self.log, &self.strings)
+        self.records().instructions()
     }
 
     /// The words of the instruction records, eight each.
@@ -274,9 +244,4 @@ fn whole((module, refusal): (Module, Option<Refusal>)) -> Result<Module, Error> 
         None => Ok(module),
         Some(refusal) => Err(Error::Refused(refusal)),
     }
-}
-
-/// The refusal of a writer or of standing: a number, and the index of a record.
-fn refused(number: u32, answer: [u32; 4]) -> Error {
-    Error::Refused(Refusal { number, offset: 0, index: answer[1], value: 0 })
 }

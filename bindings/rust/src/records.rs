@@ -1,6 +1,7 @@
 //! Records taken apart: instructions and their operands.
 
 use crate::c::RECORD;
+use crate::{kind, presence};
 
 /// One instruction.
 #[derive(Clone, Copy, Debug, PartialEq, Eq)]
@@ -48,13 +49,13 @@ impl<'a> Iterator for Instructions<'a> {
 
     fn next(&mut self) -> Option<Instruction<'a>> {
         let r = self.records.next()?;
-        let presence = r[0] >> 16;
+        let present = r[0] >> 16;
         Some(Instruction {
             opcode: r[0] as u16,
             tag: r[1],
             offset: r[2],
-            result_type: if presence & 1 != 0 { Some(r[3]) } else { None },
-            result_id: if presence & 2 != 0 { Some(r[4]) } else { None },
+            result_type: if present & presence::RESULT_TYPE != 0 { Some(r[3]) } else { None },
+            result_id: if present & presence::RESULT_ID != 0 { Some(r[4]) } else { None },
             word_count: r[7],
             operands: Operands { log: self.log.get(r[5] as usize..).unwrap_or(&[]), strings: self.strings, left: r[6] },
         })
@@ -103,12 +104,12 @@ impl<'a> Iterator for Operands<'a> {
             return None;
         }
         let kind = *self.log.first()?;
-        let long = matches!(kind, 36 | 38 | 40);
+        let long = matches!(kind, kind::LITERAL_INT64 | kind::LITERAL_FLOAT64 | kind::LITERAL_STRING);
         let body = self.log.get(1..if long { 9 } else { 5 })?;
         let word = |at: usize| u32::from_le_bytes([body[at], body[at + 1], body[at + 2], body[at + 3]]);
         let value = match kind {
-            36 | 38 => Value::Long(u64::from(word(0)) | u64::from(word(4)) << 32),
-            40 => Value::Text(self.strings.get(word(0) as usize..word(0) as usize + word(4) as usize)?),
+            kind::LITERAL_INT64 | kind::LITERAL_FLOAT64 => Value::Long(u64::from(word(0)) | u64::from(word(4)) << 32),
+            kind::LITERAL_STRING => Value::Text(self.strings.get(word(0) as usize..word(0) as usize + word(4) as usize)?),
             _ => Value::Word(word(0)),
         };
         self.log = &self.log[1 + body.len()..];

@@ -1,10 +1,17 @@
-//! Refusals: a number, a place, a value, and a sentence for each number. What to do about each is in docs/REFERENCE.md.
+//! Refusals: a number, a place, a value, and a sentence for each number. What to do about each is in docs/REFERENCE.md, which has the same
+//! sentences ("In words").
 
+use crate::{kind, opcode_name};
 use std::error::Error;
 use std::fmt;
 
 /// Why an input is refused.
-#[derive(Clone, Copy, Debug, PartialEq, Eq, Hash)]
+///
+/// ```
+/// let refused = kollafrin::Module::load_builtin(b"no shader").unwrap_err();
+/// assert_eq!(refused.to_string(), "1 at byte 8: the module ends inside its header");
+/// ```
+#[derive(Clone, Copy, Debug, Default, PartialEq, Eq, Hash)]
 pub struct Refusal {
     /// The number of the refusal, 1 to 32; [`sentence`] says what it means.
     pub number: u32,
@@ -15,35 +22,55 @@ pub struct Refusal {
     pub index: u32,
     /// For 5 the opcode, for 10 the enumerant, else 0.
     pub value: u32,
+    /// Which of the two causes 9 has: true where the words of the instruction are all in the module, and a value or mask is missing at
+    /// their end; false where the module ends. False for every other number.
+    pub missing: bool,
 }
 
 impl Refusal {
-    /// What the refusal's number means.
+    /// What is wrong, in a sentence.
     pub fn sentence(&self) -> &'static str {
-        sentence(self.number)
+        if self.missing {
+            MISSING
+        } else {
+            sentence(self.number)
+        }
+    }
+
+    /// Number, place and value, as they stand before the sentence.
+    pub(crate) fn head(&self, f: &mut fmt::Formatter<'_>) -> fmt::Result {
+        write!(f, "{}", self.number)?;
+        match self.number {
+            1 => write!(f, " at byte {}", self.offset),
+            4..=23 | 25..=28 => write!(f, " at byte {}, instruction {}", self.offset, self.index),
+            30 => write!(f, " at record {}", self.index),
+            _ => Ok(()),
+        }
     }
 }
 
 impl fmt::Display for Refusal {
     fn fmt(&self, f: &mut fmt::Formatter<'_>) -> fmt::Result {
-        write!(f, "refused {}: {}", self.number, self.sentence())?;
+        self.head(f)?;
         match self.number {
-            5 | 10 => write!(f, " ({})", self.value)?,
+            5 => write!(f, ", opcode {}", self.value)?,
+            10 => write!(f, ", value {}", self.value)?,
             _ => (),
         }
-        match self.number {
-            1 => write!(f, ", at byte {}", self.offset),
-            4..=23 | 25..=28 => write!(f, ", at byte {}, instruction {}", self.offset, self.index),
-            30 => write!(f, ", record {}", self.index),
-            _ => Ok(()),
-        }
+        write!(f, ": {}", self.sentence())
     }
 }
 
 impl Error for Refusal {}
 
 /// Why two grammars are not joined.
-#[derive(Clone, Copy, Debug, PartialEq, Eq, Hash)]
+///
+/// ```
+/// let (one, other) = ([1, 14, 0, 2, 11, 0], [1, 14, 0]);
+/// let unjoined = kollafrin::join(&one, &other).unwrap_err();
+/// assert_eq!(unjoined.to_string(), "34: OpMemoryModel: the two grammars have row 14 each in its own way");
+/// ```
+#[derive(Clone, Copy, Debug, Default, PartialEq, Eq, Hash)]
 pub struct Unjoined {
     /// 24 where one of the two, or both together, are not well-formed; 34 where they clash. [`sentence`] says what it means.
     pub number: u32,
@@ -53,37 +80,64 @@ pub struct Unjoined {
     pub value: u32,
 }
 
+impl Unjoined {
+    /// The name of the instruction whose row clashes, where a row does and its opcode has a name.
+    pub fn instruction(&self) -> Option<String> {
+        match (self.number, self.place) {
+            (34, 0) => opcode_name(u16::try_from(self.value).ok()?).ok()?,
+            _ => None,
+        }
+    }
+
+    /// The name of the kind of which an enumerant clashes, where one does.
+    pub fn kind(&self) -> Option<&'static str> {
+        match self.number {
+            34 => kind::name(u8::try_from(self.place).ok()?),
+            _ => None,
+        }
+    }
+
+    /// What is wrong, by these names.
+    pub fn words(&self) -> String {
+        let what = match (self.number, self.kind()) {
+            (34, Some(kind)) => format!("{kind} {}", self.value),
+            (34, None) => format!("row {}", self.value),
+            _ => return sentence(self.number).into(),
+        };
+        let name = self.instruction().map_or(String::new(), |name| format!("{name}: "));
+        format!("{name}the two grammars have {what} each in its own way")
+    }
+}
+
 impl fmt::Display for Unjoined {
     fn fmt(&self, f: &mut fmt::Formatter<'_>) -> fmt::Result {
-        write!(f, "refused {}: {}", self.number, sentence(self.number))?;
-        match (self.number, self.place) {
-            (34, 0) => write!(f, " (row {})", self.value),
-            (34, kind) => write!(f, " (kind {kind}, value {})", self.value),
-            _ => Ok(()),
-        }
+        write!(f, "{}: {}", self.number, self.words())
     }
 }
 
 impl Error for Unjoined {}
 
+/// The second sentence of 9; [`sentence`] has the first.
+pub const MISSING: &str = "a value or mask that belongs to an operand is missing at the end of the instruction's words";
+
 /// A sentence for each number, 0 to 32, 34 and 35.
 pub fn sentence(number: u32) -> &'static str {
     match number {
         0 => "the input is accepted",
-        1 => "the header is incomplete",
-        2 => "the header is incorrect: the first word is not the magic number",
-        3 => "the module's bytes are swapped: the first word is the magic number in the other byte order",
-        4 => "the word count is zero",
-        5 => "the opcode is not known",
-        6 => "an operand is expected, and no words are left",
-        7 => "the instruction has words left over after its operands",
+        1 => "the module ends inside its header",
+        2 => "the first word is not the magic number: this is no SPIR-V module",
+        3 => "the first word is the magic number in the other byte order: the bytes of every word are swapped",
+        4 => "the instruction says that it has no words",
+        5 => "the opcode is not known to this grammar",
+        6 => "the instruction's words end where an operand has to begin",
+        7 => "words are left over after the last operand that the instruction has in this grammar",
         8 => "the instruction's words end inside an operand",
-        9 => "the module's bytes end inside an operand, or an enumerant is missing",
-        10 => "the enumerant is not known",
-        11 => "the string is not well-formed UTF-8",
-        12 => "the literal's type has a width that is not supported",
-        13 => "the embedded opcode is not known",
-        14 => "the embedded operation has operands that cannot be embedded",
+        9 => "the module ends inside an operand",
+        10 => "the value or mask is not known to this grammar",
+        11 => "a string is not well-formed UTF-8",
+        12 => "the literal's type has a width that is not read",
+        13 => "the embedded opcode is not known to this grammar",
+        14 => "the embedded operation has operands that are not read there",
         15 => "a function begins inside a function",
         16 => "the module ends inside a function",
         17 => "a function ends where none has begun",
@@ -92,7 +146,7 @@ pub fn sentence(number: u32) -> &'static str {
         20 => "a block begins inside a block",
         21 => "a block is not ended",
         22 => "a terminator stands outside a block",
-        23 => "the instruction cannot stand here, outside a block",
+        23 => "the instruction is read in a block alone, and stands outside",
         24 => "the grammar is not well-formed",
         25 => "there is no room for another instruction record",
         26 => "there is no room in the operand log",

@@ -87,7 +87,7 @@ fn the_grammar() {
 fn records_that_claim_a_terabyte() {
     let records = [14, 4, 20, 0, 0, 0, 0, 65_535].repeat(4_000_000);
     let claimed = Module::from_stores([0; 5], records, vec![], vec![], vec![]);
-    let refused = Error::Refused(Refusal { number: 30, offset: 0, index: 1, value: 0 });
+    let refused = Error::Refused(Refusal { number: 30, index: 1, ..Refusal::default() });
     assert_eq!(with_at_most(0, || claimed.write_parse_order()), (Err(refused), 0));
     assert_eq!(with_at_most(0, || claimed.write_module_order()), (Err(refused), 0));
     assert_eq!(with_at_most(0, || claimed.standing()), (Err(refused), 0));

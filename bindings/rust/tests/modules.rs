@@ -1,7 +1,6 @@
 //! Modules through the safe crate: what is kept, what is refused and where, what is written.
 
-use kollafrin::{builtin, join, sentence, Error, Module, Refusal, Unjoined, Value, MOST_MODULE_BYTES};
-use std::collections::HashSet;
+use kollafrin::{builtin, join, Error, Module, Refusal, Unjoined, Value, MOST_MODULE_BYTES};
 
 /// The header 07230203 00010000 0 0 0 and these words, as bytes.
 fn module(words: &[u32]) -> Vec<u8> {
@@ -9,7 +8,7 @@ fn module(words: &[u32]) -> Vec<u8> {
 }
 
 fn refusal(loaded: Result<Module, Error>) -> (u32, u32, u32, u32) {
-    let Err(Error::Refused(Refusal { number, offset, index, value })) = loaded else { panic!("a refusal") };
+    let Err(Error::Refused(Refusal { number, offset, index, value, .. })) = loaded else { panic!("a refusal") };
     (number, offset, index, value)
 }
 
@@ -68,11 +67,11 @@ fn operands_of_each_form() {
 #[test]
 fn a_refused_load_keeps_what_came_before() {
     let (kept, refusal) = Module::load_builtin_kept(&module(&[0x0002_0011, 0, 0x0001_0038])).unwrap();
-    assert_eq!(refusal, Some(Refusal { number: 17, offset: 28, index: 2, value: 0 }));
+    assert_eq!(refusal, Some(Refusal { number: 17, offset: 28, index: 2, ..Refusal::default() }));
     assert_eq!(kept.instructions().map(|i| i.opcode).collect::<Vec<_>>(), [17]);
     assert_eq!(kept.header()[0], 0x0723_0203);
     let said = refusal.unwrap().to_string();
-    assert_eq!(said, "refused 17: a function ends where none has begun, at byte 28, instruction 2");
+    assert_eq!(said, "17 at byte 28, instruction 2: a function ends where none has begun");
 }
 
 #[test]
@@ -113,7 +112,7 @@ fn records_from_elsewhere_are_checked() {
     let mut words = loaded.instruction_words().to_vec();
     words[1] = 5;
     let bad = Module::from_stores(loaded.header(), words, loaded.log().to_vec(), vec![], vec![]);
-    let refused = |index| Error::Refused(Refusal { number: 30, offset: 0, index, value: 0 });
+    let refused = |index| Error::Refused(Refusal { number: 30, index, ..Refusal::default() });
     assert_eq!(bad.write_parse_order(), Err(refused(1)));
     assert_eq!(bad.write_module_order(), Err(refused(1)));
     assert_eq!(bad.standing(), Err(refused(1)));
@@ -136,7 +135,7 @@ fn a_module_as_text() {
     let mut log = loaded.log().to_vec();
     log[1] = 9;
     let other = Module::from_stores(loaded.header(), loaded.instruction_words().to_vec(), log, loaded.strings().to_vec(), vec![]);
-    assert_eq!(other.disassemble(), Err(Error::Refused(Refusal { number: 30, offset: 0, index: 1, value: 0 })));
+    assert_eq!(other.disassemble(), Err(Error::Refused(Refusal { number: 30, index: 1, ..Refusal::default() })));
 }
 
 #[test]
@@ -183,15 +182,11 @@ fn a_module_that_is_too_long() {
 }
 
 #[test]
-fn every_number_has_its_own_sentence() {
-    let all: HashSet<&str> = (0..=32).chain([34, 35]).map(sentence).collect();
-    assert_eq!(all.len(), 35);
-}
-
-#[test]
 fn every_error_says_what_it_is() {
-    let refusal = Refusal { number: 30, offset: 0, index: 1, value: 0 };
+    let refusal = Refusal { number: 30, index: 1, ..Refusal::default() };
     assert_eq!(Error::Refused(refusal).to_string(), refusal.to_string());
+    let unjoined = Unjoined { number: 24, ..Unjoined::default() };
+    assert_eq!(Error::Unjoined(unjoined).to_string(), unjoined.to_string());
     assert_eq!(Error::NoMemory.to_string(), "no memory");
     assert_eq!(Error::Version(7).to_string(), "the library has version 7, and this crate is for version 2");
 }
