@@ -139,7 +139,7 @@ fn looked_at(call: &Call, path: &Path, bytes: &[u8], grammar: Option<&[u8]>, sto
     }
     let mut object = object.plain("accepted", true);
     if call.plain {
-        let fault = plain::fault(bytes, records)?;
+        let fault = plain::fault(records);
         verdict.not_plain = fault.is_some();
         object = object.plain("plain", fault.is_none());
         if let Some(fault) = fault {

@@ -1,6 +1,6 @@
 //! Whether a module is plain, and where it is not.
 
-use kollafrin::{Error, Records};
+use kollafrin::Records;
 
 const SPEC_CONSTANT_OP: u16 = 52;
 
@@ -14,19 +14,20 @@ pub struct Fault {
     pub words: &'static str,
 }
 
-/// The first place where the bytes of an accepted module are not what its records are written as in the order read, if there is one: that
-/// is what plain means (docs/REFERENCE.md, "Plain form").
-pub fn fault(bytes: &[u8], records: Records<'_>) -> Result<Option<Fault>, Error> {
-    let written = records.write_parse_order()?;
-    let Some(offset) = differs(bytes, &written) else { return Ok(None) };
+/// Where an accepted module is not plain, by the load's own word (docs/REFERENCE.md, "Plain form").
+pub fn fault(records: Records<'_>) -> Option<Fault> {
+    if records.is_plain() {
+        return None;
+    }
+    let offset = records.breaks() as usize;
     let at = records.instructions().enumerate().find(|(_, i)| offset < (i.offset + 4 * i.word_count) as usize);
-    Ok(Some(match at {
+    Some(match at {
         None => Fault { offset, index: None, words: "bytes are left over after the last whole word" },
         Some((index, i)) if i.opcode == SPEC_CONSTANT_OP => {
-            Fault { offset: offset & !3, index: Some(index + 1), words: "the embedded opcode's word has more than an opcode" }
+            Fault { offset, index: Some(index + 1), words: "the embedded opcode's word has more than an opcode" }
         }
         Some((index, _)) => Fault { offset, index: Some(index + 1), words: "a byte that is not zero stands after a string's end" },
-    }))
+    })
 }
 
 /// The first byte in which two runs differ, if there is one: where one ends before the other, its end.
