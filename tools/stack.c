@@ -50,6 +50,9 @@ struct lent {
     size_t number;
 };
 
+/* No text here is longer than so many times its module. */
+enum { TEXT = 16 };
+
 static struct lent lend(const uint8_t *module, size_t length) {
     struct lent x;
     memset(&x, 0, sizeof x);
@@ -60,7 +63,7 @@ static struct lent lend(const uint8_t *module, size_t length) {
     x.log = room(9 * x.words);
     x.strings = room(4 * x.words);
     x.types = room(12 * x.words);
-    x.out = room(length + grammar_length);
+    x.out = room(TEXT * length + grammar_length);
     return x;
 }
 
@@ -103,7 +106,7 @@ static void write_module_order(struct lent *x) {
 static void disassemble(struct lent *x) {
     x->number = kollafrin_disassemble(x->load + KOLLAFRIN_LOAD_HEADER, x->instructions, KOLLAFRIN_RECORD * x->words, x->log, 9 * x->words,
                                       x->strings, 4 * x->words, x->load[KOLLAFRIN_LOAD_INSTRUCTIONS], x->load[KOLLAFRIN_LOAD_LOG],
-                                      x->load[KOLLAFRIN_LOAD_STRINGS], x->out, x->length, x->answer);
+                                      x->load[KOLLAFRIN_LOAD_STRINGS], x->out, TEXT * x->length, x->answer);
 }
 
 static void standing(struct lent *x) {
@@ -209,6 +212,8 @@ static void hold_all(const uint8_t *module, size_t length) {
     expect(memcmp(first, x.load, sizeof first) == 0, "the two loads say different things");
     hold(STANDING, &x);
     expect(x.number == 0, "the records are not good");
+    hold(DISASSEMBLE, &x);
+    expect(x.number == 0 && memcmp(x.out, "; SPIR-V", 8) == 0, "the text is not written");
     hold(WRITE_MODULE_ORDER, &x);
     expect(x.number == 0, "module order is not written");
     hold(WRITE_PARSE_ORDER, &x);
