@@ -670,9 +670,9 @@ fn the_papers_show_what_is_said() {
             }
             // what is written goes to a folder of the test
             let words: Vec<String> =
-                call.split(' ').map(|word| word.strip_prefix("/tmp/").map_or(word.into(), |name| path(&at, name))).collect();
+                call.split(' ').map(|word| word.strip_prefix("out/").map_or(word.into(), |name| path(&at, name))).collect();
             let (_, out, err) = run(&words.iter().map(String::as_str).collect::<Vec<_>>());
-            let said = format!("{out}{err}").replace(at.to_str().unwrap(), "/tmp");
+            let said = format!("{out}{err}").replace(at.to_str().unwrap(), "out");
             // three dots stand for lines that are left out
             match expected.split_once("...\n") {
                 Some((start, end)) => assert!(said.starts_with(start) && said.ends_with(end), "{paper}: {call}\n{said}"),
