@@ -27,12 +27,8 @@ fn run(call: &Call) -> Result<u8, Stop> {
     let path = &call.paths[0];
     let bytes = files::read_one(path)?;
     let mut stores = Stores::default();
-    let (records, refusal) = stores.load(&bytes, grammar.as_deref()).map_err(|error| files::failed(path, &error))?;
     let mut out = Out::new();
-    if let Some(refusal) = refusal {
-        let told = refusal.told(&bytes, grammar.as_deref()).map_err(|error| files::failed(path, &error))?;
-        return Err(text::end(call, &mut out, path, &told));
-    }
+    let records = text::accepted(call, &mut out, path, &bytes, grammar.as_deref(), &mut stores)?;
     let written = if call.module_order { records.write_module_order() } else { records.write_parse_order() };
     let written = written.map_err(|error| files::failed(path, &error))?;
     let differs = differs(&bytes, &written);

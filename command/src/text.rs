@@ -4,7 +4,7 @@ use crate::call::{Call, Command, Stop, ACCEPTED};
 use crate::files;
 use crate::json::Object;
 use crate::out::Out;
-use kollafrin::{Error, Stores, Told};
+use kollafrin::{Error, Records, Stores, Told};
 use std::path::Path;
 
 pub const COMMAND: Command = Command {
@@ -21,12 +21,8 @@ fn run(call: &Call) -> Result<u8, Stop> {
     let path = &call.paths[0];
     let bytes = files::read_one(path)?;
     let mut stores = Stores::default();
-    let (records, refusal) = stores.load(&bytes, grammar.as_deref()).map_err(|error| files::failed(path, &error))?;
     let mut out = Out::new();
-    if let Some(refusal) = refusal {
-        let told = refusal.told(&bytes, grammar.as_deref()).map_err(|error| files::failed(path, &error))?;
-        return Err(end(call, &mut out, path, &told));
-    }
+    let records = accepted(call, &mut out, path, &bytes, grammar.as_deref(), &mut stores)?;
     let text = match records.disassemble() {
         Ok(text) => text,
         Err(Error::Refused(refusal)) => return Err(Stop::Refused(format!("{}: {refusal}", path.display()))),
@@ -39,6 +35,21 @@ fn run(call: &Call) -> Result<u8, Stop> {
     }
     out.flush()?;
     Ok(ACCEPTED)
+}
+
+/// The records of an accepted module; a refused one makes an end.
+pub fn accepted<'a>(
+    call: &Call,
+    out: &mut Out,
+    path: &Path,
+    bytes: &[u8],
+    grammar: Option<&[u8]>,
+    stores: &'a mut Stores,
+) -> Result<Records<'a>, Stop> {
+    let (records, refusal) = stores.load(bytes, grammar).map_err(|error| files::failed(path, &error))?;
+    let Some(refusal) = refusal else { return Ok(records) };
+    let told = refusal.told(bytes, grammar).map_err(|error| files::failed(path, &error))?;
+    Err(end(call, out, path, &told))
 }
 
 /// The end that a refused module makes; where objects are asked for, it is one before.

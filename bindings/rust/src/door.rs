@@ -107,11 +107,28 @@ pub fn load_builtin(
     })
 }
 
-pub fn write_parse_order(records: Records<'_>, out: &mut [u8], answer: &mut [u32; 4]) -> Result<u32, Error> {
+/// A writer of the library, or its listing: all take the same, and answer alike.
+type Writer = unsafe extern "C" fn(
+    *const [u32; 5],
+    *const u32,
+    usize,
+    *const u8,
+    usize,
+    *const u8,
+    usize,
+    usize,
+    usize,
+    usize,
+    *mut u8,
+    usize,
+    *mut [u32; 4],
+) -> u32;
+
+fn write(writer: Writer, records: Records<'_>, out: &mut [u8], answer: &mut [u32; 4]) -> Result<u32, Error> {
     same_version()?;
     // Safety: as for a load: live slices with their lengths, the header's array, and output and answer, which are borrowed mutably.
     Ok(unsafe {
-        c::kollafrin_write_parse_order(
+        writer(
             &records.header,
             records.instructions.as_ptr(),
             records.instructions.len(),
@@ -127,50 +144,18 @@ pub fn write_parse_order(records: Records<'_>, out: &mut [u8], answer: &mut [u32
             answer,
         )
     })
+}
+
+pub fn write_parse_order(records: Records<'_>, out: &mut [u8], answer: &mut [u32; 4]) -> Result<u32, Error> {
+    write(c::kollafrin_write_parse_order, records, out, answer)
 }
 
 pub fn write_module_order(records: Records<'_>, out: &mut [u8], answer: &mut [u32; 4]) -> Result<u32, Error> {
-    same_version()?;
-    // Safety: as for a load: live slices with their lengths, the header's array, and output and answer, which are borrowed mutably.
-    Ok(unsafe {
-        c::kollafrin_write_module_order(
-            &records.header,
-            records.instructions.as_ptr(),
-            records.instructions.len(),
-            records.log.as_ptr(),
-            records.log.len(),
-            records.strings.as_ptr(),
-            records.strings.len(),
-            records.instructions.len() / c::RECORD,
-            records.log.len(),
-            records.strings.len(),
-            out.as_mut_ptr(),
-            out.len(),
-            answer,
-        )
-    })
+    write(c::kollafrin_write_module_order, records, out, answer)
 }
 
 pub fn disassemble(records: Records<'_>, out: &mut [u8], answer: &mut [u32; 4]) -> Result<u32, Error> {
-    same_version()?;
-    // Safety: as for a load: live slices with their lengths, the header's array, and output and answer, which are borrowed mutably.
-    Ok(unsafe {
-        c::kollafrin_disassemble(
-            &records.header,
-            records.instructions.as_ptr(),
-            records.instructions.len(),
-            records.log.as_ptr(),
-            records.log.len(),
-            records.strings.as_ptr(),
-            records.strings.len(),
-            records.instructions.len() / c::RECORD,
-            records.log.len(),
-            records.strings.len(),
-            out.as_mut_ptr(),
-            out.len(),
-            answer,
-        )
-    })
+    write(c::kollafrin_disassemble, records, out, answer)
 }
 
 pub fn standing(records: Records<'_>, answer: &mut [u32; 4]) -> Result<u32, Error> {
