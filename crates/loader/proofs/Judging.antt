@@ -35,9 +35,9 @@ use Rattle.tracker.proofs.Instruction.{track-as}
 use Rattle.parser.specs.declared.inst.Decoded.{Decoded}
 use Rattle.parser.specs.declared.inst.InstRead.{InstRead}
 use Rattle.parser.specs.declared.inst.InstRead.the-variants as inst
-use Rattle.parser.specs.declared.used.Used.{Used}
+use Rattle.used.specs.declared.used.Used.{Used}
 use Rattle.parser.specs.Inst.{Decodes, DecodesOver, RowIs}
-use Rattle.parser.specs.Fresh.{unused}
+use Rattle.used.specs.Fresh.{unused}
 use Rattle.loader.specs.declared.parts.Progress.{Progress}
 use Rattle.loader.specs.declared.parts.Taken.{Taken}
 use Rattle.loader.specs.declared.step.Judged.{Judged}

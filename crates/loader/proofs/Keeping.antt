@@ -29,10 +29,10 @@ use Rattle.tracker.specs.Hints.{Hinted}
 use Rattle.parser.specs.declared.inst.Decoded.{Decoded}
 use Rattle.parser.specs.declared.inst.InstRead.{InstRead}
 use Rattle.parser.specs.declared.inst.InstRead.the-variants.{Got, Refused}
-use Rattle.parser.specs.declared.used.Used.{Used}
-use Rattle.parser.specs.Body.{bodyRead}
+use Rattle.used.specs.declared.used.Used.{Used}
+use Rattle.untyped.specs.Body.{bodyRead}
 use Rattle.parser.specs.Inst.{Decodes, frameOf}
-use Rattle.parser.specs.Fresh.{unused}
+use Rattle.used.specs.Fresh.{unused}
 use Rattle.loader.specs.declared.parts.Progress.{Progress}
 use Rattle.loader.specs.declared.parts.Taken.{Taken}
 use Rattle.loader.specs.Steps.{readAt, tracked, needOf, fieldsBy, Shown, Stored, Recorded}

@@ -35,7 +35,7 @@ use Rattle.tracker.specs.Entries.{entriesOf, stored}
 use Rattle.tracker.specs.Hints.{Blank}
 use Rattle.tracker.specs.declared.TypeTracker.{TypeTracker}
 use Rattle.tracker.proofs.Hinting.{hinted-none}
-use Rattle.parser.specs.Fresh.{unused}
+use Rattle.used.specs.Fresh.{unused}
 use Rattle.loader.specs.declared.parts.Progress.{Progress}
 use Rattle.loader.specs.declared.parts.Taken.{Taken}
 use Rattle.loader.specs.Steps.{usedBy, saidAt, Bounded, Typed, tracked, needOf, Stored, Recorded}

@@ -29,7 +29,7 @@ use Rattle.parser.specs.declared.inst.Decoded.{Decoded}
 use Rattle.parser.specs.declared.inst.InstRead.{InstRead}
 use Rattle.parser.specs.declared.inst.InstRead.the-variants as inst
 use Rattle.parser.specs.Inst.{Handed, Declined, ByRow}
-use Rattle.parser.specs.Fresh.{unused}
+use Rattle.used.specs.Fresh.{unused}
 use Rattle.loader.specs.declared.parts.Progress.{Progress}
 use Rattle.loader.specs.declared.parts.Taken.{Taken}
 use Rattle.loader.specs.declared.parts.Ended.{Ended}

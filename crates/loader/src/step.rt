@@ -14,11 +14,9 @@ use crate::parts::Progress;
 use crate::parts::Taken;
 use crate::parts::fields_of;
 use parser::Decoded;
-use parser::Frame;
 use parser::InstRead;
 use parser::parse_body;
 use parser::parse_inst;
-use parser::unused;
 use records::RECORD;
 use room::room_fault;
 use spec::Cell;
@@ -27,6 +25,8 @@ use spec::Refusal;
 use spec::State;
 use spec::refusals;
 use tracker::Told;
+use used::Frame;
+use used::unused;
 
 // What becomes of an instruction before anything is kept: it goes in, with a tag and the state after it, or is refused.
 pub enum Judged {

@@ -26,16 +26,16 @@ use Rattle.decoder.proofs.Laws.{word-got, word-refused}
 use Rattle.grammar.specs.Index.{Indexed}
 use Rattle.grammar.specs.Find.{Sure, placeFound, rowFound, rowGood}
 use Rattle.tracker.specs.Track.{literalOf, Literals}
-use Rattle.parser.specs.declared.used.Used.{Used}
-use Rattle.parser.specs.declared.used.Parsed.{Parsed}
-use Rattle.parser.specs.declared.used.Parsed.the-variants.{Got, Refused}
+use Rattle.used.specs.declared.used.Used.{Used}
+use Rattle.used.specs.declared.used.Parsed.{Parsed}
+use Rattle.used.specs.declared.used.Parsed.the-variants.{Got, Refused}
 use Rattle.parser.specs.declared.inst.InstRead.{InstRead}
 use Rattle.parser.specs.declared.inst.InstRead.the-variants.{Got as Inst, Refused as NoInst}
-use Rattle.parser.specs.declared.used.Frame.{Frame}
-use Rattle.parser.specs.Parse.{Notes, firstOf, secondOf, notesOf, noteAs, note, notes, noNotes, leftOf, slotsAt, RowRead, Walks}
+use Rattle.used.specs.declared.used.Frame.{Frame}
+use Rattle.used.specs.Parse.{Notes, firstOf, secondOf, notesOf, noteAs, note, notes, noNotes, leftOf, slotsAt, RowRead, Walks}
 use Rattle.parser.specs.Inst.{Ended, Decodes, DecodesOver, ShapeIs, RowIs}
-use Rattle.parser.specs.Body.{Framed, startOf, rowRead, bodyRead}
-use Rattle.parser.proofs.Carried.{row-good}
+use Rattle.untyped.specs.Body.{Framed, startOf, rowRead, bodyRead}
+use Rattle.untyped.proofs.Carried.{row-good}
 
 -- WHAT IS NOTED OF ALL OPERANDS
 

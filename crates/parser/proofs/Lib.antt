@@ -1,13 +1,1 @@
-pub mod UsedLaws
-pub mod KindLaws
-pub mod Walk
-pub mod One
-pub mod Carried
-pub mod Values
-pub mod TypeLaws
-pub mod Once
-pub mod SlotLaws
-pub mod RowLaws
-pub mod SimpleLaws
-pub mod SimpleRows
 pub mod InstLaws

@@ -14,10 +14,10 @@ use Rattle.grammar.specs.Find.{rowGood}
 use Rattle.decoder.specs.declared.Decoder.{Decoder}
 use Rattle.decoder.specs.Answer.{limitReached}
 use Rattle.tracker.specs.Track.{idIs, FirstFit, literalOf, Literals}
-use Rattle.parser.specs.Parse.{wordIs, firstOf, secondOf, slotsAt}
-use Rattle.parser.specs.Body.{bodyRead}
-use Rattle.parser.specs.declared.used.Used.{Used}
-use Rattle.parser.specs.declared.used.Frame.{Frame}
+use Rattle.used.specs.Parse.{wordIs, firstOf, secondOf, slotsAt}
+use Rattle.untyped.specs.Body.{bodyRead}
+use Rattle.used.specs.declared.used.Used.{Used}
+use Rattle.used.specs.declared.used.Frame.{Frame}
 use Rattle.parser.specs.declared.inst.Decoded.{Decoded}
 use Rattle.parser.specs.declared.inst.InstRead.{InstRead}
 use Rattle.parser.specs.declared.inst.InstRead.the-variants.{Got, Refused}

@@ -1,5 +1,1 @@
-pub mod Parse
 pub mod Inst
-pub mod Body
-pub mod Fresh
-pub mod Simple

@@ -10,25 +10,25 @@ ghost use Rattle.grammar.specs.Index.{Indexed};
 ghost use Rattle.grammar.specs.Find.{placeFound, rowFound};
 ghost use Rattle.tracker.specs.Entries.{entriesOf};
 ghost use Rattle.tracker.specs.Hints.{Hinted};
-ghost use Rattle.parser.specs.Fresh.{Fresh};
+ghost use Rattle.used.specs.Fresh.{Fresh};
 ghost use Rattle.parser.specs.Inst.{Ended, Decodes, DecodesOver, ShapeIs, RowIs};
-ghost use Rattle.parser.specs.Body.{Framed, bodyRead};
+ghost use Rattle.untyped.specs.Body.{Framed, bodyRead};
 use crate::rows::parse_operands;
-use crate::simple::Simple;
-use crate::simple::simple_operands;
-use crate::used::Frame;
-use crate::used::Parsed;
-use crate::used::Used;
-use crate::used::id_of;
 use decoder::Decoder;
 use decoder::WordRead;
 use operand::Parts;
+use simple::Simple;
+use simple::simple_operands;
 use spec::Found;
 use spec::Limit;
 use spec::Refusal;
 use spec::refusals;
 use tracker::Id;
 use tracker::TypeTracker;
+use used::Frame;
+use used::Parsed;
+use used::Used;
+use used::id_of;
 
 // An instruction that was read: its opcode, results and word count, where its row's operands start, how many operands, the first two,
 // where log and strings go on after its records, and the lowest offset that breaks it, or 0.

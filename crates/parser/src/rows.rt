@@ -3,9 +3,7 @@ ghost use mathlib.Core.Path.{_≡_};
 ghost use mathlib.Core.Bool.{true, false};
 ghost use mathlib.Core.List.{List};
 ghost use Prim.Native.Nat.{_+_, _*_, _≤_};
-ghost use lib.Dec.{eqb};
 ghost use lib.ListN.{length};
-ghost use Rattle.spec.specs.Base.{if_then_else_};
 ghost use Rattle.spec.specs.Kinds.{isResult, mayBeOperand};
 ghost use Rattle.spec.specs.Records.{Entry};
 ghost use Rattle.spec.specs.Grammar.{grammarOf};
@@ -14,83 +12,29 @@ ghost use Rattle.decoder.specs.Answer.{readerOf};
 ghost use Rattle.grammar.specs.Index.{Indexed};
 ghost use Rattle.tracker.specs.Entries.{entriesOf};
 ghost use Rattle.tracker.specs.Hints.{Hinted};
-ghost use Rattle.parser.specs.Parse.{Few, Parses, Walks, SlotWalks, kindIs, isLiteral, literalFor, kindAlone};
-ghost use Rattle.parser.specs.Fresh.{Fresh, withResult};
-ghost use Rattle.parser.specs.Body.{Framed, startOf, rowRead};
-use crate::embedded::parse_spec_constant_op;
-use crate::literals::literal_for;
+ghost use Rattle.used.specs.Parse.{Few, Parses, Walks, SlotWalks, kindIs, isLiteral, literalFor, kindAlone};
+ghost use Rattle.used.specs.Fresh.{Fresh};
+ghost use Rattle.untyped.specs.Body.{Framed, startOf, rowRead};
 use crate::literals::parse_literal;
 use crate::literals::parse_literal_pair;
-use crate::operands::parse_operand;
-use crate::operands::read_word;
-use crate::used::Frame;
-use crate::used::Parsed;
-use crate::used::Used;
-use crate::used::refused;
-use crate::used::there;
 use decoder::Decoder;
 use decoder::WordRead;
+use embedded::parse_spec_constant_op;
 use grammar::SlotAt;
 use spec::Limit;
 use spec::kinds;
 use spec::refusals;
 use tracker::TypeTracker;
-
-// A result more: the result type for 46, else the result id.
-pub fn with_result(u: Used, kind: u8, id: u64) -> Used
-    ensures { λ r. ⌜ r ≡ withResult kind id u ⌝ }
-{
-    let rtype = u.rtype;
-    let rid = u.rid;
-    let operands = u.operands;
-    let kind1 = u.kind1;
-    let value1 = u.value1;
-    let kind2 = u.kind2;
-    let value2 = u.value2;
-    let log = u.log;
-    let strings = u.strings;
-    let base = u.base;
-    let breaks = u.breaks;
-    if kind == kinds::RESULT_TYPE {
-        return Used {
-            rtype: id,
-            rid,
-            operands,
-            kind1,
-            value1,
-            kind2,
-            value2,
-            log,
-            strings,
-            base,
-            breaks,
-        };
-    }
-    Used {
-        rtype,
-        rid: id,
-        operands,
-        kind1,
-        value1,
-        kind2,
-        value2,
-        log,
-        strings,
-        base,
-        breaks,
-    }
-}
-
-// The place of the operand that comes next: ZeroOrMore stays.
-pub fn next_place(place: usize, quantifier: u8) -> usize
-    requires { ⌜ place ≤ 65535 ⌝ }
-    ensures { λ r. ⌜ r ≡ (if eqb quantifier 2 then place else place + 3) ⌝ }
-{
-    if quantifier == 2 {
-        return place;
-    }
-    place + 3
-}
+use untyped::next_place;
+use untyped::parse_operand;
+use untyped::read_word;
+use used::Frame;
+use used::Parsed;
+use used::Used;
+use used::literal_for;
+use used::refused;
+use used::there;
+use used::with_result;
 
 // An operand that is no result, where a literal by type is of a kind.
 fn parse_kind(

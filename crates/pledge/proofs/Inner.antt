@@ -3,14 +3,22 @@
 use Prim.Native.Nat.{ℕ}
 use mathlib.Core.Path.{_≡_, refl, ap₂, sym, _∙_}
 use mathlib.Core.List.{List}
+use mathlib.Core.Option.{Option, none, some}
 use native.Mathlib.Omega.{arith}
+use borrow.Author.Tests.{eqb-true}
+use lib.Dec.{eqb}
 use Rattle.spec.specs.Grammar.{Slot}
+use Rattle.spec.proofs.Choice.{cases}
 use Rattle.grammar.specs.declared.find.SlotAt.{SlotAt}
 use Rattle.grammar.specs.declared.find.SlotAt.the-variants.{Slot as ASlot, End as NoSlot}
 use Rattle.grammar.specs.declared.find.ParameterAt.{ParameterAt}
 use Rattle.grammar.specs.declared.find.ParameterAt.the-variants.{Parameter as AParameter, End as NoParameter}
 use Rattle.grammar.specs.Find.{slotsThen, parametersThen}
 use Rattle.tracker.specs.declared.TypeTracker.{TypeTracker}
+use Rattle.tracker.specs.declared.Id.{Id}
+use Rattle.tracker.specs.declared.Id.the-variants.{Absent, Is}
+use Rattle.tracker.specs.Track.{idIs}
+use Rattle.used.specs.Parse.{kindIs}
 use Rattle.words.proofs.word_at as word-at-call
 use Rattle.reflect.proofs.place as place-call
 use Rattle.grammar.proofs.item_at as item-at-call
@@ -26,7 +34,13 @@ use Rattle.tracker.proofs.TypeTracker.new as tracker-new-call
 use Rattle.tracker.proofs.TypeTracker.resolve as tracker-resolve-call
 use Rattle.tracker.proofs.TypeTracker.after as tracker-after-call
 use Rattle.tracker.proofs.TypeTracker.track as tracker-track-call
-use Rattle.parser.proofs.unused as unused-call
+use Rattle.used.proofs.unused as unused-call
+use Rattle.used.proofs.first_break as first-break-call
+use Rattle.used.proofs.refused as refused-call
+use Rattle.used.proofs.with_result as with-result-call
+use Rattle.used.proofs.id_of as id-of-call
+use Rattle.used.proofs.literal_for as literal-for-call
+use Rattle.untyped.proofs.next_place as next-place-call
 use Rattle.records.proofs.fields_at as fields-at-call
 use Rattle.records.proofs.record_at as record-at-call
 use Rattle.records.proofs.operand_at as operand-at-call
@@ -72,6 +86,30 @@ same-tracker : {x y : TypeTracker} → x .count ≡ y .count → x .greatest ≡
 same-tracker e f h =
     let by : ℕ → ℕ → ℕ → TypeTracker = λ n g m. record { count = n; greatest = g; marks = m } in
     ap₂ (λ (t : ℕ → TypeTracker) (m : ℕ). t m) (ap₂ by e f) h
+
+-- ids that may be missing
+same-id : (x y : Id) → idIs x ≡ idIs y → x ≡ y
+unfolding idIs
+same-id Absent Absent e = refl
+same-id Absent (Is j) e = let z : _≡_ {A = ℕ} 0 1 = cc in absurd (omega arith)
+same-id (Is i) Absent e = let z : _≡_ {A = ℕ} 0 1 = cc in absurd (omega arith)
+same-id (Is i) (Is j) e = cc
+
+-- no kind is one
+some-none : (k : ℕ) → _≡_ {A = Option ℕ} (some k) none → ⊥
+some-none k e = let z : _≡_ {A = ℕ} 0 1 = cc in absurd (omega arith)
+
+-- kinds of a literal, 0 for none
+same-kind : (j k : ℕ) → kindIs j ≡ kindIs k → j ≡ k
+unfolding kindIs
+same-kind j k e =
+    cases (eqb j 0)
+    (λ a.
+    cases (eqb k 0) (λ b. eqb-true j 0 a ∙ sym (eqb-true k 0 b))
+    (λ b. let f : _≡_ {A = Option ℕ} none (some k) = rw (a, b) at e in absurd (some-none k (sym f))))
+    (λ a.
+    cases (eqb k 0) (λ b. let f : _≡_ {A = Option ℕ} (some j) none = rw (a, b) at e in absurd (some-none j f))
+    (λ b. let f : _≡_ {A = Option ℕ} (some j) (some k) = rw (a, b) at e in cc))
 
 -- THE CALLS
 
@@ -139,6 +177,30 @@ tracker-track = λ κs a x y after other ask p q. (
 -- what is in use where an instruction begins
 pub unused : Determined unused-call.Kinds.ps unused-call.Kinds.r unused-call.Reads.Asked unused-call.Reads.Learnt
 unused = λ κs a x y after other ask p q. (both p q, refl)
+
+-- the first of two offsets that break
+pub first-break : Determined first-break-call.Kinds.ps first-break-call.Kinds.r first-break-call.Reads.Asked first-break-call.Reads.Learnt
+first-break = λ κs a x y after other ask p q. (both p q, refl)
+
+-- a refusal without a value
+pub refused : Determined refused-call.Kinds.ps refused-call.Kinds.r refused-call.Reads.Asked refused-call.Reads.Learnt
+refused = λ κs a x y after other ask p q. (both p q, refl)
+
+-- a result more
+pub with-result : Determined with-result-call.Kinds.ps with-result-call.Kinds.r with-result-call.Reads.Asked with-result-call.Reads.Learnt
+with-result = λ κs a x y after other ask p q. (both p q, refl)
+
+-- the id that a word is
+pub id-of : Determined id-of-call.Kinds.ps id-of-call.Kinds.r id-of-call.Reads.Asked id-of-call.Reads.Learnt
+id-of = λ κs a x y after other ask p q. (same-id x y (both p q), refl)
+
+-- the kind of a literal for an operand
+pub literal-for : Determined literal-for-call.Kinds.ps literal-for-call.Kinds.r literal-for-call.Reads.Asked literal-for-call.Reads.Learnt
+literal-for = λ κs a x y after other ask p q. (same-kind x y (both (p .0) (q .0)), refl)
+
+-- the place of the operand that comes next
+pub next-place : Determined next-place-call.Kinds.ps next-place-call.Kinds.r next-place-call.Reads.Asked next-place-call.Reads.Learnt
+next-place = λ κs a x y after other ask p q. (both p q, refl)
 
 -- the words of a record
 pub fields-at : Determined fields-at-call.Kinds.ps fields-at-call.Kinds.r fields-at-call.Reads.Asked fields-at-call.Reads.Learnt

@@ -1,5 +1,5 @@
 -- `loader::step::decode` meets its contract: the parser's, from scratch and spare on.
-use Rattle.parser.proofs.RowLaws.{fresh-unused}
+use Rattle.untyped.proofs.RowLaws.{fresh-unused}
 use Rattle.loader.proofs.Judging.{shows}
 use native.Mathlib.Omega.{arith}
 use borrow.Author.Needs.{needs}

@@ -1,5 +1,5 @@
 -- `loader::step::keep_operands` meets its contract: from scratch and spare, or read again.
-use Rattle.parser.proofs.RowLaws.{fresh-unused}
+use Rattle.untyped.proofs.RowLaws.{fresh-unused}
 use Rattle.loader.proofs.Keeping.{from-scratch, from-module}
 use mathlib.Core.Path.{sym}
 use lib.Seq.{length-take-le}

@@ -1,7 +1,7 @@
 -- `parser::inst::parse_inst` meets its contract. Assumes nothing.
 use mathlib.Core.Path.{refl, sym, _∙_}
 use Rattle.parser.proofs.InstLaws.{some-words, place-told, body-good, inst-no-word, inst-zero, inst-unknown, inst-by, inst-framed}
-use Rattle.parser.proofs.SimpleLaws.{took}
+use Rattle.simple.proofs.SimpleLaws.{took}
 use borrow.Author.Needs.{needs}
 use Rattle.parser.proofs.inst.parse_inst.Statement.{statement}
 use Rattle.parser.proofs.inst.parse_inst.Tie as tie

@@ -1,10 +1,10 @@
 -- `parser::literals::parse_literal` meets its contract. Assumes nothing.
 use native.Mathlib.Omega.{arith}
 use mathlib.Core.Path.{refl, sym, _∙_}
-use Rattle.parser.proofs.KindLaws.{literal-word, word-single, long-fits}
-use Rattle.parser.proofs.One.{may-push, few-pushed, held-wide, step-long, long-went, spotted-long}
-use Rattle.parser.proofs.Walk.{deny, accept, same-read}
-use Rattle.parser.proofs.TypeLaws.{literal-none, literal-one, long-good, long-bad}
+use Rattle.untyped.proofs.KindLaws.{literal-word, word-single, long-fits}
+use Rattle.untyped.proofs.One.{may-push, few-pushed, held-wide, step-long, long-went, spotted-long}
+use Rattle.untyped.proofs.Walk.{deny, accept, same-read}
+use Rattle.untyped.proofs.LiteralLaws.{literal-none, literal-one, long-good, long-bad}
 use borrow.Author.Needs.{needs}
 use Rattle.parser.proofs.literals.parse_literal.Statement.{statement}
 use Rattle.parser.proofs.literals.parse_literal.Tie as tie

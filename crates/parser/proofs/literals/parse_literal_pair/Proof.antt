@@ -1,8 +1,8 @@
 -- `parser::literals::parse_literal_pair` meets its contract. Assumes nothing.
 use Rattle.spec.specs.Grammar.{grammarOf}
-use Rattle.parser.proofs.KindLaws.{id-single}
-use Rattle.parser.proofs.Walk.{first-bad, first-done, good-told, seq}
-use Rattle.parser.proofs.TypeLaws.{pair-is}
+use Rattle.untyped.proofs.KindLaws.{id-single}
+use Rattle.untyped.proofs.Walk.{first-bad, first-done, good-told, seq}
+use Rattle.untyped.proofs.LiteralLaws.{pair-is}
 use borrow.Author.Needs.{needs}
 use Rattle.parser.proofs.literals.parse_literal_pair.Statement.{statement}
 use Rattle.parser.proofs.literals.parse_literal_pair.Tie as tie

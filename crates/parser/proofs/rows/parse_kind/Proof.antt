@@ -1,7 +1,7 @@
 -- `parser::rows::parse_kind` meets its contract. Assumes nothing.
-use Rattle.parser.proofs.KindLaws.{kind-untyped}
-use Rattle.parser.proofs.Walk.{same-read}
-use Rattle.parser.proofs.SlotLaws.{kind-literal, kind-pair, kind-embedded, kind-operand}
+use Rattle.untyped.proofs.KindLaws.{kind-untyped}
+use Rattle.untyped.proofs.Walk.{same-read}
+use Rattle.untyped.proofs.SlotLaws.{kind-literal, kind-pair, kind-embedded, kind-operand}
 use borrow.Author.Needs.{needs}
 use Rattle.parser.proofs.rows.parse_kind.Statement.{statement}
 use Rattle.parser.proofs.rows.parse_kind.Tie as tie

@@ -3,11 +3,10 @@ use native.Mathlib.Omega.{arith}
 use mathlib.Core.Path.{_∙_}
 use Rattle.spec.specs.Grammar.{grammarOf}
 use Rattle.tracker.specs.Entries.{entriesOf}
-use Rattle.parser.specs.Parse.{leftOf, slotsAt}
-use Rattle.parser.specs.Body.{rowRead}
-use Rattle.parser.proofs.Carried.{indexed-short}
-use Rattle.parser.proofs.Once.{slot-told, end-told, end-past}
-use Rattle.parser.proofs.RowLaws.{Rowing, row-starts, row-log, row-strings, row-ends, next-operand, row-missing, row-spent, row-stops, row-less, row-turn, slots-next}
+use Rattle.used.specs.Parse.{leftOf, slotsAt}
+use Rattle.untyped.specs.Body.{rowRead}
+use Rattle.untyped.proofs.Carried.{indexed-short}
+use Rattle.untyped.proofs.RowLaws.{slot-told, end-told, end-past, Rowing, row-starts, row-log, row-strings, row-ends, next-operand, row-missing, row-spent, row-stops, row-less, row-turn, slots-next}
 use borrow.Author.Needs.{needs}
 use Rattle.parser.proofs.rows.parse_operands.Statement.{statement}
 use Rattle.parser.proofs.rows.parse_operands.Tie as tie

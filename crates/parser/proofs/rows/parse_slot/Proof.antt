@@ -1,7 +1,7 @@
 -- `parser::rows::parse_slot` meets its contract. Assumes nothing.
 use mathlib.Core.Path.{sym, _∙_}
-use Rattle.parser.proofs.KindLaws.{number-word}
-use Rattle.parser.proofs.SlotLaws.{kind-word, walks-result, walks-none, walks-more, walks-as}
+use Rattle.untyped.proofs.KindLaws.{number-word}
+use Rattle.untyped.proofs.SlotLaws.{kind-word, walks-result, walks-none, walks-more, walks-as}
 use borrow.Author.Needs.{needs}
 use Rattle.parser.proofs.rows.parse_slot.Statement.{statement}
 use Rattle.parser.proofs.rows.parse_slot.Tie as tie

@@ -1,7 +1,0 @@
--- `parser::embedded::opcode_break` meets its contract. Assumes nothing.
-use Rattle.parser.proofs.UsedLaws.{opcode-breaks, opcode-low}
-use Rattle.parser.proofs.embedded.opcode_break.Statement.{statement}
-use Rattle.parser.proofs.embedded.opcode_break.Tie as tie
-
-pub opcode-break-spec : {M : Type 1} → statement M
-opcode-break-spec = tie.close (tie.spec (λ c. opcode-breaks (c .before .args .word) _ (c .if1 .taken)) (λ c. opcode-low (c .before .args .word) _ (c .if1 .left)))
