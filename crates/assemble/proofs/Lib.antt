@@ -1,9 +1,1 @@
-pub mod Spell
-pub mod Stores
-pub mod Place
-pub mod Orders
-pub mod Ranges
-pub mod Measure
-pub mod Offsets
 pub mod Writing
-pub mod StandLaws

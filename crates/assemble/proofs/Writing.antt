@@ -22,7 +22,7 @@ use Rattle.records.specs.declared.Checked.the-variants.{Good as AllGood, Bad}
 use Rattle.records.specs.Steps.{given, checkedIs}
 use Rattle.records.specs.Good.{Good}
 use Rattle.records.proofs.Good.{good-by, good-counts, check-is-good, check-is-bad}
-use Rattle.assemble.specs.Placing.{fullStores, GoodStores, instrsOf, ordered, orderBytes, writtenOver, writeOrder}
+use Rattle.spelled.specs.Placing.{fullStores, GoodStores, instrsOf, ordered, orderBytes, writtenOver, writeOrder}
 use Rattle.assemble.specs.Writes.{Writes}
 
 -- THE HEADER

@@ -1,4 +1,1 @@
-pub mod Spelled
-pub mod Placing
 pub mod Writes
-pub mod Stand

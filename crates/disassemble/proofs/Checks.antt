@@ -28,8 +28,8 @@ use Rattle.records.specs.declared.Checked.the-variants.{Good as AllGood, Bad}
 use Rattle.records.specs.Steps.{given, checkedIs, leftAt}
 use Rattle.records.proofs.Operands.{has-true, Inside, left-inside, said-reach, operands-taken}
 use Rattle.records.proofs.Lowest.{AtLeast, fields-late, scan-late, tags-late}
-use Rattle.assemble.specs.Spelled.{AllReadable, operandAfter, operandsFrom, saidBy}
-use Rattle.assemble.specs.Placing.{GoodStores, instrsOf}
+use Rattle.spelled.specs.Spelled.{AllReadable, operandAfter, operandsFrom, saidBy}
+use Rattle.spelled.specs.Placing.{GoodStores, instrsOf}
 use Rattle.assemble.specs.Writes.{Writes}
 use Rattle.assemble.proofs.Writing.{lent-good, lent-check}
 use Rattle.records.proofs.Good.{check-is-good, good-by, good-length}

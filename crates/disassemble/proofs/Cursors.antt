@@ -11,10 +11,10 @@ use Rattle.spec.specs.declared.Fields.{Fields}
 use Rattle.spec.specs.Base.{if_then_else_, only}
 use Rattle.spec.specs.Records.{Placed}
 use Rattle.spec.specs.Write.{hasTag, sectionOf, parametersIn, functions, moduleOrder}
-use Rattle.assemble.specs.Spelled.{saidBy}
-use Rattle.assemble.specs.Placing.{GoodStores, instrsOf, oneAt, tagged}
-use Rattle.assemble.proofs.Stores.{At, one-is}
-use Rattle.assemble.proofs.Orders.{all-end, tagged-more, tagged-yes, tagged-no, sectionsFrom, sections-all, sections-more, sections-end, parameters-end, parameters-none, parameters-more, functions-more, part-definition, part-one, part-none, module-is}
+use Rattle.spelled.specs.Spelled.{saidBy}
+use Rattle.spelled.specs.Placing.{GoodStores, instrsOf, oneAt, tagged}
+use Rattle.spelled.proofs.Stores.{At, one-is}
+use Rattle.spelled.proofs.Orders.{all-end, tagged-more, tagged-yes, tagged-no, sectionsFrom, sections-all, sections-more, sections-end, parameters-end, parameters-none, parameters-more, functions-more, part-definition, part-one, part-none, module-is}
 use Rattle.disassemble.specs.declared.order.Cursor.{Cursor}
 use Rattle.disassemble.specs.declared.order.Next.{Next}
 use Rattle.disassemble.specs.declared.order.Next.the-variants as next

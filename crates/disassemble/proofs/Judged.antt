@@ -23,7 +23,7 @@ use Rattle.names.specs.Find.{textFound}
 use Rattle.operand.specs.Parts.{isTwo}
 use Rattle.records.specs.Good.{operandBy, operandAt}
 use Rattle.records.proofs.Good.{operand-is}
-use Rattle.assemble.specs.Spelled.{AllReadable, operandAfter, operandsFrom, saidBy}
+use Rattle.spelled.specs.Spelled.{AllReadable, operandAfter, operandsFrom, saidBy}
 use Rattle.disassemble.specs.Putting.{bitNamed, hasBits}
 use Rattle.disassemble.specs.Listed.{saidFrom, Told, namedCount}
 use Rattle.disassemble.proofs.Texts.{no-bits, half-twice, own-set, bits-in, value-in}

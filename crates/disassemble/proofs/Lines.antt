@@ -22,7 +22,7 @@ use Rattle.names.specs.Find.{textFound, Inside}
 use Rattle.operand.specs.Parts.{isTwo}
 use Rattle.records.specs.Good.{operandBy, operandAt}
 use Rattle.records.proofs.Good.{operand-is}
-use Rattle.assemble.specs.Spelled.{Readable, AllReadable, operandAfter, operandsFrom, saidBy}
+use Rattle.spelled.specs.Spelled.{Readable, AllReadable, operandAfter, operandsFrom, saidBy}
 use Rattle.disassemble.specs.Putting.{typeBy}
 use Rattle.disassemble.specs.Listed.{nameIn}
 use Rattle.disassemble.proofs.Texts.{readable-more}

@@ -7,7 +7,7 @@ use lib.Dec.{eqb}
 use Rattle.spec.specs.Words.{bitsOf}
 use Rattle.spec.specs.Disassembly.{barred, operandText, spaced}
 use Rattle.records.specs.Good.{operandAt}
-use Rattle.assemble.specs.Spelled.{AllReadable, operandAfter, operandsFrom}
+use Rattle.spelled.specs.Spelled.{AllReadable, operandAfter, operandsFrom}
 use Rattle.disassemble.specs.Putting.{largest}
 use Rattle.disassemble.specs.Putting.{Room, Wrote, bitText}
 use Rattle.disassemble.proofs.Put.{Going, going-starts, going-on}

@@ -19,10 +19,10 @@ use Rattle.spec.specs.Disassembly.{setNamed, setIn, isId, importOf, setOf}
 use Rattle.operand.specs.Parts.{isTwo}
 use Rattle.records.specs.Good.{operandBy, operandAt}
 use Rattle.records.proofs.Good.{operand-is}
-use Rattle.assemble.specs.Spelled.{Readable, AllReadable, operandAfter, operandsFrom, saidBy}
-use Rattle.assemble.specs.Placing.{GoodStores, instrsOf}
-use Rattle.assemble.proofs.Stores.{At, stores-at}
-use Rattle.assemble.proofs.Orders.{all-end}
+use Rattle.spelled.specs.Spelled.{Readable, AllReadable, operandAfter, operandsFrom, saidBy}
+use Rattle.spelled.specs.Placing.{GoodStores, instrsOf}
+use Rattle.spelled.proofs.Stores.{At, stores-at}
+use Rattle.spelled.proofs.Orders.{all-end}
 use Rattle.disassemble.specs.Listed.{ImportsEnd}
 use Rattle.disassemble.proofs.Texts.{readable-more}
 

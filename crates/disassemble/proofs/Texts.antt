@@ -24,7 +24,7 @@ use Rattle.names.specs.Find.{textFound, Inside}
 use Rattle.operand.specs.Parts.{isTwo}
 use Rattle.records.specs.Good.{operandBy, operandAt}
 use Rattle.records.proofs.Good.{operand-is}
-use Rattle.assemble.specs.Spelled.{Readable, AllReadable, operandAfter, operandsFrom}
+use Rattle.spelled.specs.Spelled.{Readable, AllReadable, operandAfter, operandsFrom}
 use Rattle.disassemble.specs.Putting.{barredFrom, bitText, hasBits}
 
 -- A STRING

@@ -20,11 +20,11 @@ use Rattle.spec.specs.Disassembly.{headerText, instrText, linesText, moduleText
 use Rattle.operand.specs.Log.{kept}
 use Rattle.records.specs.declared.Checked.{Checked as Answer}
 use Rattle.records.specs.declared.Checked.the-variants.{Good, Bad}
-use Rattle.assemble.specs.Spelled.{saidBy}
-use Rattle.assemble.specs.Placing.{GoodStores, instrsOf, oneAt}
+use Rattle.spelled.specs.Spelled.{saidBy}
+use Rattle.spelled.specs.Placing.{GoodStores, instrsOf, oneAt}
 use Rattle.assemble.specs.Writes.{Writes}
-use Rattle.assemble.proofs.Spell.{joined-append}
-use Rattle.assemble.proofs.Stores.{At, one-is, stores-in}
+use Rattle.spelled.proofs.Spell.{joined-append}
+use Rattle.spelled.proofs.Stores.{At, one-is, stores-in}
 use Rattle.disassemble.specs.declared.order.Cursor.{Cursor}
 use Rattle.disassemble.specs.declared.order.Next.{Next}
 use Rattle.disassemble.specs.declared.order.Next.the-variants as next

@@ -12,9 +12,9 @@ use Rattle.spec.specs.Write.{hasTag, parametersIn, functions, Writing, putOr}
 use Rattle.spec.specs.Disassembly.{isNamed, extName}
 use Rattle.records.specs.declared.Checked.{Checked as Answer}
 use Rattle.records.specs.declared.Checked.the-variants.{Good, Bad}
-use Rattle.assemble.specs.Spelled.{AllReadable, saidBy}
-use Rattle.assemble.specs.Placing.{oneAt, tagged}
-use Rattle.assemble.proofs.Orders.{sectionsFrom}
+use Rattle.spelled.specs.Spelled.{AllReadable, saidBy}
+use Rattle.spelled.specs.Placing.{oneAt, tagged}
+use Rattle.spelled.proofs.Orders.{sectionsFrom}
 use Rattle.disassemble.specs.declared.order.Cursor.{Cursor}
 use Rattle.disassemble.specs.declared.order.Next.{Next}
 use Rattle.disassemble.specs.declared.order.Next.the-variants.{At, End}

@@ -8,7 +8,7 @@ ghost use Rattle.spec.specs.Disassembly.{isThere, operandNamed};
 ghost use Rattle.spec.specs.Disassembly.{isNamed as namedOf};
 ghost use Rattle.names.specs.Run.{Indexed};
 ghost use Rattle.records.specs.Good.{operandAt};
-ghost use Rattle.assemble.specs.Spelled.{Readable, AllReadable, operandsFrom, saidBy};
+ghost use Rattle.spelled.specs.Spelled.{Readable, AllReadable, operandsFrom, saidBy};
 ghost use Rattle.disassemble.specs.Putting.{bitNamed};
 ghost use Rattle.disassemble.specs.Listed.{saidFrom, Told, namedCount};
 use crate::operands::after;

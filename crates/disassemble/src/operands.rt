@@ -8,7 +8,7 @@ ghost use Rattle.spec.specs.Disassembly.{byteText, stringText, nameText, namesI
 ghost use Rattle.names.specs.Run.{Indexed};
 ghost use Rattle.operand.specs.Parts.{isTwo};
 ghost use Rattle.records.specs.Good.{Whole, operandAt};
-ghost use Rattle.assemble.specs.Spelled.{Readable, AllReadable, operandAfter, operandsFrom};
+ghost use Rattle.spelled.specs.Spelled.{Readable, AllReadable, operandAfter, operandsFrom};
 ghost use Rattle.disassemble.specs.Putting.{Room, Wrote, bitText, hasBits};
 use crate::pieces::put_byte;
 use crate::pieces::put_bytes;

@@ -7,7 +7,7 @@ ghost use Rattle.spec.specs.Disassembly.{headerText, linesText, moduleText};
 ghost use Rattle.spec.specs.Disassembly.{disassemble as disassembleOf};
 ghost use Rattle.names.specs.Run.{Indexed};
 ghost use Rattle.records.specs.Steps.{given};
-ghost use Rattle.assemble.specs.Placing.{GoodStores, instrsOf};
+ghost use Rattle.spelled.specs.Placing.{GoodStores, instrsOf};
 ghost use Rattle.assemble.specs.Writes.{Writes};
 ghost use Rattle.disassemble.specs.Putting.{Room, Wrote};
 ghost use Rattle.disassemble.specs.Listed.{ImportsEnd, BadFromOne, beforeBad, textOver};

@@ -275,7 +275,7 @@ pub extern "C" fn kollafrin_standing(
         «instruction_count» «log_count» «string_count»))
         (now (answer .exit)) r ⌝ }
 {
-    let x = assemble::standing(
+    let x = standing::standing(
         instructions,
         log,
         strings,

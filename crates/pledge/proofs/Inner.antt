@@ -53,6 +53,11 @@ use Rattle.operand.proofs.record_length as record-length-call
 use Rattle.operand.proofs.keep_record as keep-record-call
 use Rattle.words.proofs.put_bytes as put-bytes-call
 use Rattle.operand.proofs.keep_bytes as keep-bytes-call
+use Rattle.spelled.proofs.put_instruction as put-instruction-call
+use Rattle.ranges.proofs.end_of as end-of-call
+use Rattle.ranges.proofs.module_end as module-end-call
+use Rattle.order.proofs.put_read as put-read-call
+use Rattle.order.proofs.put_module as put-module-call
 use Rattle.names.proofs.table as names-table-call
 use Rattle.records.proofs.at_most as at-most-call
 use Rattle.texts.proofs.put as put-call
@@ -247,6 +252,24 @@ put-bytes = λ κs a x y after other ask p q. (refl, and (both p q) refl)
 -- bytes kept in a store where they fit
 pub keep-bytes : Determined keep-bytes-call.Kinds.ps keep-bytes-call.Kinds.r keep-bytes-call.Reads.Asked keep-bytes-call.Reads.Learnt
 keep-bytes = λ κs a x y after other ask p q. (refl, and (both p q) refl)
+
+-- an instruction put into an output
+pub put-instruction : Determined put-instruction-call.Kinds.ps put-instruction-call.Kinds.r put-instruction-call.Reads.Asked put-instruction-call.Reads.Learnt
+put-instruction = λ κs a x y after other ask p q. (refl, and refl (and refl (and refl (and (both p q) refl))))
+
+-- where the instructions end, as read and in module order
+pub end-of : Determined end-of-call.Kinds.ps end-of-call.Kinds.r end-of-call.Reads.Asked end-of-call.Reads.Learnt
+end-of = λ κs a x y after other ask p q. (both p q, refl)
+
+pub module-end : Determined module-end-call.Kinds.ps module-end-call.Kinds.r module-end-call.Reads.Asked module-end-call.Reads.Learnt
+module-end = λ κs a x y after other ask p q. (both p q, refl)
+
+-- the instructions put into an output, as read and in module order
+pub put-read : Determined put-read-call.Kinds.ps put-read-call.Kinds.r put-read-call.Reads.Asked put-read-call.Reads.Learnt
+put-read = λ κs a x y after other ask p q. (refl, and refl (and refl (and refl (and refl (and (both p q) refl)))))
+
+pub put-module : Determined put-module-call.Kinds.ps put-module-call.Kinds.r put-module-call.Reads.Asked put-module-call.Reads.Learnt
+put-module = λ κs a x y after other ask p q. (refl, and refl (and refl (and refl (and refl (and refl (and refl (and (both p q) refl)))))))
 
 -- the names as one run of bytes
 pub names-table : Determined names-table-call.Kinds.ps names-table-call.Kinds.r names-table-call.Reads.Asked names-table-call.Reads.Learnt

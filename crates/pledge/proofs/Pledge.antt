@@ -46,7 +46,7 @@ use Rattle.loader.proofs.load as load-call
 use Rattle.loader.proofs.load_builtin as load-builtin-call
 use Rattle.assemble.proofs.write_parse_order as parse-call
 use Rattle.assemble.proofs.write_module_order as module-call
-use Rattle.assemble.proofs.standing as standing-call
+use Rattle.standing.proofs.standing as standing-call
 use Rattle.disassemble.proofs.disassemble as disassemble-call
 use Rattle.join.proofs.join as join-call
 use Rattle.round_trip.proofs.round_trip as round-trip-call

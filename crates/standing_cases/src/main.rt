@@ -24,7 +24,7 @@ fn same_after(a: &[u8; 256], b: &[u8; 256]) -> bool {
 // Writes whether the records of a load stand.
 fn stands(x: Loaded, instructions: &[u32], log: &[u8], strings: &[u8]) {
     let c = x.counts;
-    let s = assemble::standing(instructions, log, strings, c.instructions, c.log, c.strings);
+    let s = standing::standing(instructions, log, strings, c.instructions, c.log, c.strings);
     if s.yes {
         say(b" stands,");
     } else {

@@ -3,7 +3,7 @@
 use mathlib.Core.Path.{refl}
 use native.Mathlib.Omega.{arith}
 use borrow.Author.Needs.{needs}
-use Rattle.assemble.proofs.Stores.{stores-length}
+use Rattle.spelled.proofs.Stores.{stores-length}
 use Rattle.assemble.proofs.Writing.{whole-order, write-full, write-done}
 use Rattle.assemble.proofs.write.write_whole.Statement.{statement}
 use Rattle.assemble.proofs.write.write_whole.Tie as tie

@@ -5,8 +5,8 @@ use Prim.Native.Nat.{_≤_}
 use mathlib.Core.Option.{none}
 use lib.ListN.{drop}
 use Rattle.spec.specs.Disassembly.{setOf}
-use Rattle.assemble.specs.Placing.{instrsOf}
-use Rattle.assemble.proofs.Stores.{stores-at, stores-in}
+use Rattle.spelled.specs.Placing.{instrsOf}
+use Rattle.spelled.proofs.Stores.{stores-at, stores-in}
 use Rattle.disassemble.proofs.Sets.{under, set-up, set-start, set-hit, set-miss, set-nothing}
 use native.Mathlib.Omega.{arith}
 use Rattle.disassemble.proofs.imports.set_of.Statement.{statement}

@@ -1,6 +1,6 @@
 -- `disassemble::line::ext_name` meets its contract.
 -- Assumes nothing.
-use Rattle.assemble.specs.Placing.{instrsOf}
+use Rattle.spelled.specs.Placing.{instrsOf}
 use Rattle.disassemble.proofs.Lines.{inside-none, two-inside, name-two, name-off, name-kinds, name-setless, name-set}
 use borrow.Author.Needs.{needs}
 use native.Mathlib.Omega.{arith}

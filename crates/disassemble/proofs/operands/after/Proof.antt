@@ -1,7 +1,7 @@
 -- `disassemble::operands::after` meets its contract: five bytes, or nine.
 -- Assumes nothing.
 use mathlib.Core.Path.{sym, _∙_}
-use Rattle.assemble.proofs.Spell.{after-two, after-one}
+use Rattle.spelled.proofs.Spell.{after-two, after-one}
 use borrow.Author.Needs.{needs}
 use native.Mathlib.Omega.{arith}
 use Rattle.disassemble.proofs.operands.after.Statement.{statement}

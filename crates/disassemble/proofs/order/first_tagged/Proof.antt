@@ -3,8 +3,8 @@
 use mathlib.Core.Path.{_≡_, refl}
 use Prim.Native.Nat.{_-_}
 use lib.ListN.{drop}
-use Rattle.assemble.specs.Placing.{instrsOf, tagged}
-use Rattle.assemble.proofs.Stores.{stores-at, stores-in}
+use Rattle.spelled.specs.Placing.{instrsOf, tagged}
+use Rattle.spelled.proofs.Stores.{stores-at, stores-in}
 use Rattle.disassemble.proofs.Cursors.{first-yes, first-no, first-none}
 use native.Mathlib.Omega.{arith}
 use Rattle.disassemble.proofs.order.first_tagged.Statement.{statement}

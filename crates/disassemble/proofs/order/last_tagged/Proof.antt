@@ -4,8 +4,8 @@ use mathlib.Core.Path.{_≡_}
 use Prim.Native.Nat.{_≤_}
 use mathlib.Core.List.{[]}
 use lib.ListN.{drop}
-use Rattle.assemble.specs.Placing.{instrsOf, tagged}
-use Rattle.assemble.proofs.Stores.{stores-at, stores-in}
+use Rattle.spelled.specs.Placing.{instrsOf, tagged}
+use Rattle.spelled.proofs.Stores.{stores-at, stores-in}
 use Rattle.disassemble.proofs.Cursors.{below, up, last-starts, last-yes, last-no, last-none}
 use native.Mathlib.Omega.{arith}
 use Rattle.disassemble.proofs.order.last_tagged.Statement.{statement}

@@ -4,9 +4,9 @@ use mathlib.Core.Path.{_≡_, refl, _∙_}
 use Prim.Native.Nat.{_-_}
 use lib.ListN.{drop}
 use Rattle.spec.specs.Write.{functions}
-use Rattle.assemble.specs.Placing.{instrsOf}
-use Rattle.assemble.proofs.Stores.{stores-at, stores-in}
-use Rattle.assemble.proofs.Orders.{functions-end, all-end}
+use Rattle.spelled.specs.Placing.{instrsOf}
+use Rattle.spelled.proofs.Stores.{stores-at, stores-in}
+use Rattle.spelled.proofs.Orders.{functions-end, all-end}
 use Rattle.disassemble.proofs.Cursors.{function-definition, function-part, function-none, follows-end}
 use native.Mathlib.Omega.{arith}
 use Rattle.disassemble.proofs.order.next_function.Statement.{statement}

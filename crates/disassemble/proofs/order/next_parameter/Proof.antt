@@ -2,9 +2,9 @@
 -- Assumes nothing.
 use mathlib.Core.Path.{_≡_, refl}
 use Prim.Native.Nat.{_-_}
-use Rattle.assemble.specs.Placing.{instrsOf}
+use Rattle.spelled.specs.Placing.{instrsOf}
 use Rattle.disassemble.specs.Listed.{parametersLeft}
-use Rattle.assemble.proofs.Stores.{stores-at, stores-in}
+use Rattle.spelled.proofs.Stores.{stores-at, stores-in}
 use Rattle.disassemble.proofs.Cursors.{parameter-end, parameter-yes, parameter-no, parameter-past, follows-as}
 use native.Mathlib.Omega.{arith}
 use Rattle.disassemble.proofs.order.next_parameter.Statement.{statement}

@@ -2,7 +2,7 @@
 -- Assumes nothing.
 use mathlib.Core.Path.{_≡_, _∙_}
 use Prim.Native.Nat.{_-_}
-use Rattle.assemble.specs.Placing.{instrsOf}
+use Rattle.spelled.specs.Placing.{instrsOf}
 use Rattle.disassemble.specs.Listed.{sectionsLeft}
 use Rattle.disassemble.proofs.Cursors.{sectionsOr, or-section, or-functions, section-has, section-lacks, follows-as}
 use native.Mathlib.Omega.{arith}

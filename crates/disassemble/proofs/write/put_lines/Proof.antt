@@ -3,9 +3,9 @@
 use lib.ListN.{length}
 use Rattle.spec.specs.Write.{moduleOrder}
 use Rattle.spec.specs.Disassembly.{linesText}
-use Rattle.assemble.specs.Placing.{instrsOf}
+use Rattle.spelled.specs.Placing.{instrsOf}
 use Rattle.disassemble.specs.Listed.{leftOf}
-use Rattle.assemble.proofs.Stores.{stores-at, stores-in}
+use Rattle.spelled.proofs.Stores.{stores-at, stores-in}
 use Rattle.disassemble.proofs.Put.{Going, going-length, going-room, going-on, going-ends}
 use Rattle.disassemble.proofs.Wholes.{lines-start, next-told, lines-more, lines-fewer, lines-end, never}
 use borrow.Author.Needs.{needs}

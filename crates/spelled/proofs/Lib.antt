@@ -1,0 +1,4 @@
+pub mod Spell
+pub mod Stores
+pub mod Place
+pub mod Orders
