@@ -25,7 +25,7 @@ use Rattle.spec.proofs.Choice.{IfSome}
 use Rattle.spec.proofs.Faultless.{none-if, no-faults, Said, record-said}
 use Rattle.records.specs.declared.Checked.{Checked as Answer}
 use Rattle.records.specs.declared.Checked.the-variants.{Good as AllGood, Bad}
-use Rattle.records.specs.Steps.{given, checkedIs, leftAt}
+use Rattle.records.specs.Steps.{given, checkedIs, leftAt, atMost}
 use Rattle.records.proofs.Operands.{has-true, Inside, left-inside, said-reach, operands-taken}
 use Rattle.records.proofs.Lowest.{AtLeast, fields-late, scan-late, tags-late}
 use Rattle.spelled.specs.Spelled.{AllReadable, operandAfter, operandsFrom, saidBy}
@@ -33,7 +33,6 @@ use Rattle.spelled.specs.Placing.{GoodStores, instrsOf}
 use Rattle.assemble.specs.Writes.{Writes}
 use Rattle.assemble.proofs.Writing.{lent-good, lent-check}
 use Rattle.records.proofs.Good.{check-is-good, good-by, good-length}
-use Rattle.records.specs.Steps.{atMost}
 use Rattle.records.proofs.Fields.{take-most}
 use Rattle.names.specs.Run.{nameRun, Indexed}
 use Rattle.disassemble.specs.Listed.{saidFrom, Told, namedCount, BadFromOne, beforeBad, textOver}

@@ -24,9 +24,9 @@ use Rattle.operand.specs.Parts.{isTwo}
 use Rattle.records.specs.Good.{operandBy, operandAt}
 use Rattle.records.proofs.Good.{operand-is}
 use Rattle.spelled.specs.Spelled.{AllReadable, operandAfter, operandsFrom, saidBy}
-use Rattle.disassemble.specs.Putting.{bitNamed, hasBits}
+use Rattle.pieces.specs.Putting.{bitNamed, hasBits}
 use Rattle.disassemble.specs.Listed.{saidFrom, Told, namedCount}
-use Rattle.disassemble.proofs.Texts.{no-bits, half-twice, own-set, bits-in, value-in}
+use Rattle.pieces.proofs.Texts.{no-bits, half-twice, own-set, bits-in, value-in}
 
 -- A NAME
 

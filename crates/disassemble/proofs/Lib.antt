@@ -1,9 +1,4 @@
-pub mod Put
-pub mod Texts
 pub mod Judged
 pub mod Cursors
-pub mod Masks
-pub mod Sets
-pub mod Lines
 pub mod Wholes
 pub mod Checks

@@ -1,5 +1,5 @@
 -- Laws of the whole text: header, lines in module order, measured and written.
-use Prim.Native.Nat.{ℕ, zero, suc, _+_, _*_, _-_, _<_, _≤_}
+use Prim.Native.Nat.{ℕ, zero, suc, _*_, _-_, _<_, _≤_}
 use mathlib.Core.Path.{_≡_, refl, ap, sym, subst, _∙_}
 use mathlib.Core.Bool.{Bool, true, false}
 use mathlib.Core.List.{List, [], _∷_, _++_, append-nil, append-assoc}
@@ -28,9 +28,9 @@ use Rattle.spelled.proofs.Stores.{At, one-is, stores-in}
 use Rattle.disassemble.specs.declared.order.Cursor.{Cursor}
 use Rattle.disassemble.specs.declared.order.Next.{Next}
 use Rattle.disassemble.specs.declared.order.Next.the-variants as next
-use Rattle.disassemble.specs.Putting.{largest, Room, Wrote}
+use Rattle.pieces.specs.Putting.{largest, Room, Wrote}
 use Rattle.disassemble.specs.Listed.{leftOf, Follows, BadFromOne, beforeBad, textOver}
-use Rattle.disassemble.proofs.Put.{Going, going-starts}
+use Rattle.pieces.proofs.Put.{Going, going-starts}
 use Rattle.disassemble.proofs.Cursors.{left-all}
 
 -- THE HEADER

@@ -1,15 +1,14 @@
--- Records read by their places, their names, imports and module order, as the code goes through them.
-use Prim.Native.Nat.{ℕ, zero, suc, _+_, _*_, _-_, _<_, _≤_}
+-- Records read by their places, their names and module order, as the code goes through them.
+use Prim.Native.Nat.{ℕ, zero, suc, _+_, _-_, _<_, _≤_}
 use mathlib.Core.Path.{_≡_}
-use mathlib.Core.Bool.{_&&_}
 use mathlib.Core.List.{List, [], _∷_, _++_, reverse}
-use mathlib.Core.Option.{Option, none}
+use mathlib.Core.Option.{none}
 use lib.Dec.{ltb, eqb}
 use lib.ListN.{length, take, drop}
 use Rattle.spec.specs.Base.{if_then_else_}
 use Rattle.spec.specs.Records.{Placed, recordSize, fieldsAt}
-use Rattle.spec.specs.Write.{hasTag, parametersIn, functions, Writing, putOr}
-use Rattle.spec.specs.Disassembly.{isNamed, extName}
+use Rattle.spec.specs.Write.{parametersIn, functions, Writing, putOr}
+use Rattle.spec.specs.Disassembly.{isNamed}
 use Rattle.records.specs.declared.Checked.{Checked as Answer}
 use Rattle.records.specs.declared.Checked.the-variants.{Good, Bad}
 use Rattle.spelled.specs.Spelled.{AllReadable, saidBy}
@@ -46,16 +45,6 @@ BadFromOne (Bad i) = 1 ≤ i
 unfoldable pub beforeBad : Answer → ℕ → ℕ
 beforeBad Good count = count
 beforeBad (Bad i) count = i - 1
-
--- IMPORTS
-
--- no record from an index on is an import
-unfoldable pub ImportsEnd : List ℕ → ℕ → ℕ → Type 0
-ImportsEnd ws count end = (i : ℕ) → end ≤ i → i < count → fieldsAt (drop (recordSize * i) ws) .tag ≡ 3 → ⊥
-
--- the name that takes the place of an instruction's second operand
-unfoldable pub nameIn : List Placed → Placed → Option (List ℕ)
-nameIn is p = let name = extName is (p .instr .operands) in if eqb (p .instr .opcode) 12 && hasTag 15 p then name else none
 
 -- MODULE ORDER
 

@@ -65,6 +65,17 @@ use Rattle.texts.proofs.digit_count as digit-count-call
 use Rattle.texts.proofs.digits as digits-call
 use Rattle.texts.proofs.decimal as decimal-call
 use Rattle.texts.proofs.hex as hex-call
+use Rattle.pieces.proofs.put_byte as put-byte-call
+use Rattle.pieces.proofs.put_bytes as text-put-bytes-call
+use Rattle.pieces.proofs.put_number as put-number-call
+use Rattle.pieces.proofs.put_id as put-id-call
+use Rattle.pieces.proofs.put_name as put-name-call
+use Rattle.pieces.proofs.put_operands as put-operands-call
+use Rattle.pieces.proofs.after as after-call
+use Rattle.pieces.proofs.has_bits as has-bits-call
+use Rattle.pieces.proofs.set_of_kind as set-of-kind-call
+use Rattle.imports.proofs.set_of as set-of-call
+use Rattle.line.proofs.put_line as put-line-call
 use Rattle.listed.proofs.listing as listing-call
 use Rattle.pledge.proofs.Offered.{Determined, both, and}
 
@@ -298,6 +309,44 @@ decimal = λ κs a x y after other ask p q. (both (p .ends) (q .ends), and (both
 -- the last hexadecimal digits of a number
 pub hex : Determined hex-call.Kinds.ps hex-call.Kinds.r hex-call.Reads.Asked hex-call.Reads.Learnt
 hex = λ κs a x y after other ask p q. (both (p .ends) (q .ends), and (both (p .is) (q .is)) refl)
+
+-- pieces of text, kept or only measured
+pub put-byte : Determined put-byte-call.Kinds.ps put-byte-call.Kinds.r put-byte-call.Reads.Asked put-byte-call.Reads.Learnt
+put-byte = λ κs a x y after other ask p q. (both (p .place) (q .place), and (both (p .stored) (q .stored)) refl)
+
+pub text-put-bytes : Determined text-put-bytes-call.Kinds.ps text-put-bytes-call.Kinds.r text-put-bytes-call.Reads.Asked text-put-bytes-call.Reads.Learnt
+text-put-bytes = λ κs a x y after other ask p q. (both (p .place) (q .place), and (both (p .stored) (q .stored)) refl)
+
+pub put-number : Determined put-number-call.Kinds.ps put-number-call.Kinds.r put-number-call.Reads.Asked put-number-call.Reads.Learnt
+put-number = λ κs a x y after other ask p q. (both (p .place) (q .place), and (both (p .stored) (q .stored)) refl)
+
+pub put-id : Determined put-id-call.Kinds.ps put-id-call.Kinds.r put-id-call.Reads.Asked put-id-call.Reads.Learnt
+put-id = λ κs a x y after other ask p q. (both (p .place) (q .place), and (both (p .stored) (q .stored)) refl)
+
+pub put-name : Determined put-name-call.Kinds.ps put-name-call.Kinds.r put-name-call.Reads.Asked put-name-call.Reads.Learnt
+put-name = λ κs a x y after other ask p q. (both (p .place) (q .place), and refl (and refl (and refl (and refl (and (both (p .stored) (q .stored)) refl)))))
+
+pub put-operands : Determined put-operands-call.Kinds.ps put-operands-call.Kinds.r put-operands-call.Reads.Asked put-operands-call.Reads.Learnt
+put-operands = λ κs a x y after other ask p q. (both (p .place) (q .place), and refl (and refl (and refl (and refl (and refl (and refl (and (both (p .stored) (q .stored)) refl)))))))
+
+-- the place after an operand
+pub operand-after : Determined after-call.Kinds.ps after-call.Kinds.r after-call.Reads.Asked after-call.Reads.Learnt
+operand-after = λ κs a x y after other ask p q. (both p q, refl)
+
+-- whether a value's text is that of its bits, and the set that it is named in
+pub has-bits : Determined has-bits-call.Kinds.ps has-bits-call.Kinds.r has-bits-call.Reads.Asked has-bits-call.Reads.Learnt
+has-bits = λ κs a x y after other ask p q. (both p q, refl)
+
+pub set-of-kind : Determined set-of-kind-call.Kinds.ps set-of-kind-call.Kinds.r set-of-kind-call.Reads.Asked set-of-kind-call.Reads.Learnt
+set-of-kind = λ κs a x y after other ask p q. (both p q, refl)
+
+-- the set of an id
+pub set-of : Determined set-of-call.Kinds.ps set-of-call.Kinds.r set-of-call.Reads.Asked set-of-call.Reads.Learnt
+set-of = λ κs a x y after other ask p q. (both p q, refl)
+
+-- an instruction's line
+pub put-line : Determined put-line-call.Kinds.ps put-line-call.Kinds.r put-line-call.Reads.Asked put-line-call.Reads.Learnt
+put-line = λ κs a x y after other ask p q. (both (p .place) (q .place), and refl (and refl (and refl (and refl (and refl (and refl (and refl (and (both (p .stored) (q .stored)) refl))))))))
 
 -- a module's listing, written into a buffer
 pub listing : Determined listing-call.Kinds.ps listing-call.Kinds.r listing-call.Reads.Asked listing-call.Reads.Learnt

@@ -1,6 +1,6 @@
 -- `disassemble::named::operands_named` meets its contract.
 -- Assumes nothing.
-use Rattle.disassemble.proofs.Texts.{readable-more}
+use Rattle.pieces.proofs.Texts.{readable-more}
 use Rattle.disassemble.proofs.Judged.{Passing, passing-starts, passing-bad, passing-on, passing-ends}
 use native.Mathlib.Omega.{arith}
 use Rattle.disassemble.proofs.named.operands_named.Statement.{statement}

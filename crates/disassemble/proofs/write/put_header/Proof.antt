@@ -1,7 +1,7 @@
 -- `disassemble::write::put_header` meets its contract.
 -- Assumes nothing.
 use mathlib.Core.Path.{sym}
-use Rattle.disassemble.proofs.Put.{room-first, room-next, wrote-both, wrote-as, room-as}
+use Rattle.pieces.proofs.Put.{room-first, room-next, wrote-both, wrote-as, room-as}
 use Rattle.disassemble.proofs.Wholes.{header-is}
 use borrow.Author.Needs.{needs}
 use Rattle.disassemble.proofs.write.put_header.Statement.{statement}

@@ -6,7 +6,7 @@ use Rattle.spec.specs.Disassembly.{linesText}
 use Rattle.spelled.specs.Placing.{instrsOf}
 use Rattle.disassemble.specs.Listed.{leftOf}
 use Rattle.spelled.proofs.Stores.{stores-at, stores-in}
-use Rattle.disassemble.proofs.Put.{Going, going-length, going-room, going-on, going-ends}
+use Rattle.pieces.proofs.Put.{Going, going-length, going-room, going-on, going-ends}
 use Rattle.disassemble.proofs.Wholes.{lines-start, next-told, lines-more, lines-fewer, lines-end, never}
 use borrow.Author.Needs.{needs}
 use native.Mathlib.Omega.{arith}
