@@ -1,11 +1,7 @@
 pub mod Carried
-pub mod CheckLaws
 pub mod FindLaws
-pub mod FlatLaws
 pub mod IndexLaws
 pub mod ItemLaws
 pub mod KnownLaws
 pub mod MarkLaws
-pub mod ReadLaws
-pub mod RuleLaws
 pub mod SearchLaws

@@ -9,10 +9,10 @@ ghost use Rattle.grammar.specs.Find.{Sure, placeFound, rowFound, paramet
 use crate::index::guess_at;
 use crate::index::mark_at;
 use crate::index::mark_count;
+use crate::index::rises_to;
 use crate::items::Item;
 use crate::items::item_at;
 use crate::kinds::is_mask;
-use crate::rules::rises_to;
 use spec::Found;
 
 // An operand of a row: its kind and quantifier; or the end of the row.

@@ -3,6 +3,7 @@ ghost use mathlib.Core.Path.{_≡_};
 ghost use mathlib.Core.List.{[], _∷_, _++_};
 ghost use Prim.Native.Nat.{_+_, _<_};
 ghost use lib.ListN.{length, getD};
+ghost use Rattle.spec.specs.Grammar.{rises};
 ghost use Rattle.grammar.specs.Items.{itemIs};
 ghost use Rattle.grammar.specs.Index.{markOf, marksOf, markAt, placesIn, Indexed};
 use crate::items::Item;
@@ -22,6 +23,13 @@ pub struct Mark {
     pub kind: u8,
     pub value: u32,
     pub place: usize,
+}
+
+// "(kind, value) strictly rising"
+pub fn rises_to(j: u8, u: u32, k: u8, v: u32) -> bool
+    ensures { λ r. ⌜ r ≡ rises j u k v ⌝ }
+{
+    (j < k) | ((j == k) & (u < v))
 }
 
 // Where the guess for a kind and a value stands: one place for each opcode below 512, and 1,024 that the others share.

@@ -10,7 +10,7 @@ use libc::STDOUT_FILENO;
 // Writes a case in words and what the check says of its grammar.
 fn case(words: &[u8], g: &[u8]) {
     io::write_all(STDOUT_FILENO, words);
-    if grammar::well_formed(g) {
+    if formed::well_formed(g) {
         io::write_all(STDOUT_FILENO, b": yes\n");
     } else {
         io::write_all(STDOUT_FILENO, b": no\n");

@@ -14,10 +14,11 @@ use Rattle.spec.specs.Words.{AllBytes}
 use Rattle.spec.specs.Grammar.{wellFormed}
 use Rattle.spec.specs.Load.{laidOver}
 use Rattle.spec.specs.Join.{pieces, clash, kindIn, valueIn, union, Joining, unjoined, putUnion, unlessClash, join}
-use Rattle.grammar.specs.Check.{isApart, Noted}
+use Rattle.rules.specs.Rules.{isApart}
+use Rattle.formed.specs.Check.{Noted}
 use Rattle.spec.proofs.Choice.{cases}
 use Rattle.grammar.proofs.IndexLaws.{well-told}
-use Rattle.grammar.proofs.FlatLaws.{noted-apart}
+use Rattle.formed.proofs.FlatLaws.{noted-apart}
 use Rattle.operand.specs.Log.{kept}
 use Rattle.join.specs.declared.Merged.{Merged}
 use Rattle.join.specs.declared.Merged.the-variants.{Clash, Bytes}

@@ -16,7 +16,7 @@ use Rattle.spec.specs.Builtin.{itemBytes}
 use Rattle.spec.specs.Join.{Piece, bodyOf, piecesOf, pieces, pieceItems, pieceBytes, keyOf, found, merged, clash, union}
 use Rattle.spec.proofs.Choice.{left, right}
 use Rattle.demands.proofs.Bytes.{all-append, all-left, all-right}
-use Rattle.grammar.specs.Check.{flatOver}
+use Rattle.formed.specs.Check.{flatOver}
 use Rattle.grammar.proofs.IndexLaws.{well-told}
 use Rattle.grammar.proofs.MarkLaws.{isFine, never, rules-fine, enum-least, none-listed}
 use Rattle.join.specs.Steps.{flatBoth}

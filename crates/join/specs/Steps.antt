@@ -10,7 +10,7 @@ use Rattle.spec.specs.Base.{if_then_else_}
 use Rattle.spec.specs.Grammar.{Item, row, operand, enumerant, parameter, broken, items, start, rulesFrom, enumerantsOf}
 use Rattle.spec.specs.declared.Joined.{Joined}
 use Rattle.spec.specs.Join.{Piece, pieces, pieceBytes, clash, union, Joining}
-use Rattle.grammar.specs.Check.{flatOver}
+use Rattle.formed.specs.Check.{flatOver}
 use Rattle.operand.specs.Log.{kept}
 use Rattle.join.specs.declared.Step.{Step}
 use Rattle.join.specs.declared.Step.the-variants.{On, Differs}

@@ -212,16 +212,16 @@ pub fn join(first: &[u8], second: &[u8], out: &mut [u8]) -> Joined
 {
     let mut first_owners = [false; 256];
     let mut first_used = [false; 256];
-    if !grammar::note_kinds(first, &mut first_owners, &mut first_used) {
+    if !formed::note_kinds(first, &mut first_owners, &mut first_used) {
         return refused(refusals::BAD_GRAMMAR, 0, 0);
     }
     let mut second_owners = [false; 256];
     let mut second_used = [false; 256];
-    if !grammar::note_kinds(second, &mut second_owners, &mut second_used) {
+    if !formed::note_kinds(second, &mut second_owners, &mut second_used) {
         return refused(refusals::BAD_GRAMMAR, 0, 0);
     }
-    let flat = grammar::are_apart(&second_owners, &first_used)
-        & grammar::are_apart(&first_owners, &second_used);
+    let flat = rules::are_apart(&second_owners, &first_used)
+        & rules::are_apart(&first_owners, &second_used);
     let measured = merge(first, second, out, false);
     match measured {
         Merged::Clash(key) => refused(

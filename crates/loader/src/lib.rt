@@ -28,7 +28,7 @@ pub fn load(
         (lent (now (instructions .exit)) (now (log .exit)) (now (strings .exit)) (now (types .exit))) r ⌝ }
 {
     let mut index = [0u16; grammar::SIZE];
-    if !grammar::prepare(grammar, &mut index) {
+    if !formed::prepare(grammar, &mut index) {
         return no_instruction(refusals::BAD_GRAMMAR, 0);
     }
     if module.len() <= SHORT {

@@ -26,10 +26,18 @@ use Rattle.grammar.proofs.item_length as item-length-call
 use Rattle.grammar.proofs.slot_at as slot-at-call
 use Rattle.grammar.proofs.parameter_at as parameter-at-call
 use Rattle.grammar.proofs.is_known as is-known-call
-use Rattle.grammar.proofs.are_apart as are-apart-call
+use Rattle.rules.proofs.are_apart as are-apart-call
 use Rattle.grammar.proofs.is_mask as is-mask-call
 use Rattle.grammar.proofs.is_enum as is-enum-call
 use Rattle.grammar.proofs.is_result as is-result-call
+use Rattle.grammar.proofs.may_be_operand as may-be-operand-call
+use Rattle.grammar.proofs.may_be_parameter as may-be-parameter-call
+use Rattle.grammar.proofs.rises_to as rises-to-call
+use Rattle.grammar.proofs.mark_of as mark-of-call
+use Rattle.rules.proofs.enumerant_rule as enumerant-rule-call
+use Rattle.rules.proofs.parameter_rule as parameter-rule-call
+use Rattle.rules.proofs.may_follow as may-follow-call
+use Rattle.rules.proofs.note as note-call
 use Rattle.tracker.proofs.TypeTracker.new as tracker-new-call
 use Rattle.tracker.proofs.TypeTracker.resolve as tracker-resolve-call
 use Rattle.tracker.proofs.TypeTracker.after as tracker-after-call
@@ -170,6 +178,34 @@ is-enum = λ κs a x y after other ask p q. (both p q, refl)
 
 pub is-result : Determined is-result-call.Kinds.ps is-result-call.Kinds.r is-result-call.Reads.Asked is-result-call.Reads.Learnt
 is-result = λ κs a x y after other ask p q. (both p q, refl)
+
+pub may-be-operand : Determined may-be-operand-call.Kinds.ps may-be-operand-call.Kinds.r may-be-operand-call.Reads.Asked may-be-operand-call.Reads.Learnt
+may-be-operand = λ κs a x y after other ask p q. (both p q, refl)
+
+pub may-be-parameter : Determined may-be-parameter-call.Kinds.ps may-be-parameter-call.Kinds.r may-be-parameter-call.Reads.Asked may-be-parameter-call.Reads.Learnt
+may-be-parameter = λ κs a x y after other ask p q. (both p q, refl)
+
+-- the order of rows and enumerants
+pub rises-to : Determined rises-to-call.Kinds.ps rises-to-call.Kinds.r rises-to-call.Reads.Asked rises-to-call.Reads.Learnt
+rises-to = λ κs a x y after other ask p q. (both p q, refl)
+
+-- the mark of an item
+pub mark-of : Determined mark-of-call.Kinds.ps mark-of-call.Kinds.r mark-of-call.Reads.Asked mark-of-call.Reads.Learnt
+mark-of = λ κs a x y after other ask p q. (both p q, refl)
+
+-- the rules of a well-formed grammar
+pub enumerant-rule : Determined enumerant-rule-call.Kinds.ps enumerant-rule-call.Kinds.r enumerant-rule-call.Reads.Asked enumerant-rule-call.Reads.Learnt
+enumerant-rule = λ κs a x y after other ask p q. (both p q, refl)
+
+pub parameter-rule : Determined parameter-rule-call.Kinds.ps parameter-rule-call.Kinds.r parameter-rule-call.Reads.Asked parameter-rule-call.Reads.Learnt
+parameter-rule = λ κs a x y after other ask p q. (both p q, refl)
+
+pub may-follow : Determined may-follow-call.Kinds.ps may-follow-call.Kinds.r may-follow-call.Reads.Asked may-follow-call.Reads.Learnt
+may-follow = λ κs a x y after other ask p q. (both p q, refl)
+
+-- one more kind that is noted
+pub note : Determined note-call.Kinds.ps note-call.Kinds.r note-call.Reads.Asked note-call.Reads.Learnt
+note = λ κs a x y after other ask p q. (refl, and (both p q) refl)
 
 -- a tracker of no types
 pub tracker-new : Determined tracker-new-call.Kinds.ps tracker-new-call.Kinds.r tracker-new-call.Reads.Asked tracker-new-call.Reads.Learnt

@@ -38,8 +38,8 @@ use Rattle.reflect.proofs.is_type as is-type-call
 use Rattle.reflect.proofs.table as layout-table-call
 use Rattle.reflect.proofs.kinds as kind-table-call
 use Rattle.operand.proofs.parts_of as parts-of-call
-use Rattle.grammar.proofs.well_formed as well-formed-call
-use Rattle.grammar.proofs.enumerant as enumerant-call
+use Rattle.formed.proofs.well_formed as well-formed-call
+use Rattle.enumerant.proofs.enumerant as enumerant-call
 use Rattle.builtin.proofs.table as builtin-table-call
 use Rattle.records.proofs.check as check-call
 use Rattle.loader.proofs.load as load-call
