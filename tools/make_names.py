@@ -75,7 +75,7 @@ CODE = """\
 // The names as bytes, a line for each. Made by tools/make_names.py from the files of the crate rspirv 0.11.0+1.5.4. Not to be changed by
 // hand.
 ghost use mathlib.Core.Path.{_≡_};
-ghost use Rattle.names.specs.Run.{nameRun};
+ghost use Rattle.lookup.specs.Run.{nameRun};
 
 // The names as one run of bytes: of each its set, its number, the length of its text, and its text.
 pub fn table() -> [u8; %d]
@@ -88,7 +88,7 @@ pub fn table() -> [u8; %d]
 
 INDEX = """\
 // The index of the names, prepared. Made by tools/make_names.py from the files of the crate rspirv 0.11.0+1.5.4. Not to be changed by hand.
-ghost use Rattle.names.specs.Run.{nameRun, Indexed};
+ghost use Rattle.lookup.specs.Run.{nameRun, Indexed};
 
 const INDEX: [u16; %d] = [
 %s

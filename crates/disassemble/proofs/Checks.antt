@@ -34,7 +34,7 @@ use Rattle.assemble.specs.Writes.{Writes}
 use Rattle.assemble.proofs.Writing.{lent-good, lent-check}
 use Rattle.records.proofs.Good.{check-is-good, good-by, good-length}
 use Rattle.records.proofs.Fields.{take-most}
-use Rattle.names.specs.Run.{nameRun, Indexed}
+use Rattle.lookup.specs.Run.{nameRun, Indexed}
 use Rattle.disassemble.specs.Listed.{saidFrom, Told, namedCount, BadFromOne, beforeBad, textOver}
 
 -- LOWER

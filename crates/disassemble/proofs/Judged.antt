@@ -17,9 +17,9 @@ use Rattle.spec.specs.Names.{nameOf}
 use Rattle.spec.specs.Records.{narrow, recordSize, fieldsAt}
 use Rattle.spec.specs.Check.{placedOf}
 use Rattle.spec.specs.Disassembly.{isThere, setOfKind, operandNamed, isNamed}
-use Rattle.names.specs.declared.Named.{Named}
-use Rattle.names.specs.declared.Named.the-variants.{At, Nothing}
-use Rattle.names.specs.Find.{textFound}
+use Rattle.lookup.specs.declared.Named.{Named}
+use Rattle.lookup.specs.declared.Named.the-variants.{At, Nothing}
+use Rattle.lookup.specs.Find.{textFound}
 use Rattle.operand.specs.Parts.{isTwo}
 use Rattle.records.specs.Good.{operandBy, operandAt}
 use Rattle.records.proofs.Good.{operand-is}

@@ -5,12 +5,12 @@ ghost use Rattle.spec.specs.Words.{bitsOf};
 ghost use Rattle.spec.specs.Records.{narrow};
 ghost use Rattle.spec.specs.Names.{nameOf};
 ghost use Rattle.spec.specs.Disassembly.{isThere, operandNamed, isNamed as namedOf};
-ghost use Rattle.names.specs.Run.{Indexed};
+ghost use Rattle.lookup.specs.Run.{Indexed};
 ghost use Rattle.records.specs.Good.{operandAt};
 ghost use Rattle.spelled.specs.Spelled.{Readable, AllReadable, operandsFrom, saidBy};
 ghost use Rattle.pieces.specs.Putting.{bitNamed};
 ghost use Rattle.disassemble.specs.Listed.{saidFrom, Told, namedCount};
-use names::Named;
+use lookup::Named;
 use operand::is_two;
 use pieces::after;
 use pieces::has_bits;
@@ -23,7 +23,7 @@ fn has_name(run: &[u8], index: &[u16], set: u8, number: u32) -> bool
     requires { ⌜ Indexed (now run) (now index) ⌝ }
     ensures { λ r. ⌜ r ≡ isThere (nameOf set number) ⌝ }
 {
-    let found = names::find(run, index, set, number);
+    let found = lookup::find(run, index, set, number);
     match found {
         Named::At(_, _) => true,
         Named::Nothing => false,
@@ -115,7 +115,7 @@ fn is_named(run: &[u8], index: &[u16], log: &[u8], strings: &[u8], f: Fields) ->
     requires { ⌜ AllReadable (f .count) (now log) (now strings) (f .start) ⌝ }
     ensures { λ r. ⌜ r ≡ namedOf (saidBy (now (log .entry)) (now (strings .entry)) f) ⌝ }
 {
-    if has_name(run, index, names::OPCODES, f.head % 65536) {
+    if has_name(run, index, lookup::OPCODES, f.head % 65536) {
         return operands_named(run, index, log, strings, f.start as usize, f.count as usize);
     }
     false

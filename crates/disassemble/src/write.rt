@@ -4,7 +4,7 @@ ghost use mathlib.Core.List.{_∷_, []};
 ghost use Prim.Native.Nat.{_≤_};
 ghost use Rattle.spec.specs.Write.{moduleOrder};
 ghost use Rattle.spec.specs.Disassembly.{headerText, linesText, moduleText, disassemble as disassembleOf};
-ghost use Rattle.names.specs.Run.{Indexed};
+ghost use Rattle.lookup.specs.Run.{Indexed};
 ghost use Rattle.records.specs.Steps.{given};
 ghost use Rattle.spelled.specs.Placing.{GoodStores, instrsOf};
 ghost use Rattle.assemble.specs.Writes.{Writes};

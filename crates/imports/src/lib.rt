@@ -51,10 +51,10 @@ fn set_named(s: &[u8]) -> u8
     ensures { λ r. ⌜ r ≡ orZero (setNamed (now (s .entry))) ⌝ }
 {
     if same(s, b"GLSL.std.450") {
-        return names::GLSL;
+        return lookup::GLSL;
     }
     if same(s, b"OpenCL.std") {
-        return names::OPENCL;
+        return lookup::OPENCL;
     }
     0
 }

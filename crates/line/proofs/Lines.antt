@@ -16,9 +16,9 @@ use Rattle.spec.specs.Names.{nameOf}
 use Rattle.spec.specs.Records.{Operand, narrow, wide, text, Placed}
 use Rattle.spec.specs.Check.{bitsIn, fieldIn, placedOf}
 use Rattle.spec.specs.Disassembly.{idText, nameText, setOf, nameBy, extName, spaced, spacedBy, operandsText, resultText, typeText, instrText}
-use Rattle.names.specs.declared.Named.{Named}
-use Rattle.names.specs.declared.Named.the-variants.{At, Nothing}
-use Rattle.names.specs.Find.{textFound, Inside}
+use Rattle.lookup.specs.declared.Named.{Named}
+use Rattle.lookup.specs.declared.Named.the-variants.{At, Nothing}
+use Rattle.lookup.specs.Find.{textFound, Inside}
 use Rattle.operand.specs.Parts.{isTwo}
 use Rattle.records.specs.Good.{operandBy, operandAt}
 use Rattle.records.proofs.Good.{operand-is}

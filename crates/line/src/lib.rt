@@ -6,15 +6,15 @@ ghost use lib.ListN.{length};
 ghost use Rattle.spec.specs.Base.{ascii};
 ghost use Rattle.spec.specs.Check.{fieldIn};
 ghost use Rattle.spec.specs.Disassembly.{resultText, operandsText, instrText};
-ghost use Rattle.names.specs.Run.{Indexed};
-ghost use Rattle.names.specs.Find.{textFound, Inside};
+ghost use Rattle.lookup.specs.Run.{Indexed};
+ghost use Rattle.lookup.specs.Find.{textFound, Inside};
 ghost use Rattle.spelled.specs.Spelled.{AllReadable, saidBy};
 ghost use Rattle.spelled.specs.Placing.{GoodStores, instrsOf};
 ghost use Rattle.pieces.specs.Putting.{Room, Wrote, typeBy};
 ghost use Rattle.imports.specs.Imports.{ImportsEnd};
 ghost use Rattle.line.specs.Named.{nameIn};
 use imports::set_of;
-use names::Named;
+use lookup::Named;
 use pieces::put_byte;
 use pieces::put_bytes;
 use pieces::put_id;
@@ -95,7 +95,7 @@ fn ext_name(
     if set == 0 {
         return Named::Nothing;
     }
-    names::find(run, index, set, words::word_at(log, a + 6))
+    lookup::find(run, index, set, words::word_at(log, a + 6))
 }
 
 // An instruction's operands.
@@ -166,7 +166,7 @@ pub fn put_line(
     let name = put_name(
         run,
         index,
-        names::OPCODES,
+        lookup::OPCODES,
         f.head % 65536,
         out,
         op,

@@ -1,5 +1,5 @@
 // The index of the names, prepared. Made by tools/make_names.py from the files of the crate rspirv 0.11.0+1.5.4. Not to be changed by hand.
-ghost use Rattle.names.specs.Run.{nameRun, Indexed};
+ghost use Rattle.lookup.specs.Run.{nameRun, Indexed};
 
 const INDEX: [u16; 3069] = [
     0,

@@ -1,7 +1,7 @@
 // The names as bytes, a line for each. Made by tools/make_names.py from the files of the crate rspirv 0.11.0+1.5.4. Not to be changed by
 // hand.
 ghost use mathlib.Core.Path.{_≡_};
-ghost use Rattle.names.specs.Run.{nameRun};
+ghost use Rattle.lookup.specs.Run.{nameRun};
 
 // The names as one run of bytes: of each its set, its number, the length of its text, and its text.
 pub fn table() -> [u8; 32077]

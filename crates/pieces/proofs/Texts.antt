@@ -18,9 +18,9 @@ use Rattle.spec.specs.Names.{nameOf}
 use Rattle.spec.specs.Records.{wide}
 use Rattle.spec.specs.Disassembly.{idText, hexText, byteText, stringText, orNothing, nameText, namesIn, setOfKind, barred, narrowText, operandText, spaced}
 use Rattle.spec.proofs.Choice.{left, right}
-use Rattle.names.specs.declared.Named.{Named}
-use Rattle.names.specs.declared.Named.the-variants.{At, Nothing}
-use Rattle.names.specs.Find.{textFound, Inside}
+use Rattle.lookup.specs.declared.Named.{Named}
+use Rattle.lookup.specs.declared.Named.the-variants.{At, Nothing}
+use Rattle.lookup.specs.Find.{textFound, Inside}
 use Rattle.operand.specs.Parts.{isTwo}
 use Rattle.records.specs.Good.{operandBy, operandAt}
 use Rattle.records.proofs.Good.{operand-is}

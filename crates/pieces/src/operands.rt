@@ -5,7 +5,7 @@ ghost use Prim.Native.Nat.{_<_};
 ghost use lib.ListN.{getD};
 ghost use Rattle.spec.specs.Words.{bitsOf};
 ghost use Rattle.spec.specs.Disassembly.{byteText, stringText, nameText, namesIn, setOfKind, barred, narrowText, operandText, spaced};
-ghost use Rattle.names.specs.Run.{Indexed};
+ghost use Rattle.lookup.specs.Run.{Indexed};
 ghost use Rattle.operand.specs.Parts.{isTwo};
 ghost use Rattle.records.specs.Good.{Whole, operandAt};
 ghost use Rattle.spelled.specs.Spelled.{Readable, AllReadable, operandAfter, operandsFrom};
@@ -15,7 +15,7 @@ use crate::pieces::put_bytes;
 use crate::pieces::put_hex;
 use crate::pieces::put_id;
 use crate::pieces::put_number;
-use names::Named;
+use lookup::Named;
 use operand::is_two;
 use spec::kinds;
 
@@ -67,7 +67,7 @@ pub fn put_name(
     requires { ⌜ Room keep (now out) at (nameText set number) ⌝ }
     ensures { λ r. ⌜ Wrote keep (now (out .entry)) at (nameText set number) r (now (out .exit)) ⌝ }
 {
-    let found = names::find(run, index, set, number);
+    let found = lookup::find(run, index, set, number);
     let Named::At(start, end) = found else {
         return at;
     };
@@ -132,7 +132,7 @@ pub fn set_of_kind(kind: u8) -> u8
     ensures { λ r. ⌜ r ≡ setOfKind kind ⌝ }
 {
     if kind == kinds::EMBEDDED {
-        return names::OPCODES;
+        return lookup::OPCODES;
     }
     kind
 }

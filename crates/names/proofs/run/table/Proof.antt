@@ -2,7 +2,7 @@
 use mathlib.Core.Path.{refl}
 use Rattle.spec.specs.Words.{bytesOf}
 use Rattle.spec.specs.NameTable.{nameTable}
-use Rattle.names.specs.Run.{nameRun}
+use Rattle.lookup.specs.Run.{nameRun}
 use Rattle.names.proofs.run.table.Statement.{statement}
 use Rattle.names.proofs.run.table.Tie as tie
 

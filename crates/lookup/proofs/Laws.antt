@@ -16,10 +16,10 @@ use Rattle.spec.specs.NameTable.{Name, nameTable}
 use Rattle.spec.specs.Names.{isNameOf, named, nameOf}
 use Rattle.spec.proofs.Choice.{left, right, both, cases}
 use Rattle.words.proofs.Front.{front-got}
-use Rattle.names.specs.declared.Named.{Named}
-use Rattle.names.specs.declared.Named.the-variants.{At, Nothing}
-use Rattle.names.specs.Run.{nameSize, nameBytes, nameRun, placeIn, slotted, placesFrom, hasPlace, placed, Indexed}
-use Rattle.names.specs.Find.{textFound, Inside}
+use Rattle.lookup.specs.declared.Named.{Named}
+use Rattle.lookup.specs.declared.Named.the-variants.{At, Nothing}
+use Rattle.lookup.specs.Run.{nameSize, nameBytes, nameRun, placeIn, slotted, placesFrom, hasPlace, placed, Indexed}
+use Rattle.lookup.specs.Find.{textFound, Inside}
 
 -- A NAME AT A PLACE
 

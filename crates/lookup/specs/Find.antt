@@ -3,8 +3,8 @@ use Prim.Native.Nat.{ℕ, _-_, _≤_}
 use mathlib.Core.List.{List}
 use mathlib.Core.Option.{Option, none, some}
 use lib.ListN.{take, drop}
-use Rattle.names.specs.declared.Named.{Named}
-use Rattle.names.specs.declared.Named.the-variants.{At, Nothing}
+use Rattle.lookup.specs.declared.Named.{Named}
+use Rattle.lookup.specs.declared.Named.the-variants.{At, Nothing}
 
 -- the text that was found: the bytes of the run from where it starts to where it ends
 unfoldable pub textFound : List ℕ → Named → Option (List ℕ)

@@ -1,8 +1,8 @@
--- `names::place_of` meets its contract.
-use Rattle.names.proofs.Laws.{place-read}
+-- `lookup::place_of` meets its contract.
+use Rattle.lookup.proofs.Laws.{place-read}
 use borrow.Author.Needs.{needs}
-use Rattle.names.proofs.place_of.Statement.{statement}
-use Rattle.names.proofs.place_of.Tie as tie
+use Rattle.lookup.proofs.place_of.Statement.{statement}
+use Rattle.lookup.proofs.place_of.Tie as tie
 
 returns : tie.Need-returns
 returns c =

@@ -1,9 +1,9 @@
--- `names::find` meets its contract.
-use Rattle.names.proofs.Laws.{inside, hit, other-set, other-number}
+-- `lookup::find` meets its contract.
+use Rattle.lookup.proofs.Laws.{inside, hit, other-set, other-number}
 use native.Mathlib.Omega.{arith}
 use borrow.Author.Needs.{needs}
-use Rattle.names.proofs.find.Statement.{statement}
-use Rattle.names.proofs.find.Tie as tie
+use Rattle.lookup.proofs.find.Statement.{statement}
+use Rattle.lookup.proofs.find.Tie as tie
 
 word-at-requires : tie.Need-word-at-requires
 word-at-requires c κs =
