@@ -110,7 +110,7 @@ fn main() {
         say(b"the module has more than 65,536 bytes, which is all that this program can hold\n");
         return;
     }
-    let mut instructions = [0u32; 131032];
+    let mut instructions = [0u32; 163790];
     let mut log = [0u8; 147411];
     let mut strings = [0u8; 65516];
     let mut types = [0u32; 49137];

@@ -1,6 +1,6 @@
 -- The stores of instructions that follow on, given to the check, are those instructions again.
 use Prim.Native.Nat.{ℕ, suc, _+_, _*_, _/_, _%_, _<_}
-use mathlib.Core.Path.{_≡_, refl, ap}
+use mathlib.Core.Path.{_≡_, refl, ap, sym, _∙_}
 use mathlib.Core.Bool.{Bool, true, not, _&&_, _||_}
 use mathlib.Core.List.{List, [], _∷_, _++_, append-assoc}
 use mathlib.Core.Option.{Option, none, some}
@@ -13,16 +13,17 @@ use lib.Seq.{take-append-seam, drop-append-seam}
 use Rattle.spec.specs.declared.State.{State}
 use Rattle.spec.specs.declared.State.the-variants.{Outside}
 use Rattle.spec.specs.declared.Fields.{Fields}
+use Rattle.spec.specs.declared.Numbers.{Numbers}
 use Rattle.spec.specs.Base.{orZero, joined, implies, has}
 use Rattle.spec.specs.Words.{bytesOf}
 use Rattle.spec.specs.Text.{isUtf8}
 use Rattle.spec.specs.Kinds.{isLogged, isLong, isText}
 use Rattle.spec.specs.Layout.{endNumber}
-use Rattle.spec.specs.Records.{Operand, narrow, wide, text, Placed, operandSize, operandsSize, operandLog, operandString, operandsLog, operandsStrings, stringStore, logFrom, presence, fieldsOf, fieldWords, fieldsAt, recordsFrom, recordSize}
+use Rattle.spec.specs.Records.{Operand, narrow, wide, text, Placed, operandSize, operandsSize, operandLog, operandString, operandsLog, operandsStrings, stringStore, logFrom, presence, fieldsOf, fieldsFrom, fieldWords, fieldsAt, recordWords, recordsWith, calledFor, numbered, instructionStore, recordSize}
 use Rattle.spec.specs.Check.{Given, recordsOf, bitsIn, fieldsGood, fieldsFault, Left, takeText, takeOperand, takeOperands, fieldIn, placedOf, wordsGood, takeRecord, scanFrom, tagsFault, faultOf, missing, good, check}
 use Rattle.spec.proofs.Choice.{left, right, both}
 use Rattle.demands.proofs.Bytes.{four-bytes}
-use Rattle.demands.proofs.Stores.{operands-log-length, log-length, string-short, strings-short}
+use Rattle.demands.proofs.Stores.{operands-log-length, log-length, string-short, strings-short, fields-length, called-length}
 use Rattle.demands.proofs.OperandKinds.{long-logged}
 use Rattle.demands.proofs.Strings.{noZeros}
 use Rattle.demands.proofs.Told.{Holds, AllHold}
@@ -31,24 +32,21 @@ use Rattle.demands.proofs.Kept.{Follow, last, leading, wordsIn}
 
 -- THE RECORDS
 
--- the fields of some instructions, where the log before them takes so many bytes
-fieldsFrom : ℕ → List Placed → List Fields
-fieldsFrom start [] = []
-fieldsFrom start (p ∷ ps) = fieldsOf start p ∷ fieldsFrom (start + length (operandsLog 0 (p .instr .operands))) ps
+-- records are those that their words begin with, whatever their numbers
+pub records-back : (fs : List Fields) (ns : List Numbers) → length ns ≡ length fs → (more : List ℕ)
+    → recordsOf recordSize (length fs) (recordsWith fs ns ++ more) ≡ fs
+unfolding recordsOf recordsWith recordWords fieldWords fieldsAt
+records-back [] ns e more = refl
+records-back (f ∷ fs) [] e more = absurd (omega arith)
+records-back (f ∷ fs) (n ∷ ns) e more = ap (λ (z : List Fields). f ∷ z) (records-back fs ns (omega arith) more)
 
--- they are the records that their words begin with
-records-back : (start : ℕ) (is : List Placed) (more : List ℕ)
-    → recordsOf recordSize (length is) (recordsFrom start is ++ more) ≡ fieldsFrom start is
-unfolding recordsOf recordsFrom fieldsFrom fieldWords fieldsAt
-records-back start [] more = refl
-records-back start (p ∷ ps) more =
-    ap (λ (fs : List Fields). fieldsOf start p ∷ fs) (records-back (start + length (operandsLog 0 (p .instr .operands))) ps more)
-
--- there are as many as instructions
-fields-length : (start : ℕ) (is : List Placed) → length (fieldsFrom start is) ≡ length is
-unfolding fieldsFrom
-fields-length start [] = refl
-fields-length start (p ∷ ps) = ap suc (fields-length (start + length (operandsLog 0 (p .instr .operands))) ps)
+-- so are those of instructions
+instructions-back : (is : List Placed) (more : List ℕ) → recordsOf recordSize (length is) (instructionStore is ++ more) ≡ fieldsFrom 0 is
+unfolding instructionStore numbered
+instructions-back is more =
+    let fs = fieldsFrom 0 is in
+    ap (λ (n : ℕ). recordsOf recordSize n (recordsWith fs (calledFor fs) ++ more)) (sym (fields-length 0 is))
+    ∙ records-back fs (calledFor fs) (called-length fs) more
 
 -- the presence bits of a record
 bits-back : (start : ℕ) (p : Placed) → p .instr .opcode < 65536
@@ -222,7 +220,7 @@ no-tags-fault (leading {p = p} x e placed more) whole w index start =
 abbrev givenOf : List Placed → List ℕ → List ℕ → List ℕ → Given
 givenOf is a b c =
     record {
-      instructions = recordsFrom 0 is ++ a;
+      instructions = instructionStore is ++ a;
       log = logFrom 0 is ++ b;
       strings = stringStore is ++ c;
       count = length is;
@@ -236,7 +234,7 @@ pub check-back : (whole : Bool) (is : List Placed) (e : State) → Follow 20 Out
 unfolding check faultOf missing
 check-back whole is e follow few w a b c =
     rw (
-      records-back 0 is a,
+      instructions-back is a,
       take-append-seam (logFrom 0 is) b,
       take-append-seam (stringStore is) c,
       fields-length 0 is,

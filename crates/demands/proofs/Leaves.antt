@@ -7,15 +7,15 @@ use native.Mathlib.Nat.{zero-add}
 use lib.ListN.{length, drop}
 use lib.Seq.{sets-eq}
 use Rattle.spec.specs.Base.{joined}
-use Rattle.spec.specs.Records.{entryWords, recordsFrom, logFrom, stringStore, recordSize}
+use Rattle.spec.specs.Records.{entryWords, instructionStore, logFrom, stringStore, recordSize}
 use Rattle.spec.specs.Load.{roomOf, Outcome, load, Stores, storesOf, laidOver, Covers, roomIn, laidOn}
-use Rattle.demands.proofs.Stores.{records-length, entries-length, BeginWith}
+use Rattle.demands.proofs.Stores.{instructions-length, entries-length, BeginWith}
 use Rattle.demands.proofs.KeptSays.{takenBy, KeptSays, load-says}
 use Rattle.demands.proofs.Room.{load-covered}
 
 -- the stores t after a load of which x became: up to its counts the records of what it keeps, past them what was there
 pub record Leaves (t : Stores) (x : Outcome) (after : Stores) : Type 0 where
-  pub instructions : after .instructions ≡ recordsFrom 0 (x .kept) ++ drop (recordSize * x .said .counts .instructions) (t .instructions)
+  pub instructions : after .instructions ≡ instructionStore (x .kept) ++ drop (recordSize * x .said .counts .instructions) (t .instructions)
   pub log : after .log ≡ logFrom 0 (x .kept) ++ drop (x .said .counts .log) (t .log)
   pub strings : after .strings ≡ stringStore (x .kept) ++ drop (x .said .counts .strings) (t .strings)
   pub types : after .types ≡ joined entryWords (x .types) ++ drop (3 * x .said .counts .types) (t .types)
@@ -34,7 +34,7 @@ room-leaves x t k c =
     let r : Covers (roomIn t) (takenBy (x .kept) (x .types)) = rw (k .counts) at c in
     rw (k .counts, k .left)
     (record {
-      instructions = laid-over (t .instructions) _ _ (records-length 0 (x .kept)) (omega (arith, r .instructions));
+      instructions = laid-over (t .instructions) _ _ (instructions-length (x .kept)) (omega (arith, r .instructions));
       log = laid-over (t .log) _ _ refl (r .log);
       strings = laid-over (t .strings) _ _ refl (r .strings);
       types = laid-over (t .types) _ _ (entries-length (x .types)) (omega (arith, r .types));

@@ -35,4 +35,5 @@ pub mod Leaves
 pub mod CheckBack
 pub mod ReadBack
 pub mod WriteBack
+pub mod AnyNumbers
 pub mod Indices

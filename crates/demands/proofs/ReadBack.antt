@@ -11,11 +11,11 @@ use Rattle.spec.specs.declared.State.the-variants.{Outside}
 use Rattle.spec.specs.declared.Counts.{Counts}
 use Rattle.spec.specs.Base.{joined, implies}
 use Rattle.spec.specs.Layout.{endNumber}
-use Rattle.spec.specs.Records.{Placed, Entry, entry, entryWords, stringStore, logFrom, recordSize, recordsFrom}
+use Rattle.spec.specs.Records.{Placed, Entry, entry, entryWords, stringStore, logFrom, recordSize, instructionStore}
 use Rattle.spec.specs.Load.{Outcome, nothing, load, Stores, storesOf}
 use Rattle.spec.specs.Check.{good, check, givenBy}
 use Rattle.spec.specs.Words.{AllBytes}
-use Rattle.demands.proofs.Stores.{BeginWith, records-length, entries-length}
+use Rattle.demands.proofs.Stores.{BeginWith, instructions-length, entries-length}
 use Rattle.demands.proofs.Starts.{Loads, unformed, overlong, headless, opens, load-is}
 use Rattle.demands.proofs.Kept.{Follow, last, wordsIn}
 use Rattle.demands.proofs.Returns.{kept-is, all-long, sure, module-read}
@@ -108,9 +108,9 @@ same-counts : (x y : Outcome) → KeptSays x → KeptSays y
     → storesOf x ≡ storesOf y → x .said .counts ≡ y .said .counts
 unfolding takenBy storesOf
 same-counts x y m n e =
-    let same : recordsFrom 0 (x .kept) ≡ recordsFrom 0 (y .kept) = rw (m .left, n .left) at (ap (λ (t : Stores). t .instructions) e) in
+    let same : instructionStore (x .kept) ≡ instructionStore (y .kept) = rw (m .left, n .left) at (ap (λ (t : Stores). t .instructions) e) in
     let i : length (x .kept) ≡ length (y .kept) =
-    omega (arith, ap length same, records-length 0 (x .kept), records-length 0 (y .kept)) in
+    omega (arith, ap length same, instructions-length (x .kept), instructions-length (y .kept)) in
     let l : length (logFrom 0 (x .kept)) ≡ length (logFrom 0 (y .kept)) = rw (m .left, n .left) at (ap (λ (t : Stores). length (t .log)) e) in
     let s : length (stringStore (x .kept)) ≡ length (stringStore (y .kept)) = rw (m .left, n .left) at (ap (λ (t : Stores). length (t .strings)) e) in
     let t : length (x .types) ≡ length (y .types) =

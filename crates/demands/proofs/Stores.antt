@@ -1,13 +1,16 @@
 -- The stores of some instructions, and of one more: records, operand log and strings; and stores that begin with others.
-use Prim.Native.Nat.{ℕ, _+_, _*_, _≤_}
-use mathlib.Core.Path.{_≡_, refl, _∙_}
+use Prim.Native.Nat.{ℕ, suc, _+_, _*_, _≤_}
+use mathlib.Core.Path.{_≡_, refl, ap, _∙_}
 use mathlib.Core.List.{List, [], _∷_, _++_, append-assoc, append-nil}
 use native.Mathlib.Omega.{arith}
 use native.Mathlib.Nat.{add-assoc, add-zero}
-use lib.ListN.{length, length-append}
+use lib.ListN.{length, length-append, length-map}
+use Rattle.spec.specs.declared.Fields.{Fields}
+use Rattle.spec.specs.declared.Numbers.{Numbers}
 use Rattle.spec.specs.Base.{joined}
 use Rattle.spec.specs.Words.{bytesOf}
-use Rattle.spec.specs.Records.{Operand, narrow, wide, text, Placed, Entry, entry, entryWords, operandSize, operandsSize, operandLog, operandString, operandsLog, operandsStrings, stringStore, logFrom, fieldWords, recordsFrom, recordSize}
+use Rattle.spec.specs.Numbers.{noNumbers, onward, numbersFrom}
+use Rattle.spec.specs.Records.{Operand, narrow, wide, text, Placed, Entry, entry, entryWords, operandSize, operandsSize, operandLog, operandString, operandsLog, operandsStrings, stringStore, logFrom, fieldsFrom, fieldWords, recordWords, recordsWith, calledFor, numbered, instructionStore, recordSize}
 use Rattle.spec.specs.Load.{Stores}
 use Rattle.demands.proofs.Lists.{Begins, joined-append}
 
@@ -47,11 +50,39 @@ unfolding operandsStrings operandsSize
 strings-short [] = omega arith
 strings-short (o ∷ os) = omega (arith, length-append (operandString o) (joined operandString os), string-short o, strings-short os)
 
--- a record is eight words
-pub records-length : (start : ℕ) (is : List Placed) → length (recordsFrom start is) ≡ recordSize * length is
-unfolding recordsFrom fieldWords
-records-length start [] = refl
-records-length start (p ∷ ps) = omega (arith, records-length (start + length (operandsLog 0 (p .instr .operands))) ps)
+-- there are as many fields as instructions
+pub fields-length : (start : ℕ) (is : List Placed) → length (fieldsFrom start is) ≡ length is
+unfolding fieldsFrom
+fields-length start [] = refl
+fields-length start (p ∷ ps) = ap suc (fields-length (start + length (operandsLog 0 (p .instr .operands))) ps)
+
+-- and as many numbers as tags
+numbers-length : (n : Numbers) (tags : List ℕ) → length (numbersFrom n tags) ≡ length tags
+unfolding numbersFrom
+numbers-length n [] = refl
+numbers-length n (tag ∷ tags) = ap suc (numbers-length (onward tag n) tags)
+
+-- so as fields
+pub called-length : (fs : List Fields) → length (calledFor fs) ≡ length fs
+unfolding calledFor
+called-length fs = numbers-length noNumbers _ ∙ length-map fs (λ (f : Fields). f .tag)
+
+-- a record is ten words
+pub records-length : (fs : List Fields) (ns : List Numbers) → length ns ≡ length fs → length (recordsWith fs ns) ≡ recordSize * length fs
+unfolding recordsWith recordWords fieldWords
+records-length [] ns e = refl
+records-length (f ∷ fs) [] e = absurd (omega arith)
+records-length (f ∷ fs) (n ∷ ns) e = omega (arith, records-length fs ns (omega arith))
+
+-- the records of fields
+pub numbered-length : (fs : List Fields) → length (numbered fs) ≡ recordSize * length fs
+unfolding numbered
+numbered-length fs = records-length fs (calledFor fs) (called-length fs)
+
+-- the records of instructions
+pub instructions-length : (is : List Placed) → length (instructionStore is) ≡ recordSize * length is
+unfolding instructionStore
+instructions-length is = numbered-length (fieldsFrom 0 is) ∙ ap (λ (n : ℕ). recordSize * n) (fields-length 0 is)
 
 -- a type entry is three
 pub entries-length : (es : List Entry) → length (joined entryWords es) ≡ 3 * length es

@@ -17,7 +17,7 @@ use Rattle.loader.specs.Loading.{loading}
 
 -- the version of the layouts and calls, raised whenever the layout of a store or an answer, or what a call takes, changes
 unfoldable pub version : ℕ
-version = 2
+version = 3
 
 -- number, offset, index, value; counts of instructions, log bytes, string bytes, type entries; five header words; 1 for a plain module
 -- and 0 for another, the lowest offset that breaks it; 0

@@ -21,7 +21,7 @@ use spec::Stands;
 use spec::Written;
 
 // The version of the layouts and calls: KOLLAFRIN_VERSION of the header.
-const VERSION: u32 = 2;
+const VERSION: u32 = 3;
 
 // Yes as 1, no as 0.
 fn yes_or_no(yes: bool) -> u32

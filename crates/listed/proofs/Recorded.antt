@@ -10,9 +10,10 @@ use lib.ListN.{length, replicate, length-append}
 use Rattle.spec.specs.declared.State.{State}
 use Rattle.spec.specs.declared.Counts.{Counts}
 use Rattle.spec.specs.declared.Loaded.{Loaded}
+use Rattle.spec.specs.declared.Numbers.{Numbers}
 use Rattle.spec.specs.Base.{ascii}
 use Rattle.spec.specs.Builtin.{builtin}
-use Rattle.spec.specs.Records.{Placed, recordSize, entrySize, presence, fieldsOf, fieldWords, fieldsAt, recordsFrom, operandsLog}
+use Rattle.spec.specs.Records.{Placed, recordSize, entrySize, presence, fieldsOf, fieldsFrom, fieldWords, fieldsAt, recordWords, recordsWith, numbered, instructionStore, operandsLog}
 use Rattle.spec.specs.Load.{Outcome, enough, roomOf, load, Stores, lent, laidOver, roomIn}
 use Rattle.spec.specs.Listing.{numbersLine, moduleLine, recordLines, lastLine, outcomeText, listing}
 use Rattle.spec.specs.Words.{AllBytes}
@@ -22,6 +23,7 @@ use Rattle.demands.proofs.KeptSays.{takenBy, load-says}
 use Rattle.demands.proofs.Returns.{kept-is, sure, module-read}
 use Rattle.demands.proofs.Room.{load-covered}
 use Rattle.demands.proofs.Leaves.{load-leaves}
+use Rattle.demands.proofs.Stores.{fields-length, called-length}
 use Rattle.listed.proofs.Sentences.{few-both, module-few, record-lines-few, last-few}
 use Rattle.texts.specs.Wrote.{Wrote}
 use Rattle.listed.specs.Lines.{recordLine, linesOf}
@@ -59,16 +61,22 @@ load-short g room s by = of (load-is g room s)
 opcode-low : (op bits : ℕ) → op < 65536 → (op + 65536 * bits) % 65536 ≡ op
 opcode-low op bits h = omega arith
 
--- the lines of records read back are those of their instructions
-lines-back : (index start : ℕ) (ps : List Placed) (more : List ℕ) → Short ps
-    → linesOf index (length ps) (recordsFrom start ps ++ more) ≡ recordLines index ps
-unfolding Short linesOf recordsFrom fieldWords fieldsAt fieldsOf recordLine recordLines
-lines-back index start [] more h = refl
-lines-back index start (p ∷ ps) more h =
+-- the lines of records with any numbers are those of their instructions
+lines-with : (index start : ℕ) (ps : List Placed) (ns : List Numbers) (more : List ℕ) → length ns ≡ length ps → Short ps
+    → linesOf index (length ps) (recordsWith (fieldsFrom start ps) ns ++ more) ≡ recordLines index ps
+unfolding Short linesOf fieldsFrom recordsWith recordWords fieldWords fieldsAt fieldsOf recordLine recordLines
+lines-with index start [] ns more e h = refl
+lines-with index start (p ∷ ps) [] more e h = absurd (omega arith)
+lines-with index start (p ∷ ps) (n ∷ ns) more e h =
     let next : ℕ = start + length (operandsLog 0 (p .instr .operands)) in
     ap₂ (λ (op : ℕ) (ls : List ℕ). numbersLine (index ∷ p .instr .offset ∷ p .tag ∷ op ∷ p .instr .words ∷ []) ++ ls)
     (opcode-low (p .instr .opcode) (presence (p .instr .resultType) (p .instr .resultId)) (h .0))
-    (lines-back (suc index) next ps more (h .1))
+    (lines-with (suc index) next ps ns more (omega arith) (h .1))
+
+-- so are those of records read back
+lines-back : (ps : List Placed) (more : List ℕ) → Short ps → linesOf 1 (length ps) (instructionStore ps ++ more) ≡ recordLines 1 ps
+unfolding instructionStore numbered
+lines-back ps more h = lines-with 1 0 ps _ more (called-length (fieldsFrom 0 ps) ∙ fields-length 0 ps) h
 
 -- THE WHOLE
 
@@ -108,7 +116,7 @@ module _ {s : List ℕ} {t u : Stores} {x : Loaded} (room : roomIn t ≡ enough 
       ∙ ap (λ (n : Counts). n .instructions) (load-says builtin (roomIn t) s .counts) in
       let stored = ap (λ (v : Stores). v .instructions) (l .leaves .stores) ∙ load-leaves builtin s t .instructions in
       let lines : linesOf 1 (x .counts .instructions) (u .instructions) ≡ recordLines 1 (o .kept) =
-      ap₂ (linesOf 1) count stored ∙ lines-back 1 0 (o .kept) _ (load-short builtin (roomIn t) s (l .bytes)) in
+      ap₂ (linesOf 1) count stored ∙ lines-back (o .kept) _ (load-short builtin (roomIn t) s (l .bytes)) in
       from-start (rw (le-ltb 4096 (length s) h, ← room, ← lines, ← l .leaves .said) w)
 
 -- a listing has at most 107,142 bytes

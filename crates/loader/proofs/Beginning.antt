@@ -11,7 +11,7 @@ use Rattle.spec.specs.Base.{if_then_else_}
 use Rattle.spec.specs.declared.HeaderRead.{HeaderRead}
 use Rattle.spec.specs.declared.Counts.{Counts}
 use Rattle.spec.specs.declared.Loaded.{Loaded}
-use Rattle.spec.specs.Records.{recordsFrom, logFrom, stringStore}
+use Rattle.spec.specs.Records.{fieldsFrom, recordsWith, numbered, instructionStore, logFrom, stringStore}
 use Rattle.spec.specs.Reader.{readerAt}
 use Rattle.spec.specs.Header.{headerFrom}
 use Rattle.spec.specs.Grammar.{grammarOf, wellFormed}
@@ -27,7 +27,7 @@ use Rattle.loader.specs.Loading.{loading, Leaves, Loads, LoadsWith, Load
 
 -- a load that comes to no instruction leaves the stores alone
 leaves-nothing : (x : Outcome) (t : Stores) (a : Loaded) (n at : ℕ) → x ≡ nothing n at → a ≡ nothing n at .said → Leaves x t t a
-unfolding storesOf laidOn laidOver recordsFrom logFrom stringStore
+unfolding storesOf laidOn laidOver fieldsFrom recordsWith numbered instructionStore logFrom stringStore
 leaves-nothing x t a n at e q = rw e (record { said = q; stores = refl })
 
 -- hints that are all 0 are blank

@@ -1,26 +1,29 @@
 -- Laws of stores that grow by an instruction: the records after the records, and the entries over the entries.
 use Prim.Native.Nat.{ℕ, _+_, _*_, _≤_}
 use mathlib.Core.Path.{_≡_, ap, sym, _∙_}
-use mathlib.Core.List.{List, [], _∷_, _++_, append-assoc, append-nil}
+use mathlib.Core.List.{List, [], _∷_, _++_}
 use native.Mathlib.Omega.{arith}
 use native.Mathlib.Nat.{add-zero, zero-add}
 use lib.ListN.{length, length-append}
 use lib.Seq.{sets}
-use Rattle.spec.specs.Records.{Placed, Instr, operandsLog, operandsStrings, logFrom, fieldsOf, fieldWords, recordsFrom, entrySize}
+use Rattle.spec.specs.declared.Fields.{Fields}
+use Rattle.spec.specs.declared.Numbers.{Numbers}
+use Rattle.spec.specs.Records.{Placed, Instr, operandsLog, operandsStrings, logFrom, fieldsOf, fieldsFrom, recordWords, numbered, instructionStore, entrySize}
 use Rattle.spec.specs.Types.{track}
 use Rattle.spec.proofs.Store.{sets-append}
 use Rattle.demands.proofs.Stores.{operands-log-length}
+use Rattle.numbers.specs.Counting.{stepOf, begun}
+use Rattle.numbers.proofs.Laws.{begun-more, numbered-more}
 use Rattle.tracker.specs.Entries.{entriesOf, stored}
 use Rattle.tracker.proofs.Laws.{entries-stored, stored-over}
 use Rattle.tracker.proofs.Instruction.{instruction-grows}
 
--- the records of one instruction more
-pub records-more : (start m : ℕ) (ks : List Placed) (k : Placed)
-    → recordsFrom start (ks ++ (k ∷ [])) ≡ recordsFrom start ks ++ fieldWords (fieldsOf (start + length (logFrom m ks)) k)
-unfolding recordsFrom logFrom
-records-more start m [] k =
-    append-nil (fieldWords (fieldsOf start k)) ∙ ap (λ (n : ℕ). fieldWords (fieldsOf n k)) (sym (add-zero start))
-records-more start m (j ∷ ks) k =
+-- the fields of one instruction more
+fields-more : (start m : ℕ) (ks : List Placed) (k : Placed)
+    → fieldsFrom start (ks ++ (k ∷ [])) ≡ fieldsFrom start ks ++ (fieldsOf (start + length (logFrom m ks)) k ∷ [])
+unfolding fieldsFrom logFrom
+fields-more start m [] k = ap (λ (n : ℕ). fieldsOf n k ∷ []) (sym (add-zero start))
+fields-more start m (j ∷ ks) k =
     let a = length (operandsLog 0 (j .instr .operands)) in
     let b = length (operandsStrings (j .instr .operands)) in
     let e : start + a + length (logFrom (m + b) ks) ≡ start + length (operandsLog m (j .instr .operands) ++ logFrom (m + b) ks) =
@@ -30,9 +33,26 @@ records-more start m (j ∷ ks) k =
       operands-log-length 0 m (j .instr .operands),
     )
     in
-    ap (λ (z : List ℕ). fieldWords (fieldsOf start j) ++ z) (records-more (start + a) (m + b) ks k)
-    ∙ ap (λ (n : ℕ). fieldWords (fieldsOf start j) ++ (recordsFrom (start + a) ks ++ fieldWords (fieldsOf n k))) e
-    ∙ sym (append-assoc (fieldWords (fieldsOf start j)) (recordsFrom (start + a) ks) _)
+    ap (λ (z : List Fields). fieldsOf start j ∷ z) (fields-more (start + a) (m + b) ks k)
+    ∙ ap (λ (n : ℕ). fieldsOf start j ∷ (fieldsFrom (start + a) ks ++ (fieldsOf n k ∷ []))) e
+
+-- the functions and blocks that have begun with the instructions kept
+unfoldable pub begunWith : List Placed → Numbers
+begunWith ks = begun (fieldsFrom 0 ks)
+
+module _ (ks : List Placed) (k : Placed) (n : ℕ) (starts : 0 + length (logFrom 0 ks) ≡ n) where
+  one-more : fieldsFrom 0 (ks ++ (k ∷ [])) ≡ fieldsFrom 0 ks ++ (fieldsOf n k ∷ [])
+  one-more = fields-more 0 0 ks k ∙ ap (λ (i : ℕ). fieldsFrom 0 ks ++ (fieldsOf i k ∷ [])) starts
+
+  -- those with one more
+  pub begun-next : begunWith (ks ++ (k ∷ [])) ≡ stepOf (k .tag) (begunWith ks) .begun
+  unfolding begunWith fieldsOf
+  begun-next = ap begun one-more ∙ begun-more (fieldsFrom 0 ks) (fieldsOf n k)
+
+  -- the records of one more
+  pub records-next : instructionStore (ks ++ (k ∷ [])) ≡ instructionStore ks ++ recordWords (fieldsOf n k) (stepOf (k .tag) (begunWith ks) .own)
+  unfolding begunWith instructionStore fieldsOf
+  records-next = ap numbered one-more ∙ numbered-more (fieldsFrom 0 ks) (fieldsOf n k)
 
 -- a store that holds a run from its start on holds another after it, which was stored behind it
 pub grow : (l₀ l l₁ a b c : List ℕ) (n : ℕ) → l ≡ sets l₀ 0 a → length a ≡ n → l₁ ≡ sets l n b → c ≡ a ++ b → l₁ ≡ sets l₀ 0 c

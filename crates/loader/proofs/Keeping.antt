@@ -9,7 +9,7 @@ use borrow.Rule.Slice.PartMut.{midOf}
 use lib.Seq.{sets, sets-eq, take-append-seam, length-take-le}
 use Rattle.spec.specs.declared.Limit.the-variants.{Unlimited}
 use Rattle.spec.specs.declared.Fields.{Fields}
-use Rattle.spec.specs.Records.{Instr, Entry, operandsLog, operandsStrings, recordSize, fieldWords}
+use Rattle.spec.specs.Records.{Instr, Entry, operandsLog, operandsStrings, recordSize, recordWords}
 use Rattle.spec.specs.Words.{fourAt, bytesOf}
 use Rattle.spec.specs.Reader.{Reader, Read, got, refused, readerAt}
 use Rattle.spec.specs.Grammar.{grammarOf}
@@ -23,6 +23,8 @@ use Rattle.demands.proofs.Formed.{well-formed-good}
 use Rattle.demands.proofs.Instructions.{Frames, instr-read}
 use Rattle.grammar.specs.Index.{Indexed}
 use Rattle.operand.specs.Log.{Laid}
+use Rattle.numbers.specs.declared.Step.{Step}
+use Rattle.numbers.specs.Counting.{stepOf}
 use Rattle.tracker.specs.Entries.{entriesOf, stored}
 use Rattle.tracker.specs.declared.TypeTracker.{TypeTracker}
 use Rattle.tracker.specs.Hints.{Hinted}
@@ -136,8 +138,8 @@ module _ {s g types scratch spare : List ℕ} {p : Progress} {d : Decoded} (h : 
 -- THE RECORD AND THE ENTRY
 
 -- a load that stands behind an instruction whose record and entry are stored
-pub recorded : (i₀ t₀ i₁ t₁ h₁ : List ℕ) (t : Taken) (f : Fields) (r : TypeTracker) → f ≡ fieldsBy (t .from) (t .read) (t .tag)
-    → i₁ ≡ sets i₀ (recordSize * t .from .instructions) (fieldWords f) → r .count ≡ length (tracked (t .read) (entriesOf (t .from .tracker .count) t₀))
+pub recorded : (i₀ t₀ i₁ t₁ h₁ : List ℕ) (t : Taken) (f : Fields) (c : Step) (r : TypeTracker) → f ≡ fieldsBy (t .from) (t .read) (t .tag)
+    → c ≡ stepOf (t .tag) (t .from .numbers) → i₁ ≡ sets i₀ (recordSize * t .from .instructions) (recordWords f (c .own)) → r .count ≡ length (tracked (t .read) (entriesOf (t .from .tracker .count) t₀))
     → t₁ ≡ stored t₀ (tracked (t .read) (entriesOf (t .from .tracker .count) t₀)) → Hinted r t₁ h₁
     → Recorded i₀ t₀ i₁ t₁ h₁ t
     (record {
@@ -146,17 +148,22 @@ pub recorded : (i₀ t₀ i₁ t₁ h₁ : List ℕ) (t : Taken) (f : Fields) (r
       log = t .from .log + t .read .log;
       strings = t .from .strings + t .read .strings;
       tracker = r;
+      numbers = c .begun;
       state = t .state;
       breaks = t .read .breaks;
     })
 unfolding needOf
-recorded i₀ t₀ i₁ t₁ h₁ t f r ef ei en et hint =
+recorded i₀ t₀ i₁ t₁ h₁ t f c r ef ec ei en et hint =
     record {
       at = refl;
       used = ap (counts (t .from .instructions + 1) (t .from .log + t .read .log) (t .from .strings + t .read .strings)) en;
+      numbers = ap (λ (x : Step). x .begun) ec;
       state = refl;
       breaks = refl;
-      instructions-are = ei ∙ ap (λ (z : Fields). sets i₀ (recordSize * t .from .instructions) (fieldWords z)) ef;
+      instructions-are =
+          ei
+          ∙ ap (λ (z : Fields). sets i₀ (recordSize * t .from .instructions) (recordWords z (c .own))) ef
+          ∙ ap (λ (x : Step). sets i₀ (recordSize * t .from .instructions) (recordWords (fieldsBy (t .from) (t .read) (t .tag)) (x .own))) ec;
       types-are = et;
       hinted = hint;
     }

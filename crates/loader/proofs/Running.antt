@@ -17,8 +17,10 @@ use Rattle.spec.specs.declared.Cell.the-variants.{Tagged}
 use Rattle.spec.specs.declared.Counts.{Counts}
 use Rattle.spec.specs.declared.Loaded.{Loaded}
 use Rattle.spec.specs.declared.Fields.{Fields}
+use Rattle.spec.specs.declared.Numbers.{Numbers}
 use Rattle.spec.specs.Base.{if_then_else_, has, joined}
-use Rattle.spec.specs.Records.{Instr, Placed, Entry, entryWords, operandsLog, operandsStrings, recordSize, entrySize, fieldsOf, fieldWords, recordsFrom, logFrom, stringStore}
+use Rattle.spec.specs.Numbers.{noNumbers}
+use Rattle.spec.specs.Records.{Instr, Placed, Entry, entryWords, operandsLog, operandsStrings, recordSize, entrySize, fieldsOf, fieldsFrom, recordWords, recordsWith, numbered, instructionStore, logFrom, stringStore}
 use Rattle.spec.specs.Reader.{got, refusal, readerAt}
 use Rattle.spec.specs.Grammar.{Grammar, grammarOf}
 use Rattle.spec.specs.Layout.{layoutOf, endNumber}
@@ -29,8 +31,10 @@ use Rattle.spec.proofs.Breaks.{kept-more}
 use Rattle.spec.specs.Load.{roomOf, roomFault, usedAfter, Covers, Book, emptyBook, Outcome, stop, loadFrom, withPlain, Stores, lent, roomIn, storesOf, laidOver, laidOn, roomed, onBook}
 use Rattle.demands.proofs.Lists.{has-leb}
 use Rattle.demands.proofs.Room.{fits-covers}
-use Rattle.demands.proofs.Stores.{records-length, strings-more, log-more}
+use Rattle.demands.proofs.Stores.{instructions-length, strings-more, log-more}
 use Rattle.grammar.specs.Index.{Indexed}
+use Rattle.numbers.specs.Counting.{stepOf, counted, begun}
+use Rattle.numbers.proofs.Laws.{onward-few}
 use Rattle.tracker.specs.Entries.{entriesOf, stored}
 use Rattle.tracker.specs.Hints.{Blank}
 use Rattle.tracker.specs.declared.TypeTracker.{TypeTracker}
@@ -42,7 +46,7 @@ use Rattle.loader.specs.Steps.{usedBy, saidAt, Bounded, Typed, tracked, 
 use Rattle.loader.specs.Loading.{LoadsFrom}
 use Rattle.loader.proofs.Judging.{placedAs, bookOf, word-left, Admitted, Stops, log-size, strings-few, strings-size, tracked-is, need-is, fields-are, placed-is}
 use Rattle.loader.proofs.Keeping.{log-short}
-use Rattle.loader.proofs.Growing.{records-more, grow, entries-next, types-next}
+use Rattle.loader.proofs.Growing.{begunWith, begun-next, records-next, grow, entries-next, types-next}
 
 -- THE DEFINITION, A STEP AT A TIME
 
@@ -91,7 +95,8 @@ pub record Running (s g : List ℕ) (room : Counts) (before now : Stores) (h₀ 
   pub ninstructions : length kept ≡ p .instructions
   pub nlog : length (logFrom 0 kept) ≡ p .log
   pub nstrings : length (stringStore kept) ≡ p .strings
-  pub instructions-are : now .instructions ≡ sets (before .instructions) 0 (recordsFrom 0 kept)
+  pub numbers : p .numbers ≡ begunWith kept
+  pub instructions-are : now .instructions ≡ sets (before .instructions) 0 (instructionStore kept)
   pub log-is : now .log ≡ sets (before .log) 0 (logFrom 0 kept)
   pub strings-are : now .strings ≡ sets (before .strings) 0 (stringStore kept)
   pub types-are : now .types ≡ stored (before .types) (entriesOf (p .tracker .count) (now .types))
@@ -117,8 +122,8 @@ plainAs t a b =
 pub start : (s g : List ℕ) (room : Counts) (before : Stores) (h₀ : List ℕ)
     → room ≡ roomOf (length (before .instructions)) (length (before .log)) (length (before .strings)) (length (before .types)) → 20 ≤ length s → length s ≤ 67108864
     → (t : TypeTracker) (m : ℕ) → t ≡ record { count = 0; greatest = 0; marks = m } → m + 2048 ≤ length h₀ → Blank h₀
-    → Running s g room before before h₀ h₀ (record { at = 20; instructions = 0; log = 0; strings = 0; tracker = t; state = Outside; breaks = 0 })
-unfolding roomIn entriesOf recordsFrom logFrom stringStore stored laidOver keptBreak
+    → Running s g room before before h₀ h₀ (record { at = 20; instructions = 0; log = 0; strings = 0; tracker = t; numbers = noNumbers; state = Outside; breaks = 0 })
+unfolding roomIn entriesOf begunWith begun counted instructionStore numbered recordsWith fieldsFrom logFrom stringStore stored laidOver keptBreak
 start s g room before h₀ e few short t m q fits blank =
     rw q
     (record {
@@ -128,11 +133,12 @@ start s g room before h₀ e few short t m q fits blank =
       enough = omega arith;
       inside = few;
       short = short;
-      bounded = record { short = omega arith; few = omega arith; few-log = omega arith; few-strings = omega arith };
+      bounded = record { short = omega arith; few = omega arith; few-log = omega arith; few-strings = omega arith; few-functions = omega arith; few-blocks = omega arith };
       room-is = e;
       ninstructions = refl;
       nlog = refl;
       nstrings = refl;
+      numbers = refl;
       instructions-are = refl;
       log-is = refl;
       strings-are = refl;
@@ -158,7 +164,7 @@ said-same h size p y b c f =
 module _ {s g : List ℕ} {room : Counts} {before now : Stores} {h₀ hs : List ℕ} {p : Progress} (r : Running s g room before now h₀ hs p) where
   -- no store has changed its length
   pub same-instructions : length (now .instructions) ≡ length (before .instructions)
-  same-instructions = ap length (r .instructions-are) ∙ length-sets (before .instructions) 0 (recordsFrom 0 (r .kept))
+  same-instructions = ap length (r .instructions-are) ∙ length-sets (before .instructions) 0 (instructionStore (r .kept))
 
   pub same-log : length (now .log) ≡ length (before .log)
   same-log = ap length (r .log-is) ∙ length-sets (before .log) 0 (logFrom 0 (r .kept))
@@ -189,7 +195,7 @@ module _ {s g : List ℕ} {room : Counts} {before now : Stores} {h₀ hs : List 
             said-same h (length s) p y b (keptBreak s (r .kept)) (λ z. f z ∙ r .breaks)
             ∙ sym (ap (λ (o : Outcome). withPlain s o .said) (e h));
         stores = λ j.
-            lent ((r .instructions-are ∙ sym (ap (λ (o : Outcome). sets (before .instructions) 0 (recordsFrom 0 (o .left))) (e h))) j)
+            lent ((r .instructions-are ∙ sym (ap (λ (o : Outcome). sets (before .instructions) 0 (instructionStore (o .left))) (e h))) j)
             ((r .log-is ∙ sym (ap (λ (o : Outcome). sets (before .log) 0 (logFrom 0 (o .left))) (e h))) j)
             ((r .strings-are ∙ sym (ap (λ (o : Outcome). sets (before .strings) 0 (stringStore (o .left))) (e h))) j)
             ((r .types-are ∙ sym (ap (λ (o : Outcome). sets (before .types) 0 (joined entryWords (o .types))) (e h))) j);
@@ -287,6 +293,9 @@ module _ {s g : List ℕ} {room : Counts} {before now : Stores} {h₀ hs : List 
           log-more 0 ks pl ∙ ap (λ (n : ℕ). logFrom 0 ks ++ operandsLog n (i .operands)) strs
           in
           let starts : 0 + length (logFrom 0 ks) ≡ f .log = zero-add (length (logFrom 0 ks)) ∙ here .nlog in
+          let grown : (q .numbers .function ≤ f .numbers .function + 1) × (q .numbers .block ≤ f .numbers .block + 1) =
+          rw (k .numbers) (unfold stepOf in onward-few (t .tag) (f .numbers))
+          in
           let short-log = log-short g index ix es s (f .at) i _ (f .strings) (h .read) in
           record {
             kept = ks ++ (pl ∷ []);
@@ -309,6 +318,8 @@ module _ {s g : List ℕ} {room : Counts} {before now : Stores} {h₀ hs : List 
                   few = omega (arith, here .bounded .few, k .at, h .moves, one);
                   few-log = omega (arith, here .bounded .few-log, short-log, log-size (a .shown), h .words, k .at, logged);
                   few-strings = omega (arith, strings-few (a .shown), k .at, strung);
+                  few-functions = omega (arith, here .bounded .few-functions, grown .0, one);
+                  few-blocks = omega (arith, here .bounded .few-blocks, grown .1, one);
                 };
             room-is = here .room-is;
             ninstructions = length-append ks (pl ∷ []) ∙ omega (arith, here .ninstructions, one);
@@ -321,10 +332,15 @@ module _ {s g : List ℕ} {room : Counts} {before now : Stores} {h₀ hs : List 
                 ∙ length-append (stringStore ks) (operandsStrings (i .operands))
                 ∙ omega (arith, here .nstrings, strings-size (a .shown), strung);
             instructions-are =
-                grow (before .instructions) (now .instructions) i₁ (recordsFrom 0 ks) (fieldWords (fieldsOf (f .log) pl)) _ (recordSize * f .instructions) (here .instructions-are)
-                (records-length 0 ks ∙ ap (λ (n : ℕ). recordSize * n) (here .ninstructions))
-                (k .instructions-are ∙ ap (λ (z : Fields). sets (now .instructions) (recordSize * f .instructions) (fieldWords z)) (fields-are (a .shown) (t .tag)))
-                (records-more 0 0 ks pl ∙ ap (λ (n : ℕ). recordsFrom 0 ks ++ fieldWords (fieldsOf n pl)) starts);
+                grow (before .instructions) (now .instructions) i₁ (instructionStore ks) (recordWords (fieldsOf (f .log) pl) (stepOf (t .tag) (begunWith ks) .own)) _
+                (recordSize * f .instructions) (here .instructions-are) (instructions-length ks ∙ ap (λ (n : ℕ). recordSize * n) (here .ninstructions))
+                (k .instructions-are
+                ∙ ap (λ (z : Fields). sets (now .instructions) (recordSize * f .instructions) (recordWords z (stepOf (t .tag) (f .numbers) .own))) (fields-are (a .shown) (t .tag))
+                ∙ ap
+                (λ (n : Numbers). sets (now .instructions) (recordSize * f .instructions) (recordWords (fieldsOf (f .log) pl) (stepOf (t .tag) n .own)))
+                (here .numbers))
+                (records-next ks pl (f .log) starts);
+            numbers = k .numbers ∙ ap (λ (n : Numbers). stepOf (t .tag) n .begun) (here .numbers) ∙ sym (begun-next ks pl (f .log) starts);
             log-is = grow (before .log) (now .log) l₁ (logFrom 0 ks) (operandsLog (f .strings) (i .operands)) _ (f .log) (here .log-is) (here .nlog) (laid .0) logs;
             strings-are =
                 grow (before .strings) (now .strings) w₁ (stringStore ks) (operandsStrings (i .operands)) _ (f .strings) (here .strings-are) (here .nstrings) (laid .1)

@@ -14,13 +14,14 @@ use Rattle.spec.specs.declared.Counts.{Counts}
 use Rattle.spec.specs.declared.Fields.{Fields}
 use Rattle.spec.specs.declared.Loaded.{Loaded}
 use Rattle.spec.specs.Base.{if_then_else_, orZero}
-use Rattle.spec.specs.Records.{Instr, Entry, operandsLog, operandsStrings, presence, recordSize, entrySize, fieldWords}
+use Rattle.spec.specs.Records.{Instr, Entry, operandsLog, operandsStrings, presence, recordSize, recordWords, entrySize}
 use Rattle.spec.specs.Reader.{Reader, Read, got, refusal, readerAt}
 use Rattle.spec.specs.Grammar.{grammarOf}
 use Rattle.spec.specs.Layout.{layoutOf}
 use Rattle.spec.specs.Match.{readInstr}
 use Rattle.spec.specs.Plain.{firstBreak, tailBreak}
 use Rattle.spec.specs.Load.{counts, roomFault}
+use Rattle.numbers.specs.Counting.{stepOf}
 use Rattle.tracker.specs.Entries.{entriesOf, stored}
 use Rattle.tracker.specs.Hints.{Hinted}
 use Rattle.tracker.specs.declared.Told.{Told}
@@ -67,6 +68,8 @@ pub record Bounded (p : Progress) : Type 0 where
   pub few : 4 * p .instructions ≤ p .at
   pub few-log : 4 * p .log ≤ 9 * p .at
   pub few-strings : p .strings ≤ p .at
+  pub few-functions : p .numbers .function ≤ p .instructions
+  pub few-blocks : p .numbers .block ≤ p .instructions
 
 -- the entries lie in the store, and the hints are theirs
 pub record Typed (types hints : List ℕ) (p : Progress) : Type 0 where
@@ -163,8 +166,11 @@ Stored s g types l₀ s₀ l₁ s₁ p =
 pub record Recorded (i₀ t₀ i₁ t₁ h₁ : List ℕ) (t : Taken) (r : Progress) : Type 0 where
   pub at : r .at ≡ t .from .at + 4 * t .read .words
   pub used : usedBy r ≡ needOf (t .from) (t .read) (entriesOf (t .from .tracker .count) t₀)
+  pub numbers : r .numbers ≡ stepOf (t .tag) (t .from .numbers) .begun
   pub state : r .state ≡ t .state
   pub breaks : r .breaks ≡ t .read .breaks
-  pub instructions-are : i₁ ≡ sets i₀ (recordSize * t .from .instructions) (fieldWords (fieldsBy (t .from) (t .read) (t .tag)))
+  pub instructions-are : i₁
+      ≡ sets i₀ (recordSize * t .from .instructions)
+      (recordWords (fieldsBy (t .from) (t .read) (t .tag)) (stepOf (t .tag) (t .from .numbers) .own))
   pub types-are : t₁ ≡ stored t₀ (tracked (t .read) (entriesOf (t .from .tracker .count) t₀))
   pub hinted : Hinted (r .tracker) t₁ h₁

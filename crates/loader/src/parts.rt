@@ -13,20 +13,22 @@ use parser::Decoded;
 use spec::Counts;
 use spec::Fields;
 use spec::Loaded;
+use spec::Numbers;
 use spec::Refusal;
 use spec::State;
 use spec::refusals;
 use tracker::Id;
 use tracker::TypeTracker;
 
-// Where a load stands: the place of the next instruction, what is kept so far, the state of the layout, and the first offset that breaks
-// what is kept, or 0.
+// Where a load stands: the place of the next instruction, what is kept so far, the functions and blocks that have begun, the state of the
+// layout, and the first offset that breaks what is kept, or 0.
 pub struct Progress {
     pub at: usize,
     pub instructions: usize,
     pub log: usize,
     pub strings: usize,
     pub tracker: TypeTracker,
+    pub numbers: Numbers,
     pub state: State,
     pub breaks: usize,
 }

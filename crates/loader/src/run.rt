@@ -20,6 +20,7 @@ use crate::step::keep_operands;
 use crate::step::keep_record;
 use room::room_in;
 use spec::Loaded;
+use spec::Numbers;
 use spec::Refusal;
 use spec::State;
 use spec::refusals;
@@ -73,12 +74,17 @@ fn load_from(
     let room = room_in(instructions.len(), log.len(), strings.len(), types.len());
     let bound = words::word_at(s, BOUND);
     let tracker = TypeTracker::new(bound, hints.len());
+    let numbers = Numbers {
+        function: 0,
+        block: 0,
+    };
     let mut p = Progress {
         at: HEADER,
         instructions: 0,
         log: 0,
         strings: 0,
         tracker,
+        numbers,
         state: State::Outside,
         breaks: 0,
     };

@@ -234,7 +234,10 @@ pub fn keep_record(
     let p = t.from;
     let d = t.read;
     let fields = fields_of(p, d, t.tag);
-    records::put_fields(instructions, RECORD * p.instructions, fields);
+    let begun = p.numbers;
+    let counted = numbers::count(t.tag as u32, begun);
+    let own = counted.own;
+    records::put_record(instructions, RECORD * p.instructions, fields, own);
     let tracker = p.tracker;
     let rtype = d.rtype;
     let rid = d.rid;
@@ -249,6 +252,7 @@ pub fn keep_record(
         second,
     };
     let tracked = tracker.track(types, hints, told);
+    let numbers = counted.begun;
     let state = t.state;
     Progress {
         at: p.at + 4 * (d.words as usize),
@@ -256,6 +260,7 @@ pub fn keep_record(
         log: p.log + d.log,
         strings: p.strings + d.strings,
         tracker: tracked,
+        numbers,
         state,
         breaks: d.breaks,
     }

@@ -10,13 +10,13 @@ use lib.Seq.{take-at}
 use Rattle.spec.specs.declared.Loaded.{Loaded}
 use Rattle.spec.specs.declared.Written.{Written}
 use Rattle.spec.specs.Base.{joined, if_then_else_}
-use Rattle.spec.specs.Records.{Placed, recordSize, recordsFrom, logFrom, stringStore, entrySize, entryWords}
+use Rattle.spec.specs.Records.{Placed, recordSize, instructionStore, logFrom, stringStore, entrySize, entryWords}
 use Rattle.spec.specs.Load.{Outcome, load, Stores, storesOf, roomIn}
 use Rattle.spec.specs.Check.{Checked, bad, good}
 use Rattle.spec.specs.Write.{writeBy}
 use Rattle.demands.proofs.Choice.{cases}
 use Rattle.demands.proofs.Starts.{header-five, load-is}
-use Rattle.demands.proofs.Stores.{records-length, entries-length}
+use Rattle.demands.proofs.Stores.{instructions-length, entries-length}
 use Rattle.demands.proofs.KeptSays.{takenBy, load-says}
 use Rattle.demands.proofs.Leaves.{Leaves, load-leaves}
 use Rattle.loader.specs.Loading.{loading, Loads as LoadsSo}
@@ -97,7 +97,7 @@ module _ (v : Load) (l : Loads v) where
         leaves-so .log,
         leaves-so .strings,
         leaves-so .types,
-        take-at (recordsFrom 0 (x .kept)) _ (recordSize * length (x .kept)) (records-length 0 (x .kept)),
+        take-at (instructionStore (x .kept)) _ (recordSize * length (x .kept)) (instructions-length (x .kept)),
         take-at (logFrom 0 (x .kept)) _ (length (logFrom 0 (x .kept))) refl,
         take-at (stringStore (x .kept)) _ (length (stringStore (x .kept))) refl,
         take-at (joined entryWords (x .types)) _ (entrySize * length (x .types)) (entries-length (x .types)),

@@ -1,5 +1,5 @@
 -- Laws of a record's words, and of the steps of the check over fields and tags.
-use Prim.Native.Nat.{ℕ, _+_, _*_, _%_, _<_, _≤_}
+use Prim.Native.Nat.{ℕ, suc, _+_, _*_, _%_, _<_, _≤_}
 use mathlib.Core.Path.{_≡_, refl, ap, sym, _∙_, subst}
 use mathlib.Core.Bool.{Bool, true, false, not, _&&_}
 use mathlib.Core.List.{List, [], _∷_}
@@ -8,19 +8,21 @@ use native.Mathlib.Nat.{add-zero, le-of-lt}
 use native.Mathlib.Omega.{arith}
 use borrow.Author.Tests.{leb-true, leb-false, le-leb, lt-leb, eq-eqb, ne-eqb}
 use lib.Dec.{leb, eqb}
-use lib.ListN.{length, take, drop, getD}
-use lib.Seq.{getD-drop, take-all, take-length, length-take-le}
+use lib.ListN.{length, take, drop, getD, set}
+use lib.Seq.{sets, getD-drop, take-all, take-length, length-take-le}
 use Rattle.spec.specs.declared.State.{State}
 use Rattle.spec.specs.declared.Cell.{Cell}
 use Rattle.spec.specs.declared.Cell.the-variants.{Tagged, Refuses}
 use Rattle.spec.specs.declared.Fields.{Fields}
+use Rattle.spec.specs.declared.Numbers.{Numbers}
 use Rattle.spec.specs.declared.Found.{Found}
 use Rattle.spec.specs.declared.Found.the-variants.{At, Nothing}
 use Rattle.spec.specs.Base.{if_then_else_, every}
 use Rattle.spec.specs.Text.{untilZero, isUtf8}
-use Rattle.spec.specs.Records.{fieldsAt}
+use Rattle.spec.specs.Records.{fieldWords, fieldsAt, recordWords}
 use Rattle.spec.specs.Layout.{layoutOf}
 use Rattle.spec.specs.Check.{fieldsGood}
+use Rattle.spec.proofs.Store.{sets-append}
 use Rattle.text.specs.Zero.{zeroAfter, zeroIn}
 use Rattle.records.specs.declared.Offset.the-variants as offset
 use Rattle.records.specs.declared.Tagging.the-variants as tagging
@@ -41,6 +43,16 @@ pub fields-drop : (ws : List ℕ) (at : ℕ)
     ≡ fieldsAt (drop at ws)
 unfolding fieldsAt
 fields-drop ws at = sym (simp (getD-drop, add-zero))
+
+-- a record's words, stored one after the other
+pub record-put : (l l₁ : List ℕ) (at : ℕ) (f : Fields) (n : Numbers) → l₁ ≡ sets l at (fieldWords f)
+    → set (set l₁ (at + 8) (n .function)) (at + 9) (n .block) ≡ sets l at (recordWords f n)
+unfolding fieldWords recordWords
+record-put l l₁ at f n e =
+    let k : at + 9 ≡ suc (at + 8) = omega arith in
+    ap (λ (z : List ℕ). set (set z (at + 8) (n .function)) (at + 9) (n .block)) e
+    ∙ ap (λ (i : ℕ). set (set (sets l at (fieldWords f)) (at + 8) (n .function)) i (n .block)) k
+    ∙ sets-append (fieldWords f) (n .function ∷ n .block ∷ []) l at
 
 -- OFFSETS
 

@@ -16,7 +16,7 @@ use Rattle.spec.specs.declared.Cell.{Cell}
 use Rattle.spec.specs.declared.Cell.the-variants.{Tagged, Refuses}
 use Rattle.spec.specs.declared.Fields.{Fields}
 use Rattle.spec.specs.Base.{if_then_else_}
-use Rattle.spec.specs.Records.{Placed, recordSize, fieldsAt}
+use Rattle.spec.specs.Records.{Placed, fieldSize, fieldsAt}
 use Rattle.spec.specs.Layout.{layoutOf, endNumber}
 use Rattle.spec.specs.Check.{lower, recordsOf, missing, fieldsGood, fieldsFault, Left, takeRecord, onRecord, scanFrom, onTag, tagsFault, faultOf}
 use Rattle.records.specs.declared.Asked.{Asked}
@@ -36,14 +36,14 @@ use Rattle.records.proofs.Lowest.{lowest-1, lowest-2, lowest-3, lowest-
 -- THE RECORDS
 
 -- a record that lies wholly in the store
-pub in-store : (size i n : ℕ) → recordSize ≤ size → i < n / size → size * i + size ≤ n
+pub in-store : (size i n : ℕ) → fieldSize ≤ size → i < n / size → size * i + size ≤ n
 in-store size i n h g =
     let z : 0 < size = omega arith in
     let m : suc i * size ≤ n = le-div-iff-mul-le z .0 g in
     omega arith
 
 -- one that does not
-past-store : (size i n : ℕ) → recordSize ≤ size → n / size ≤ i → n < size * i + size
+past-store : (size i n : ℕ) → fieldSize ≤ size → n / size ≤ i → n < size * i + size
 past-store size i n h g =
     let z : 0 < size = omega arith in
     let m : n < suc i * size = div-lt-iff-lt-mul z .0 (omega arith) in
@@ -59,7 +59,7 @@ module _ (size : ℕ) (ws : List ℕ) (i : ℕ) where
       rw (e, has-yes size (drop (size * i) ws) (omega (arith, length-drop (size * i) ws)), drop-drop, k)
 
   -- it does not lie in the store
-  records-none : (n m : ℕ) → m ≡ suc n → recordSize ≤ size → length ws < size * i + size → recordsOf size m (drop (size * i) ws) ≡ []
+  records-none : (n m : ℕ) → m ≡ suc n → fieldSize ≤ size → length ws < size * i + size → recordsOf size m (drop (size * i) ws) ≡ []
   unfolding recordsOf
   records-none n m e z h = rw (e, has-no size (drop (size * i) ws) (omega (arith, length-drop (size * i) ws)))
 
@@ -223,7 +223,7 @@ check-starts q ws log strings =
       inStrings = omega arith;
     }
 
-module _ {q : Asked} {ws log strings : List ℕ} {i at a b : ℕ} {s : State} (some-size : recordSize ≤ q .size)
+module _ {q : Asked} {ws log strings : List ℕ} {i at a b : ℕ} {s : State} (some-size : fieldSize ≤ q .size)
     (r : Checking q ws log strings i at a b s) where
   -- an answer that names the record
   bad-here : faultsFrom q (suc i) (q .count - i) at (leftAt log strings a b) s (recordsOf (q .size) (q .count - i) (drop (q .size * i) ws)) ≡ some (suc i)

@@ -1,11 +1,11 @@
-// Records in lent stores: the one getter and the one setter of an instruction record, the check behind refusal 30, and the operands
-// of checked records.
+// Records in lent stores: the getters and the setters of an instruction record, the check behind refusal 30, and the operands of checked
+// records.
 ghost use mathlib.Core.Path.{_≡_};
 ghost use mathlib.Core.Bool.{true};
 ghost use Prim.Native.Nat.{_+_, _*_, _≤_};
 ghost use lib.ListN.{length, drop};
 ghost use lib.Seq.{sets};
-ghost use Rattle.spec.specs.Records.{recordSize, fieldWords, fieldsAt};
+ghost use Rattle.spec.specs.Records.{fieldSize, fieldWords, fieldsAt, recordSize, recordWords};
 ghost use Rattle.text.specs.AsciiText.{isAsciiText};
 ghost use Rattle.reflect.specs.Column.{layoutTable, kindTable};
 ghost use Rattle.spec.specs.Check.{takeOperand, takeOperands, faultOf};
@@ -16,15 +16,19 @@ use operand::is_two;
 use spec::Cell;
 use spec::Fields;
 use spec::Found;
+use spec::Numbers;
 use spec::State;
 use spec::kinds;
 
-// How many words an instruction record has.
-pub const RECORD: usize = 8;
+// How many words the fields of an instruction record have, which were last season's whole record.
+pub const FIELDS: usize = 8;
 
-// The record at a place: what its words mean is said here and in the setter alone.
+// How many words an instruction record has.
+pub const RECORD: usize = 10;
+
+// The fields of the record at a place: what its words mean is said here and in the setters alone.
 pub fn fields_at(instructions: &[u32], at: usize) -> Fields
-    requires { ⌜ at + recordSize ≤ length (now instructions) ⌝ }
+    requires { ⌜ at + fieldSize ≤ length (now instructions) ⌝ }
     ensures { λ r. ⌜ r ≡ fieldsAt (drop at (now (instructions .entry))) ⌝ }
 {
     Fields {
@@ -39,7 +43,7 @@ pub fn fields_at(instructions: &[u32], at: usize) -> Fields
     }
 }
 
-// The record of an index, the first being 0.
+// The fields of the record of an index, the first being 0.
 pub fn record_at(instructions: &[u32], i: usize) -> Fields
     requires { ⌜ recordSize * i + recordSize ≤ length (now instructions) ⌝ }
     ensures { λ r. ⌜ r ≡ fieldsAt (drop (recordSize * i) (now (instructions .entry))) ⌝ }
@@ -47,9 +51,9 @@ pub fn record_at(instructions: &[u32], i: usize) -> Fields
     fields_at(instructions, RECORD * i)
 }
 
-// A record, stored at a place.
+// Fields, stored at a place.
 pub fn put_fields(instructions: &mut [u32], at: usize, f: Fields)
-    requires { ⌜ at + recordSize ≤ length (now instructions) ⌝ }
+    requires { ⌜ at + fieldSize ≤ length (now instructions) ⌝ }
     ensures { λ _. ⌜ now (instructions .exit) ≡ sets (now (instructions .entry)) at (fieldWords f) ⌝ }
 {
     instructions[at] = f.head;
@@ -60,6 +64,16 @@ pub fn put_fields(instructions: &mut [u32], at: usize, f: Fields)
     instructions[at + 5] = f.start;
     instructions[at + 6] = f.count;
     instructions[at + 7] = f.words;
+}
+
+// A record, stored at a place: its fields, then its numbers.
+pub fn put_record(instructions: &mut [u32], at: usize, f: Fields, n: Numbers)
+    requires { ⌜ at + recordSize ≤ length (now instructions) ⌝ }
+    ensures { λ _. ⌜ now (instructions .exit) ≡ sets (now (instructions .entry)) at (recordWords f n) ⌝ }
+{
+    put_fields(instructions, at, f);
+    instructions[at + 8] = n.function;
+    instructions[at + 9] = n.block;
 }
 
 // THE CHECK
@@ -330,7 +344,7 @@ fn first_fault(
     strings: &[u8],
 ) -> Checked
     requires { ⌜ (now table ≡ layoutTable) × (now kinds ≡ kindTable) ⌝ }
-    requires { ⌜ recordSize ≤ asked .size ⌝ }
+    requires { ⌜ fieldSize ≤ asked .size ⌝ }
     ensures { λ r. ⌜ checkedIs r ≡ faultIn asked (now (instructions .entry)) (now (log .entry)) (now (strings .entry)) ⌝ }
 {
     let size = asked.size;
@@ -374,7 +388,7 @@ fn finds_nothing(
     strings: &[u8],
 ) -> bool
     requires { ⌜ (now table ≡ layoutTable) × (now kinds ≡ kindTable) ⌝ }
-    requires { ⌜ recordSize ≤ asked .size ⌝ }
+    requires { ⌜ fieldSize ≤ asked .size ⌝ }
     requires { ⌜ isAsciiText (now strings) ≡ true ⌝ }
     ensures { λ r. ⌜ r ≡ isFree (faultIn asked (now (instructions .entry)) (now (log .entry)) (now (strings .entry))) ⌝ }
 {
@@ -419,8 +433,43 @@ pub fn at_most(a: usize, b: usize) -> usize
     b
 }
 
-// Whether given records keep the store layout, and in module order (whole) end outside functions. They are seldom bad, and their strings
-// seldom other than ASCII text.
+// Whether given records of a length keep the store layout, and in module order (whole) end outside functions. They are seldom bad, and
+// their strings seldom other than ASCII text.
+pub fn check_of(
+    size: usize,
+    whole: bool,
+    instructions: &[u32],
+    log: &[u8],
+    strings: &[u8],
+    count: usize,
+    log_count: usize,
+    string_count: usize,
+) -> Checked
+    requires { ⌜ fieldSize ≤ size ⌝ }
+    ensures { λ r. ⌜ checkedIs r ≡ faultOf size whole (given (now (instructions .entry)) (now (log .entry)) (now (strings .entry)) count «log_count» «string_count») ⌝ }
+{
+    let log_end = at_most(log_count, log.len());
+    let strings_end = at_most(string_count, strings.len());
+    let kinds = reflect::kinds();
+    let table = reflect::table();
+    let log = &log[..log_end];
+    let strings = &strings[..strings_end];
+    let asked = Asked {
+        whole,
+        size,
+        count,
+        log: log_count,
+        strings: string_count,
+    };
+    if text::is_ascii_text(strings) {
+        if finds_nothing(&kinds, &table, asked, instructions, log, strings) {
+            return Checked::Good;
+        }
+    }
+    first_fault(&kinds, &table, asked, instructions, log, strings)
+}
+
+// Whether given records do, those of a load.
 pub fn check(
     whole: bool,
     instructions: &[u32],
@@ -432,25 +481,16 @@ pub fn check(
 ) -> Checked
     ensures { λ r. ⌜ checkedIs r ≡ faultOf recordSize whole (given (now (instructions .entry)) (now (log .entry)) (now (strings .entry)) count «log_count» «string_count») ⌝ }
 {
-    let log_end = at_most(log_count, log.len());
-    let strings_end = at_most(string_count, strings.len());
-    let kinds = reflect::kinds();
-    let table = reflect::table();
-    let log = &log[..log_end];
-    let strings = &strings[..strings_end];
-    let asked = Asked {
+    check_of(
+        RECORD,
         whole,
-        size: RECORD,
+        instructions,
+        log,
+        strings,
         count,
-        log: log_count,
-        strings: string_count,
-    };
-    if text::is_ascii_text(strings) {
-        if finds_nothing(&kinds, &table, asked, instructions, log, strings) {
-            return Checked::Good;
-        }
-    }
-    first_fault(&kinds, &table, asked, instructions, log, strings)
+        log_count,
+        string_count,
+    )
 }
 
 // GOOD RECORDS

@@ -11,12 +11,12 @@ const ENTRY: usize = 3;
 fn case(text: &[u8], module: &[u8], grammar: &[u8], room: usize, words: usize)
     requires { ⌜ (room ≤ 512) × (words ≤ 128) ⌝ }
 {
-    let mut instructions = [0u32; 1024];
+    let mut instructions = [0u32; 1280];
     let mut log = [0u8; 1152];
     let mut strings = [0u8; 512];
     let mut types = [0u32; 384];
     let mut out = [0u8; 512];
-    let mut instructions_back = [0u32; 1024];
+    let mut instructions_back = [0u32; 1280];
     let mut log_back = [0u8; 1152];
     let mut strings_back = [0u8; 512];
     let mut types_back = [0u32; 384];

@@ -17,6 +17,7 @@ use Rattle.spec.specs.Grammar
 use Rattle.spec.specs.Grammar.{Item, Grammar, grammarBy, grammarOf, items}
 use Rattle.spec.specs.Table.{table}
 use Rattle.spec.specs.Builtin.{builtin, builtin-items, builtin-well-formed}
+use Rattle.spec.specs.Numbers
 use Rattle.spec.specs.Records
 use Rattle.spec.specs.Records.{longBytes}
 use Rattle.spec.specs.Layout
@@ -85,7 +86,7 @@ ab w p b =
     fitting (module-of (H ++ (0x00030007 ∷ 1 ∷ w ∷ [])))
     (record {
       said = answer 0 32 2 0 H (counts 1 9 2 0) p b;
-      stores = lent (0x20007 ∷ 7 ∷ 20 ∷ 0 ∷ 1 ∷ 0 ∷ 1 ∷ 3 ∷ []) (40 ∷ bytesOf 0 ++ bytesOf 2) (ascii "ab") [];
+      stores = lent (0x20007 ∷ 7 ∷ 20 ∷ 0 ∷ 1 ∷ 0 ∷ 1 ∷ 3 ∷ 0 ∷ 0 ∷ []) (40 ∷ bytesOf 0 ++ bytesOf 2) (ascii "ab") [];
     })
 
 -- the module of fitting 6
@@ -103,7 +104,7 @@ fittings =
     ∷ fitting six  -- 6
     (record {
       said = answer 0 32 2 0 H (counts 1 10 0 0) true 0;
-      stores = lent (14 ∷ 4 ∷ 20 ∷ 0 ∷ 0 ∷ 0 ∷ 2 ∷ 3 ∷ []) (0x0B ∷ 0 ∷ 0 ∷ 0 ∷ 0 ∷ 0x0C ∷ 1 ∷ 0 ∷ 0 ∷ 0 ∷ []) [] [];
+      stores = lent (14 ∷ 4 ∷ 20 ∷ 0 ∷ 0 ∷ 0 ∷ 2 ∷ 3 ∷ 0 ∷ 0 ∷ []) (0x0B ∷ 0 ∷ 0 ∷ 0 ∷ 0 ∷ 0x0C ∷ 1 ∷ 0 ∷ 0 ∷ 0 ∷ []) [] [];
     })
     ∷ refusedAt 4 20 0 (0 ∷ [])  -- 7
     ∷ refusedAt 5 20 0xFFFF (0x0001FFFF ∷ [])  -- 8
@@ -117,7 +118,7 @@ fittings =
       said = answer 0 56 3 0 H (counts 2 19 0 2) true 0;
       stores =
           lent
-          (0x20015 ∷ 11 ∷ 20 ∷ 0 ∷ 2 ∷ 0 ∷ 2 ∷ 4 ∷ 0x3002B ∷ 11 ∷ 36 ∷ 2 ∷ 3 ∷ 10 ∷ 1 ∷ 5 ∷ [])
+          (0x20015 ∷ 11 ∷ 20 ∷ 0 ∷ 2 ∷ 0 ∷ 2 ∷ 4 ∷ 0 ∷ 0 ∷ 0x3002B ∷ 11 ∷ 36 ∷ 2 ∷ 3 ∷ 10 ∷ 1 ∷ 5 ∷ 0 ∷ 0 ∷ [])
           ((34 ∷ bytesOf 64) ++ (34 ∷ bytesOf 0) ++ (36 ∷ longBytes 4294967303))
           []
           (2 ∷ 64 ∷ 1 ∷ 3 ∷ 64 ∷ 1 ∷ []);
@@ -139,7 +140,7 @@ by-items [] = refl
 by-items (fitting s x ∷ fs) = cc (load-builtin (roomFor s) s, by-items fs)
 
 computed : found (λ s. loadWith (grammarBy table) (roomFor s) s) fittings ≡ claimed fittings
-unfolding found claimed fittings shown storesOf table bytesOf Words.frontOf Words.wordsOf Words.bitsFrom Words.bitsOf Text.untilZero Text.leadOf Text.dueAfter Text.utf8From Text.isUtf8 Reader.wordAt Reader.readLong Reader.readText Header.headerFrom grammarBy Grammar.slotsOf Grammar.parametersOf Grammar.rowsOf Grammar.enumerantsOf Grammar.rowOf Grammar.listed Grammar.bitsListed Grammar.parametersFor Records.operandSize Records.operandLog Records.operandString Records.operandsLog Records.operandsStrings Records.stringStore Records.logFrom Records.fieldsOf Records.fieldWords Records.recordsFrom Layout.kindFrom Layout.opcodeKind Layout.layoutAt Layout.layoutOf Types.entryOf Types.define Types.track Match.readEnumerant Match.readOne Match.readEach Match.readOperand Match.readLiteralAs Match.readLiteral Match.readOnce Match.readEmbedded Match.readPair Match.readKind Match.readSlot Match.readRow Match.allRead Match.readInstr enough Load.roomFault Load.loadFrom loadWith Text.notZero Text.textBreak Plain.firstBreak Plain.operandBreak Plain.operandsBreak Plain.instrBreak Plain.keptBreak Plain.tailBreak Plain.moduleBreak
+unfolding found claimed fittings shown storesOf table bytesOf Words.frontOf Words.wordsOf Words.bitsFrom Words.bitsOf Text.untilZero Text.leadOf Text.dueAfter Text.utf8From Text.isUtf8 Reader.wordAt Reader.readLong Reader.readText Header.headerFrom grammarBy Grammar.slotsOf Grammar.parametersOf Grammar.rowsOf Grammar.enumerantsOf Grammar.rowOf Grammar.listed Grammar.bitsListed Grammar.parametersFor Records.operandSize Records.operandLog Records.operandString Records.operandsLog Records.operandsStrings Records.stringStore Records.logFrom Records.fieldsOf Records.fieldsFrom Records.fieldWords Records.recordWords Records.recordsWith Records.calledFor Records.numbered Records.instructionStore Numbers.onward Numbers.numbersOf Numbers.numbersFrom Layout.kindFrom Layout.opcodeKind Layout.layoutAt Layout.layoutOf Types.entryOf Types.define Types.track Match.readEnumerant Match.readOne Match.readEach Match.readOperand Match.readLiteralAs Match.readLiteral Match.readOnce Match.readEmbedded Match.readPair Match.readKind Match.readSlot Match.readRow Match.allRead Match.readInstr enough Load.roomFault Load.loadFrom loadWith Text.notZero Text.textBreak Plain.firstBreak Plain.operandBreak Plain.operandsBreak Plain.instrBreak Plain.keptBreak Plain.tailBreak Plain.moduleBreak
 computed = refl
 
 -- the fourteen fittings hold

@@ -7,6 +7,7 @@ pub mod Kinds
 pub mod Grammar
 pub mod Table
 pub mod Builtin
+pub mod Numbers
 pub mod Records
 pub mod Layout
 pub mod Types

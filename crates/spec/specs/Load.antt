@@ -15,7 +15,7 @@ use Rattle.spec.specs.declared.Cell.the-variants.{Tagged, Refuses}
 use Rattle.spec.specs.declared.Counts.{Counts}
 use Rattle.spec.specs.declared.Loaded.{Loaded}
 use Rattle.spec.specs.Base.{if_then_else_, within, has, joined}
-use Rattle.spec.specs.Records.{Instr, Placed, Entry, operandsLog, operandsStrings, recordSize, recordsFrom, logFrom, stringStore, entrySize, entryWords}
+use Rattle.spec.specs.Records.{Instr, Placed, Entry, operandsLog, operandsStrings, recordSize, instructionStore, logFrom, stringStore, entrySize, entryWords}
 use Rattle.spec.specs.Reader.{Reader, reader, Read, got, refused, Parse, give, refuse, _>>=_}
 use Rattle.spec.specs.Header.{noWords, headerFrom}
 use Rattle.spec.specs.Grammar.{Grammar, grammarOf, wellFormed}
@@ -243,7 +243,7 @@ lent i l s t = record { instructions = i; log = l; strings = s; types = t }
 unfoldable pub storesOf : Outcome → Stores
 storesOf x =
     record {
-      instructions = recordsFrom 0 (x .left);
+      instructions = instructionStore (x .left);
       log = logFrom 0 (x .left);
       strings = stringStore (x .left);
       types = joined entryWords (x .types);

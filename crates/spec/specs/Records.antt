@@ -1,12 +1,14 @@
 -- An instruction as data, the bytes it is written as, and what it puts into the stores ("Stores and writing").
 use Prim.Native.Nat.{ℕ, _+_, _*_, _/_, _%_}
-use mathlib.Core.List.{List, [], _∷_, _++_}
+use mathlib.Core.List.{List, [], _∷_, _++_, map}
 use mathlib.Core.Option.{Option, none, some}
 use lib.ListN.{length, getD}
 use Rattle.spec.specs.declared.Fields.{Fields}
+use Rattle.spec.specs.declared.Numbers.{Numbers}
 use Rattle.spec.specs.Base.{orZero, joined}
 use Rattle.spec.specs.Words.{bytesOf}
 use Rattle.spec.specs.Text.{textWords, padded}
+use Rattle.spec.specs.Numbers.{noNumbers, numbersFrom}
 
 -- an operand: a kind and one word, a kind and two words (36 and 38), or a string's bytes (40)
 pub data Operand : Type 0 where
@@ -127,15 +129,20 @@ fieldsOf start p =
       words = p .instr .words;
     }
 
--- "eight 32-bit words"
-abbrev pub recordSize : ℕ
-recordSize = 8
+-- the fields of the records of some instructions, where the log before them takes so many bytes
+unfoldable pub fieldsFrom : ℕ → List Placed → List Fields
+fieldsFrom start [] = []
+fieldsFrom start (p ∷ ps) = fieldsOf start p ∷ fieldsFrom (start + length (operandsLog 0 (p .instr .operands))) ps
 
--- the words of a record
+-- "eight 32-bit words"
+abbrev pub fieldSize : ℕ
+fieldSize = 8
+
+-- the words of fields
 unfoldable pub fieldWords : Fields → List ℕ
 fieldWords f = f .head ∷ f .tag ∷ f .offset ∷ f .rtype ∷ f .rid ∷ f .start ∷ f .count ∷ f .words ∷ []
 
--- the record that words begin with
+-- the fields that words begin with
 unfoldable pub fieldsAt : List ℕ → Fields
 fieldsAt ws =
     record {
@@ -149,10 +156,31 @@ fieldsAt ws =
       words = getD ws 7 0;
     }
 
--- the records of some instructions, where the log before them takes so many bytes
-unfoldable pub recordsFrom : ℕ → List Placed → List ℕ
-recordsFrom start [] = []
-recordsFrom start (p ∷ ps) = fieldWords (fieldsOf start p) ++ recordsFrom (start + length (operandsLog 0 (p .instr .operands))) ps
+-- "grows to ten words: function number and block number"
+abbrev pub recordSize : ℕ
+recordSize = 10
+
+-- the words of a record: its fields, then its numbers
+unfoldable pub recordWords : Fields → Numbers → List ℕ
+recordWords f n = fieldWords f ++ (n .function ∷ n .block ∷ [])
+
+-- the words of records, each with its fields and its numbers
+unfoldable pub recordsWith : List Fields → List Numbers → List ℕ
+recordsWith [] ns = []
+recordsWith (f ∷ fs) [] = []
+recordsWith (f ∷ fs) (n ∷ ns) = recordWords f n ++ recordsWith fs ns
+
+-- the numbers that the tags of fields call for
+unfoldable pub calledFor : List Fields → List Numbers
+calledFor fs = numbersFrom noNumbers (map (λ f. f .tag) fs)
+
+-- the words of records with the numbers that their tags call for
+unfoldable pub numbered : List Fields → List ℕ
+numbered fs = recordsWith fs (calledFor fs)
+
+-- the instruction store of some instructions
+unfoldable pub instructionStore : List Placed → List ℕ
+instructionStore is = numbered (fieldsFrom 0 is)
 
 -- TYPES
 

@@ -42,7 +42,7 @@ pub enum Cell {
     Refuses(u8),
 }
 
-// The eight words of an instruction record.
+// The fields of an instruction record: its first eight words.
 pub struct Fields {
     pub head: u32,
     pub tag: u32,
@@ -52,6 +52,12 @@ pub struct Fields {
     pub start: u32,
     pub count: u32,
     pub words: u32,
+}
+
+// The numbers of an instruction record, its last two words: its function, and its block in that; both from 1, 0 for none.
+pub struct Numbers {
+    pub function: u32,
+    pub block: u32,
 }
 
 // How many instruction records, log bytes, string bytes and type entries: those kept, or those that there is room for.

@@ -1,4 +1,4 @@
--- `records::check` meets its contract: log and strings up to their counts are what the definition takes; where the pass over ASCII text
+-- `records::check_of` meets its contract: log and strings up to their counts are what the definition takes; where the pass over ASCII text
 -- finds nothing, there is no fault.
 -- Assumes nothing.
 use mathlib.Core.Path.{sym, _∙_}
@@ -6,11 +6,11 @@ use native.Mathlib.Omega.{arith}
 use Rattle.records.proofs.Pass.{free-good, check-whole}
 use Rattle.records.proofs.Fields.{most-length}
 use borrow.Author.Needs.{needs}
-use Rattle.records.proofs.check.Statement.{statement}
-use Rattle.records.proofs.check.Tie as tie
+use Rattle.records.proofs.check_of.Statement.{statement}
+use Rattle.records.proofs.check_of.Tie as tie
 
-pub check-spec : {M : Type 1} → statement M
-check-spec =
+pub check-of-spec : {M : Type 1} → statement M
+check-of-spec =
     tie.close
     (tie.spec
     (λ c κs. search needs)
