@@ -28,7 +28,7 @@ extern "C" {
 
 /* The version of this header. It changes whenever the layout of a store or an answer changes, or what a call takes. A program compares it
  * with kollafrin_version() before any other call: where they differ, this header is not that of the library. */
-#define KOLLAFRIN_VERSION 2
+#define KOLLAFRIN_VERSION 3
 
 /* The numbers that the functions return; docs/REFERENCE.md ("The numbers") says more of each. The offset of a load's answer is where
  * each is found; where nothing is said of offset or value, they are 0. "Its instruction" is where the instruction starts. */
@@ -86,7 +86,7 @@ enum kollafrin_load_word {
 };
 
 /* The words of an instruction record. */
-enum kollafrin_record { KOLLAFRIN_RECORD = 8 };
+enum kollafrin_record { KOLLAFRIN_RECORD = 10 };
 
 /* The presence bits of an instruction record's first word, which is the opcode + 65536 * these. */
 enum kollafrin_presence { KOLLAFRIN_PRESENCE_RESULT_TYPE = 1, KOLLAFRIN_PRESENCE_RESULT_ID = 2 };
@@ -236,11 +236,13 @@ size_t kollafrin_builtin(uint8_t *out, size_t out_length);
 
 /* Loads a module by a grammar, and returns the number.
  *
- * The stores: `instructions` takes eight words for each instruction (opcode + 65536 * presence, with 1 for a result type and 2 for a
- * result id; section tag; byte offset; result type or 0; result id or 0; start in the log; operand count; word count). `log` takes
+ * The stores: `instructions` takes ten words for each instruction (opcode + 65536 * presence, with 1 for a result type and 2 for a
+ * result id; section tag; byte offset; result type or 0; result id or 0; start in the log; operand count; word count; function number;
+ * block number). Functions are counted from 1 in the module, blocks from 1 in their function: with tags 14 and 15 both numbers are there,
+ * with 12, 13 and 16 that of the function, and the block's is 0; with 1 to 11 both are 0, wherever the instruction stands. `log` takes
  * for each operand its kind in a byte, then 4 bytes, or 8 for a 64-bit literal and for a string (start and length in `strings`).
  * `strings` takes the bytes of the strings without their zero. `types` takes three words for each type entry (id; width; 1 unsigned,
- * 2 signed, 3 float). docs/REFERENCE.md has the section tags (1 to 16), the kinds of operands (1 to 45) and two examples.
+ * 2 signed, 3 float). docs/REFERENCE.md has the section tags (1 to 16), the kinds of operands (1 to 45) and three examples.
  *
  * Sizes that always suffice, with W whole words after the header (W = module_length / 4 - 5): KOLLAFRIN_RECORD * W words of
  * instructions, 9 W bytes of log, 4 W bytes of strings, 3 W words of types.
@@ -261,6 +263,7 @@ uint32_t kollafrin_load_builtin(const uint8_t *module_bytes, size_t module_lengt
 
 /* Writes the header words and the instructions in the order read, and returns 0, 29 or 30. The counts are those of a load's answer
  * (words 4, 5 and 6), or of records made otherwise, which are checked first: 30, and docs/REFERENCE.md ("Writing") says what is bad.
+ * Function and block number of a record are not read, here and in the calls below: any will do.
  *
  * The records of an accepted module are written as its whole words: 4 * (module_length / 4) bytes.
  *

@@ -57,8 +57,8 @@ static uint8_t *contents(const char *path, size_t *length) {
 
 /* Whether the words of the instruction behind the last record are all there: which of its two causes the refusal 9 has. */
 static int whole(const uint8_t *module, size_t length, const uint32_t *instructions, size_t count) {
-    const uint32_t *end = instructions + KOLLAFRIN_RECORD * count;
-    size_t start = count == 0 ? 20 : end[-6] + 4 * (size_t)end[-1];
+    const uint32_t *last = instructions + (count == 0 ? 0 : KOLLAFRIN_RECORD * (count - 1));
+    size_t start = count == 0 ? 20 : last[2] + 4 * (size_t)last[7];
     return start + 4 <= length && start + 4 * (module[start + 2] + 256 * (size_t)module[start + 3]) <= length;
 }
 
