@@ -2,10 +2,10 @@
 //! bench take this file over by its path.
 
 /// KOLLAFRIN_VERSION: what `kollafrin_version` says of a library that these declarations fit.
-pub const VERSION: u32 = 2;
+pub const VERSION: u32 = 3;
 
 /// KOLLAFRIN_RECORD: how many words an instruction record has.
-pub const RECORD: usize = 8;
+pub const RECORD: usize = 10;
 
 extern "C" {
     pub fn kollafrin_version() -> u32;

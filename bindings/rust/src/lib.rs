@@ -88,10 +88,10 @@ pub fn join(first: &[u8], second: &[u8]) -> Result<Vec<u8>, Error> {
 
 /// What a load keeps of a module: its five header words and four stores.
 ///
-/// The stores are those of the library. Instructions: eight words each, which are opcode + 65536 × (1 for a result type, 2 for
+/// The stores are those of the library. Instructions: ten words each, which are opcode + 65536 × (1 for a result type, 2 for
 /// a result id), section tag, byte offset, result type or 0, result id or 0, start in the operand log, operand count, word
-/// count. The operand log: a kind byte, then 4 bytes, 8 for kinds 36, 38 and 40. String bytes without their zeros. Types: id,
-/// width, and 1 for unsigned, 2 for signed, 3 for float.
+/// count, function number or 0, block number or 0. The operand log: a kind byte, then 4 bytes, 8 for kinds 36, 38 and 40. String
+/// bytes without their zeros. Types: id, width, and 1 for unsigned, 2 for signed, 3 for float.
 ///
 /// Two are equal where header words and stores are, whatever the bytes that they were loaded from.
 #[derive(Clone, Debug, Default)]
@@ -148,7 +148,8 @@ impl Module {
     }
 
     /// A module of records from elsewhere. Nothing is checked here: the writers and [`Module::standing`] refuse with 30 what
-    /// breaks the layout of the stores (docs/REFERENCE.md, "Writing"). Words past the last whole record are left out.
+    /// breaks the layout of the stores (docs/REFERENCE.md, "Writing"); they do not look at function and block numbers. Words past the
+    /// last whole record are left out.
     pub fn from_stores(header: [u32; 5], mut instructions: Vec<u32>, log: Vec<u8>, strings: Vec<u8>, types: Vec<u32>) -> Module {
         instructions.truncate(instructions.len() / RECORD * RECORD);
         Module { header, instructions, log, strings, types, plain: false, breaks: 0 }
@@ -218,7 +219,7 @@ impl Module {
         self.records().instructions()
     }
 
-    /// The words of the instruction records, eight each.
+    /// The words of the instruction records, ten each.
     pub fn instruction_words(&self) -> &[u32] {
         &self.instructions
     }

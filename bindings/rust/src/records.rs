@@ -4,6 +4,18 @@ use crate::c::RECORD;
 use crate::{kind, presence};
 
 /// One instruction.
+///
+/// ```
+/// let bytes = std::fs::read("../../samples/function.spv")?;
+/// let module = kollafrin::Module::load_builtin(&bytes)?;
+/// // OpReturn stands in the first block of the first function
+/// let last = module.instructions().find(|i| i.opcode == 253).unwrap();
+/// assert_eq!((last.tag, last.function, last.block), (15, 1, 1));
+/// // types stand in no function
+/// let void = module.instructions().find(|i| i.opcode == 19).unwrap();
+/// assert_eq!((void.tag, void.function, void.block), (11, 0, 0));
+/// # Ok::<(), Box<dyn std::error::Error>>(())
+/// ```
 #[derive(Clone, Copy, Debug, PartialEq, Eq)]
 pub struct Instruction<'a> {
     /// The opcode.
@@ -20,6 +32,10 @@ pub struct Instruction<'a> {
     pub result_id: Option<u32>,
     /// The number of words it was read from.
     pub word_count: u32,
+    /// The number of its function in the module, the first being 1; 0 for tags 1 to 11, also where such an instruction stands in a function.
+    pub function: u32,
+    /// The number of its block in the function, the first being 1; 0 for every tag but 14 and 15.
+    pub block: u32,
     operands: Operands<'a>,
 }
 
@@ -57,6 +73,8 @@ impl<'a> Iterator for Instructions<'a> {
             result_type: if present & presence::RESULT_TYPE != 0 { Some(r[3]) } else { None },
             result_id: if present & presence::RESULT_ID != 0 { Some(r[4]) } else { None },
             word_count: r[7],
+            function: r[8],
+            block: r[9],
             operands: Operands { log: self.log.get(r[5] as usize..).unwrap_or(&[]), strings: self.strings, left: r[6] },
         })
     }

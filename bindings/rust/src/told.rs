@@ -1,5 +1,6 @@
 //! Refusals for people: by the names of instructions and of operand kinds. Whatever is told here is found out by calls of the library.
 
+use crate::c::RECORD;
 use crate::stores::word_count;
 use crate::{builtin, kind, tag, Error, Module, Refusal, Stores};
 use std::collections::BTreeMap;
@@ -90,6 +91,8 @@ fn start(bytes: &[u8], index: u32) -> Option<usize> {
 /// # Ok::<(), kollafrin::Error>(())
 /// ```
 pub fn opcode_name(opcode: u16) -> Result<Option<String>, Error> {
+    // an instruction of one word; what number its function and its block have is not looked at
+    let record = |opcode: u16, tag, i: u32| -> [u32; RECORD] { [u32::from(opcode), tag, 20 + 4 * i, 0, 0, 0, 0, 1, 0, 0] };
     // a listing of the instruction in a block, or of what is left of that where it begins or ends function or block, under the tag that it
     // has there: how many records of `before` it follows, and at which of `after` it goes on
     let before = [(54, tag::FUNCTION), (248, tag::LABEL)];
@@ -97,7 +100,7 @@ pub fn opcode_name(opcode: u16) -> Result<Option<String>, Error> {
     let in_block = (1..=tag::TYPE_CONSTANT_GLOBAL).chain([tag::FUNCTION_PARAMETER, tag::BLOCK]).map(|tag| (tag, 2, 0));
     for (tag, first, next) in in_block.chain([(tag::BLOCK, 2, 1), (tag::FUNCTION, 0, 1), (tag::LABEL, 1, 0), (tag::FUNCTION_END, 1, 2)]) {
         let all = [&before[..first], &[(opcode, tag)], &after[next..]].concat();
-        let records = all.iter().zip(0..).flat_map(|(&(opcode, tag), i)| [u32::from(opcode), tag, 20 + 4 * i, 0, 0, 0, 0, 1]).collect();
+        let records = all.iter().zip(0..).flat_map(|(&(opcode, tag), i)| record(opcode, tag, i)).collect();
         match Module::from_stores([0; 5], records, vec![], vec![], vec![]).disassemble() {
             Ok(text) => {
                 // module order: sections first, a parameter behind its function

@@ -29,7 +29,7 @@ fn the_fourteen_fittings() {
     assert_eq!(empty.instructions().len(), 0);
     assert_eq!(Module::load_builtin(&[&h[..], &[1, 2, 3]].concat()).unwrap(), empty);
     let model = Module::load_builtin(&module(&[0x0003_000E, 0, 1])).unwrap();
-    assert_eq!(model.instruction_words(), [14, 4, 20, 0, 0, 0, 2, 3]);
+    assert_eq!(model.instruction_words(), [14, 4, 20, 0, 0, 0, 2, 3, 0, 0]);
     assert_eq!(model.log(), [0x0B, 0, 0, 0, 0, 0x0C, 1, 0, 0, 0]);
     assert_eq!(refused(&module(&[0])), (4, 20, 1, 0));
     assert_eq!(refused(&module(&[0x0001_FFFF])), (5, 20, 1, 65535));
@@ -126,6 +126,45 @@ fn records_from_elsewhere_are_checked() {
     assert_eq!(huge.write_parse_order(), Err(refused(1)));
 }
 
+/// OpFunction, a line, a parameter, two blocks; in the first a capability and a parameter; a type; then a function with one block.
+fn two_functions() -> Vec<u8> {
+    let first = [0x0005_0036, 1, 2, 0, 3, 0x0001_013D, 0x0003_0037, 1, 4];
+    let blocks = [0x0002_00F8, 5, 0x0002_0011, 1, 0x0003_0037, 1, 6, 0x0003_0001, 1, 7, 0x0001_00FD, 0x0002_00F8, 8, 0x0001_00FD];
+    let rest = [0x0001_0038, 0x0002_0013, 1, 0x0005_0036, 1, 9, 0, 3, 0x0002_00F8, 10, 0x0001_00FD, 0x0001_0038];
+    module(&[&first[..], &blocks, &rest].concat())
+}
+
+#[test]
+fn numbers_of_functions_and_blocks() {
+    let loaded = Module::load_builtin(&two_functions()).unwrap();
+    let numbers: Vec<_> = loaded.instructions().map(|i| (i.tag, i.function, i.block)).collect();
+    let first = [(12, 1, 0), (11, 0, 0), (13, 1, 0)];
+    let blocks = [(14, 1, 1), (1, 0, 0), (13, 1, 0), (15, 1, 1), (15, 1, 1), (14, 1, 2), (15, 1, 2)];
+    let rest = [(16, 1, 0), (11, 0, 0), (12, 2, 0), (14, 2, 1), (15, 2, 1), (16, 2, 0)];
+    assert_eq!(numbers, [&first[..], &blocks, &rest].concat());
+    // those of a refused module are there as far as it was read
+    let (kept, refusal) = Module::load_builtin_kept(&two_functions()[..two_functions().len() - 8]).unwrap();
+    assert_eq!(refusal.map(|refusal| refusal.number), Some(21));
+    assert_eq!(kept.instructions().last().map(|i| (i.tag, i.function, i.block)), Some((14, 2, 1)));
+}
+
+#[test]
+fn numbers_are_not_read_by_the_writers() {
+    let bytes = two_functions();
+    let loaded = Module::load_builtin(&bytes).unwrap();
+    let mut words = loaded.instruction_words().to_vec();
+    for (n, record) in words.chunks_exact_mut(10).enumerate() {
+        (record[8], record[9]) = (u32::MAX - n as u32, 7 * n as u32);
+    }
+    let other = Module::from_stores(loaded.header(), words, loaded.log().to_vec(), loaded.strings().to_vec(), vec![]);
+    assert_eq!(other.instructions().nth(2).map(|i| (i.function, i.block)), Some((u32::MAX - 2, 14)));
+    assert_ne!(other, loaded);
+    assert_eq!(other.write_parse_order(), Ok(bytes));
+    assert_eq!(other.write_module_order(), loaded.write_module_order());
+    assert_eq!(other.disassemble(), loaded.disassemble());
+    assert_eq!((other.standing(), loaded.standing()), (Ok(false), Ok(false)));
+}
+
 #[test]
 fn a_module_as_text() {
     let loaded = Module::load_builtin(&module(&[0x0003_000E, 0, 1, 0x0003_0007, 1, 0x0022_5C0A])).unwrap();
@@ -146,7 +185,7 @@ fn a_house_row_beside_the_built_in_grammar() {
     let used = module(&[0x0005_0036, 1, 2, 0, 3, 0x0002_00F8, 4, 0x0002_F000, 7, 0x0001_00FD, 0x0001_0038]);
     assert_eq!(refused(&used), (5, 48, 3, 61_440));
     let loaded = Module::load(&used, &both).unwrap();
-    assert_eq!(loaded.instruction_words()[16..24], [0xF000, 15, 48, 0, 0, 10, 1, 2]);
+    assert_eq!(loaded.instruction_words()[20..30], [0xF000, 15, 48, 0, 0, 10, 1, 2, 1, 1]);
     assert_eq!(loaded.log()[10..], [33, 7, 0, 0, 0]);
     assert_eq!(join(&both, &house), Ok(both.clone()));
     assert_eq!(join(&house, &builtin().unwrap()), Ok(both));
@@ -188,7 +227,7 @@ fn every_error_says_what_it_is() {
     let unjoined = Unjoined { number: 24, ..Unjoined::default() };
     assert_eq!(Error::Unjoined(unjoined).to_string(), unjoined.to_string());
     assert_eq!(Error::NoMemory.to_string(), "no memory");
-    assert_eq!(Error::Version(7).to_string(), "the library has version 7, and this crate is for version 2");
+    assert_eq!(Error::Version(7).to_string(), "the library has version 7, and this crate is for version 3");
 }
 
 /// Every module kept under samples/: loaded and written back, or refused without a panic.

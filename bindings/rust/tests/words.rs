@@ -105,6 +105,14 @@ fn one_version() {
     assert!(command.contains(&format!("\nversion = \"{}\"\n", env!("CARGO_PKG_VERSION"))));
 }
 
+#[test]
+fn one_length_of_a_record() {
+    let record = constants("kollafrin_record", "KOLLAFRIN_")["RECORD"] as usize;
+    let loaded = Module::load_builtin(&module(&[0x0003_000E, 0, 1])).unwrap();
+    assert_eq!(loaded.instruction_words().len(), record);
+    assert_eq!(table(&file("docs/REFERENCE.md"), "### Instructions: ten words each").len(), record);
+}
+
 /// The header 07230203 00010000 0 0 0 and these words, as bytes.
 fn module(words: &[u32]) -> Vec<u8> {
     [0x0723_0203, 0x0001_0000, 0, 0, 0].iter().chain(words).flat_map(|w| w.to_le_bytes()).collect()
