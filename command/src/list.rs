@@ -35,7 +35,8 @@ fn run(call: &Call) -> Result<u8, Stop> {
     for (i, index) in records.instructions().zip(1..) {
         if call.json {
             let object = Object::new().plain("index", index).plain("offset", i.offset).plain("tag", i.tag);
-            out.line(&object.plain("opcode", i.opcode).plain("words", i.word_count).end())?;
+            let object = object.plain("opcode", i.opcode).plain("words", i.word_count);
+            out.line(&object.plain("function", i.function).plain("block", i.block).end())?;
         } else {
             out.line(&format!("{index} {} {} {} {}", i.offset, i.tag, i.opcode, i.word_count))?;
         }

@@ -485,9 +485,14 @@ fn objects_for_machines() {
     let (_, out, _) = run(&["list", "--json", "samples/cut-short.spv"]);
     if let Some(read) = read_by_python(&out) {
         assert_eq!(read[0], "{\"bound\": 8, \"version\": \"1.5\"}");
-        assert_eq!(read[1], "{\"index\": 1, \"offset\": 20, \"opcode\": 17, \"tag\": 1, \"words\": 2}");
+        assert_eq!(read[1], "{\"block\": 0, \"function\": 0, \"index\": 1, \"offset\": 20, \"opcode\": 17, \"tag\": 1, \"words\": 2}");
         assert!(read[5].starts_with("{\"accepted\": false, ") && read.len() == 6);
     }
+    // a label and what follows it: the first block of the first function
+    let (_, out, _) = run(&["list", "--json", "samples/function.spv"]);
+    assert_eq!(out.matches("\"function\":1,\"block\":1}\n").count(), 2);
+    assert_eq!(out.matches("\"function\":1,\"block\":0}\n").count(), 2);
+    assert_eq!(out.matches("\"function\":0,\"block\":0}\n").count(), 4);
     let restored = path(&at, "restored.spv");
     for call in [
         &["list", "--json", "samples/colour.spv"][..],
