@@ -104,6 +104,7 @@ fn modules(p: &mut Cases) {
     }
     a_headers(p);
     a_cells(p);
+    a_numbers(p);
     a_check_order(p);
     a_operands(p);
     a_types(p);
@@ -169,6 +170,67 @@ fn a_cells(p: &mut Cases) {
     p.load("end/parameter-between-blocks", &module(&insts(&[opening(State::Block), inst(253, &[]), inst(55, &[1, 5]), inst(56, &[])])));
     p.load("end/capability-in-block", &module(&in_block(&inst(17, &[1]))));
     p.load("end/two-memory-models", &module(&insts(&[inst(14, &[0, 1]), inst(14, &[1, 2])])));
+}
+
+/// Function and block numbers: what counts, what does not, and where the count starts again.
+fn a_numbers(p: &mut Cases) {
+    let begin = inst(54, &[1, 2, 0, 3]);
+    let end = inst(56, &[]);
+    let function = |body: &[Vec<u32>]| insts(&[begin.clone(), insts(body), end.clone()]);
+    let (label, undef, done) = (inst(248, &[4]), inst(1, &[1, 5]), inst(253, &[]));
+    let block = insts(&[label.clone(), undef.clone(), done.clone()]);
+    // lines are of tag 11 outside blocks, of tag 15 in them; a capability is of tag 1 anywhere
+    let (line, capability, parameter) = (inst(317, &[]), inst(17, &[1]), inst(55, &[1, 6]));
+    let two = function(&[block.clone(), block.clone()]);
+    for (name, words) in [
+        ("two-functions", insts(&[two.clone(), two.clone()])),
+        ("second-has-one-block", insts(&[two.clone(), function(&[block.clone()])])),
+        ("declaration-between", insts(&[two.clone(), function(&[]), function(&[parameter.clone()]), two.clone()])),
+        (
+            "line-before-label",
+            function(&[line.clone(), parameter.clone(), line.clone(), block.clone(), line.clone(), block.clone(), line.clone()]),
+        ),
+        ("line-in-block", function(&[label.clone(), line.clone(), undef.clone(), line.clone(), done.clone(), block.clone()])),
+        (
+            "capability-in-block",
+            function(&[block.clone(), label.clone(), capability.clone(), undef.clone(), capability.clone(), done.clone()]),
+        ),
+        (
+            "parameter-in-block",
+            function(&[block.clone(), label.clone(), parameter.clone(), undef.clone(), parameter.clone(), done.clone()]),
+        ),
+        (
+            "parameter-and-line-in-block",
+            function(&[label.clone(), parameter.clone(), line.clone(), capability.clone(), done.clone(), block.clone()]),
+        ),
+        ("parameter-between-blocks", function(&[block.clone(), parameter.clone(), capability.clone(), block.clone(), parameter.clone()])),
+        (
+            "sections-around",
+            insts(&[capability.clone(), line.clone(), two.clone(), line.clone(), inst(19, &[1]), two.clone(), capability.clone()]),
+        ),
+        ("no-functions", insts(&[capability.clone(), line.clone(), undef.clone()])),
+        ("many", insts(&[two.repeat(3), function(&[block.repeat(12)])])),
+        // refused in the second function: what came before has its numbers
+        ("16-in-second", insts(&[two.clone(), begin.clone(), parameter.clone()])),
+        ("21-in-second", insts(&[two.clone(), begin.clone(), block.clone(), label.clone(), parameter.clone(), undef.clone()])),
+        ("20-in-second", insts(&[two.clone(), begin.clone(), block.clone(), label.clone(), label.clone()])),
+        ("15-in-second", insts(&[two.clone(), begin.clone(), begin.clone()])),
+        ("5-in-block", insts(&[two.clone(), begin.clone(), label.clone(), undef.clone(), vec![0x0001_FFFF]])),
+    ] {
+        p.load(&format!("numbers/{name}"), &module(&words));
+    }
+    // the room in records is the length by ten: every length of the store for two instructions, and more behind
+    let both = module(&insts(&[begin, end]));
+    for words in 0..=2 * RECORD + 3 {
+        p.load_in(&format!("numbers/room-{words}"), &both, None, [words, 64, 64, 64]);
+    }
+    // 25 at each instruction of two functions, with a word less than it needs and with no more than those before it need
+    let all = module(&insts(&[two.clone(), two]));
+    for records in 0..18 {
+        for words in [RECORD * records, RECORD * records + RECORD - 1] {
+            p.load_in(&format!("numbers/records-{words}"), &all, None, [words, 999, 999, 999]);
+        }
+    }
 }
 
 /// Two faults in one instruction: which one is told.
@@ -477,7 +539,7 @@ fn rooms_and_grammars(p: &mut Cases) {
 fn b_rooms(p: &mut Cases, small: &[u8]) {
     let name = |id, s: &[u8]| inst(5, &[&[id][..], &text(s)].concat());
     let first = module(&insts(&[inst(21, &[2, 64, 0]), name(2, b"abc"), inst(43, &[2, 3, 7, 1]), name(3, b"defgh"), inst(22, &[4, 32])]));
-    let need = [40, 50, 8, 9];
+    let need = [5 * RECORD, 50, 8, 9];
     // every length of one store, the others with room
     for store in 0..4 {
         for length in 0..=need[store] + 2 {
@@ -493,7 +555,7 @@ fn b_rooms(p: &mut Cases, small: &[u8]) {
     // two stores short: at the same instruction the lower number, else the earlier instruction
     for a in 0..4 {
         for b in 0..4 {
-            for (which, at) in [("first", [0, 0, 0, 0]), ("middle", [16, 24, 4, 5]), ("last", [39, 49, 7, 8])] {
+            for (which, at) in [("first", [0, 0, 0, 0]), ("middle", [2 * RECORD, 24, 4, 5]), ("last", [5 * RECORD - 1, 49, 7, 8])] {
                 let mut rooms = need;
                 (rooms[a], rooms[b]) = (at[a], at[b]);
                 p.load_in(&format!("rooms/two-{a}-{b}-{which}"), &first, Some(small), rooms);
@@ -526,7 +588,16 @@ fn b_rooms(p: &mut Cases, small: &[u8]) {
         ("type", inst(21, &[1, 32, 0])),
         ("open-end", inst(54, &[1, 2])),
     ] {
-        for rooms in [[0, 0, 0, 0], [7, 4, 0, 2], [8, 0, 0, 0], [8, 5, 0, 0], [8, 14, 0, 2], [16, 64, 0, 3], [23, 64, 0, 5]] {
+        for (records, rest) in [
+            (0, [0, 0, 0]),
+            (RECORD - 1, [4, 0, 2]),
+            (RECORD, [0, 0, 0]),
+            (RECORD, [5, 0, 0]),
+            (RECORD, [14, 0, 2]),
+            (2 * RECORD, [64, 0, 3]),
+            (3 * RECORD - 1, [64, 0, 5]),
+        ] {
+            let rooms = [records, rest[0], rest[1], rest[2]];
             p.load_in(&format!("rooms/{case}-{}", list(&rooms)), &module(&words), Some(small), rooms);
         }
     }
@@ -703,7 +774,7 @@ fn b_quirks(p: &mut Cases) {
     let m = module(&inst(17, &[1]));
     p.load_in("quirk/no-rows", &m, Some(&[]), enough(&m));
     p.load_in("quirk/no-rows-header", &module(&[]), Some(&[]), [0; 4]);
-    p.load_in("quirk/opcode-65535", &module(&inst(0xFFFF, &[])), Some(&grammar_bytes(&[(0xFFFF, &[])], &[])), [8, 9, 4, 3]);
+    p.load_in("quirk/opcode-65535", &module(&inst(0xFFFF, &[])), Some(&grammar_bytes(&[(0xFFFF, &[])], &[])), [RECORD, 9, 4, 3]);
 }
 
 /// 24 comes before all else.
@@ -936,7 +1007,14 @@ fn grammar_bytes_alone(p: &mut Cases) {
 
 // ---------------------------------------------------------------------------------------- Records
 
-/// The three calls over stores; outputs that are ample.
+/// A record by hand, without function and block number, which no call reads.
+fn record(fields: [u32; 8]) -> [u32; RECORD] {
+    let mut all = [0; RECORD];
+    all[..8].copy_from_slice(&fields);
+    all
+}
+
+/// The calls over stores; outputs that are ample.
 fn e_three(p: &mut Cases, name: &str, header: [u32; 5], s: &Stores) {
     let ample = 20 + 4 * s.instructions.chunks(RECORD).map(|r| *r.get(7).unwrap_or(&0) as usize).filter(|w| *w < 70_000).sum::<usize>();
     p.records(name, header, s, ample);
@@ -1168,14 +1246,14 @@ fn e_ends(p: &mut Cases, base: &str, s: &Stores) {
             changed.counts[n] = new;
             e_three(p, &format!("count/{base}-{n}-{new}"), H, &changed);
             // the same with more behind in every slice
-            changed.instructions.extend([1, 2, 3, 4, 5, 6, 7, 8, 9]);
+            changed.instructions.extend(1..=RECORD as u32 + 1);
             changed.log.extend([34, 1, 2, 3, 4, 5]);
             changed.strings.extend(b"xy");
             e_three(p, &format!("count/{base}-{n}-{new}-more"), H, &changed);
         }
     }
     for n in 0..3 {
-        for cut in [1, 2, 8, 9] {
+        for cut in [1, 2, 3, 8, 9, RECORD, RECORD + 1] {
             let mut changed = s.clone();
             match n {
                 0 => changed.instructions.truncate(s.instructions.len() - cut),
@@ -1237,7 +1315,7 @@ fn e_tags(p: &mut Cases) {
             for tag in tags {
                 let mut s = before.clone();
                 let offset = 20 + 4 * opening(state).len() as u32;
-                s.instructions.extend([u32::from(opcode), tag, offset, 0, 0, s.log.len() as u32, 0, 1]);
+                s.instructions.extend(record([u32::from(opcode), tag, offset, 0, 0, s.log.len() as u32, 0, 1]));
                 s.counts[0] += 1;
                 e_three(p, &format!("tag/{opcode}-{state_name}-{tag}"), H, &s);
             }
@@ -1255,7 +1333,7 @@ fn e_long(p: &mut Cases) {
     for length in [262_131usize, 262_132] {
         let words = 2 + (length / 4 + 1) as u32;
         let s = Stores {
-            instructions: vec![7 + 2 * 65536, 7, 20, 0, 1, 0, 1, words],
+            instructions: record([7 + 2 * 65536, 7, 20, 0, 1, 0, 1, words]).to_vec(),
             log: [&[40u8, 0, 0, 0, 0][..], &(length as u32).to_le_bytes()].concat(),
             strings: vec![b'a'; length],
             counts: [1, 9, length],
@@ -1264,7 +1342,7 @@ fn e_long(p: &mut Cases) {
     }
     let operands = 65_535usize;
     let s = Stores {
-        instructions: vec![30 + 2 * 65536, 11, 20, 0, 1, 0, operands as u32 - 2, operands as u32],
+        instructions: record([30 + 2 * 65536, 11, 20, 0, 1, 0, operands as u32 - 2, operands as u32]).to_vec(),
         log: [33, 1, 0, 0, 0].repeat(operands - 2),
         strings: vec![],
         counts: [1, 5 * (operands - 2), 0],

@@ -380,6 +380,7 @@ fn whole_shader(judge: &mut Judge, shader: &[u8], seed: u64) {
         let cut = rng.below(shader.len() + 1);
         judge.module("shaders", &shader[..cut]);
     }
+    judge.any_numbers("records with any function and block numbers", shader, || random_number(&mut rng));
     let load = load_with(shader, judge.builtin, enough(shader));
     let [records, log, strings, types] = load.counts();
     let need = [RECORD * records, log, strings, 3 * types];
@@ -441,6 +442,16 @@ pub fn round(judge: &mut Judge, builtin: &Grammar, shaders: &[Vec<u8>], seed: u6
     for m in grown.iter().take(30) {
         random_records(judge, &mut grower.rng, m);
         unnamed_records(judge, &mut grower.rng, m);
+        judge.any_numbers("records with any function and block numbers", m, || random_number(&mut grower.rng));
+    }
+}
+
+/// A number that is near those that functions and blocks have, or any.
+fn random_number(rng: &mut Rng) -> u32 {
+    match rng.below(3) {
+        0 => rng.next() as u32,
+        1 => u32::MAX - rng.below(3) as u32,
+        _ => rng.below(4) as u32,
     }
 }
 
@@ -785,7 +796,7 @@ fn random_records(judge: &mut Judge, rng: &mut Rng, module: &[u8]) {
             s.counts[at] = s.counts[at].wrapping_add(rng.pick(&[1, usize::MAX]));
         }
         6 => match rng.below(4) {
-            0 => s.instructions.truncate(s.instructions.len().saturating_sub(1 + rng.below(9))),
+            0 => s.instructions.truncate(s.instructions.len().saturating_sub(1 + rng.below(RECORD + 1))),
             1 => s.log.truncate(s.log.len().saturating_sub(1 + rng.below(9))),
             2 => s.strings.truncate(s.strings.len().saturating_sub(1 + rng.below(9))),
             _ => {

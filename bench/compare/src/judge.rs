@@ -32,6 +32,8 @@ pub struct Tally {
     pub standing: u64,
     /// records that break this rule of standing alone
     pub but_for: [u64; 4],
+    /// records that show each of `NUMBERED`
+    pub numbered: [u64; 4],
 }
 
 impl Default for Tally {
@@ -50,6 +52,7 @@ impl Default for Tally {
             broken: [0; 8],
             standing: 0,
             but_for: [0; 4],
+            numbered: [0; 4],
         }
     }
 }
@@ -76,6 +79,7 @@ impl Tally {
         self.broken.iter_mut().zip(other.broken).for_each(|(a, b)| *a += b);
         self.standing += other.standing;
         self.but_for.iter_mut().zip(other.but_for).for_each(|(a, b)| *a += b);
+        self.numbered.iter_mut().zip(other.numbered).for_each(|(a, b)| *a += b);
     }
 }
 
@@ -115,6 +119,10 @@ pub const KIND_NAMES: [&str; 19] = [
     "FunctionEnd",
     "other",
 ];
+
+/// What function and block numbers can show beside the layout cells.
+pub const NUMBERED: [&str; 4] =
+    ["a second function", "a second block", "a block number that starts again", "a block that goes on after a parameter"];
 
 pub struct Judge<'a> {
     /// The built-in grammar as the separate reading has it.
@@ -183,12 +191,17 @@ impl Judge<'_> {
         }
     }
 
-    /// Number, layout cells and log kinds of a load.
+    /// Number, layout cells, function and block numbers and log kinds of a load.
     fn histogram(&mut self, module: &[u8], loaded: &Loaded) {
         self.number(loaded.number());
         let [records, log, ..] = loaded.counts();
-        let mut state = State::Outside;
+        let (mut state, mut before) = (State::Outside, 0);
         for record in loaded.instructions.chunks_exact(RECORD).take(records) {
+            let (tag, function, block) = (record[1], record[8], record[9]);
+            let shown =
+                [tag == 12 && function == 2, tag == 14 && block == 2, tag == 14 && function > 1 && block == 1, tag == 15 && before == 13];
+            self.tally.numbered.iter_mut().zip(shown).for_each(|(times, shown)| *times += u64::from(shown));
+            before = tag;
             let kind = layout_kind(record[0] as u16);
             self.tally.cells[kind_number(kind)][state as usize] += 1;
             if let Ok((_, next)) = layout(kind, state) {
@@ -370,6 +383,28 @@ impl Judge<'_> {
                     hex(&stores.strings)
                 )
             });
+        }
+    }
+
+    /// The records of a module with other function and block numbers: nothing that is written of them is another, nor whether they stand.
+    pub fn any_numbers(&mut self, group: &'static str, module: &[u8], mut number: impl FnMut() -> u32) {
+        let loaded = library::load(module, None, enough(module));
+        let (header, stores) = (loaded.header(), stores_of(&loaded));
+        let mut other = stores.clone();
+        for record in other.instructions.chunks_exact_mut(RECORD).take(stores.counts[0]) {
+            (record[8], record[9]) = (number(), number());
+        }
+        let ample = module.len().max(text::disassemble(header, &stores, usize::MAX).bytes.len());
+        let result = self.same_records(header, &other, ample).and_then(|_| {
+            for form in [Form::Parse, Form::Module, Form::Text] {
+                let [one, two] = [&stores, &other].map(|stores| library::write(form, header, stores, ample));
+                differ(&format!("{form:?} with other function and block numbers"), two, one)?;
+            }
+            differ("standing with other function and block numbers", library::standing(&other), library::standing(&stores))
+        });
+        self.count(group, loaded.number() == 0);
+        if let Err(what) = result {
+            self.differs(group, &what, || format!("module {}\n  instructions {:?}", hex(module), other.instructions));
         }
     }
 

@@ -100,6 +100,31 @@ fn asking<T>(ask: impl FnOnce() -> T) -> T {
     answer
 }
 
+/// How many words the oracle's records have. They lack function and block number.
+const ORACLE_RECORD: usize = 8;
+
+/// The oracle's records with the two numbers, which follow from the tags alone: 12 begins a function, 14 a block of it, and the numbers of
+/// a record are those reached with its own tag, of which a block's is kept for 14 and 15 alone, and none for 1 to 11.
+fn numbered(records: &[u32]) -> Vec<u32> {
+    let (mut function, mut block) = (0, 0);
+    let mut all = vec![];
+    for record in records.chunks_exact(ORACLE_RECORD) {
+        let tag = record[1];
+        match tag {
+            12 => (function, block) = (function + 1, 0),
+            14 => block += 1,
+            _ => (),
+        }
+        all.extend(record);
+        all.extend(match tag {
+            14 | 15 => [function, block],
+            12 | 13 | 16 => [function, 0],
+            _ => [0, 0],
+        });
+    }
+    all
+}
+
 /// What the crate says of a module.
 #[derive(Clone, Debug, Default)]
 pub struct Answer {
@@ -111,7 +136,7 @@ pub struct Answer {
     pub value: u32,
     /// Major, minor, bound, where the header was read.
     pub header: Option<(u32, u32, u32)>,
-    /// The words of the instruction records.
+    /// The words of the instruction records, with function and block number.
     pub instructions: Vec<u32>,
     pub log: Vec<u8>,
     pub strings: Vec<u8>,
@@ -181,6 +206,7 @@ pub fn answer(bytes: &[u8]) -> Result<Answer, String> {
             _ => (), // the dump of an instruction, which the records repeat
         }
     }
+    all.instructions = numbered(&all.instructions);
     all.line = line;
     Ok(all)
 }

@@ -8,7 +8,7 @@ mod library;
 
 use compare::reading::{is_mask, Grammar, BROKEN, STANDING};
 use compare::{krate, GRAMMAR};
-use judge::{Judge, Tally, KIND_NAMES};
+use judge::{Judge, Tally, KIND_NAMES, NUMBERED};
 use std::path::Path;
 use std::sync::atomic::{AtomicU64, Ordering};
 use std::time::{Duration, Instant};
@@ -117,6 +117,8 @@ fn print(tally: &Tally) {
     println!("not plain: {}", broken.join(", "));
     let but_for: Vec<String> = STANDING.iter().zip(tally.but_for).map(|(rule, times)| format!("{rule} {times}")).collect();
     println!("standing but for one rule: {}", but_for.join(", "));
+    let numbered: Vec<String> = NUMBERED.iter().zip(tally.numbered).map(|(what, times)| format!("{what} {times}")).collect();
+    println!("function and block numbers: {}", numbered.join(", "));
     for (rule, times) in &tally.let_through {
         println!("let through: {rule}: {times}");
     }
@@ -126,7 +128,7 @@ fn print(tally: &Tally) {
 const NOT_GIVEN: usize = 33;
 
 /// What a run must show: every number, every layout cell, every log kind, plain form broken in every way, each rule of standing broken
-/// alone, a third of the random modules accepted.
+/// alone, function and block numbers past the first and from 1 again, a third of the random modules accepted.
 fn missing(tally: &Tally) -> Vec<String> {
     let mut all = vec![];
     all.extend(tally.numbers.iter().enumerate().filter(|(n, times)| **times == 0 && *n != NOT_GIVEN).map(|(n, _)| format!("number {n}")));
@@ -137,6 +139,7 @@ fn missing(tally: &Tally) -> Vec<String> {
     all.extend(tally.kinds.iter().enumerate().skip(1).filter(|(_, times)| **times == 0).map(|(n, _)| format!("log kind {n}")));
     all.extend(BROKEN.iter().zip(&tally.broken[1..]).filter(|(_, times)| **times == 0).map(|(what, _)| format!("not plain: {what}")));
     all.extend(STANDING.iter().zip(tally.but_for).filter(|(_, times)| *times == 0).map(|(rule, _)| format!("standing but for: {rule}")));
+    all.extend(NUMBERED.iter().zip(tally.numbered).filter(|(_, times)| *times == 0).map(|(what, _)| what.to_string()));
     let random = tally.groups.get("random modules").copied().unwrap_or_default();
     if 3 * random.accepted < random.inputs {
         all.push(format!("a third of the random modules accepted: {} of {}", random.accepted, random.inputs));

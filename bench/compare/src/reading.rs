@@ -535,8 +535,8 @@ pub fn layout(kind: Kind, state: State) -> Result<(u32, State), u32> {
 pub const MAGIC: u32 = 0x0723_0203;
 pub const MOST_MODULE_BYTES: usize = 67_108_864;
 
-/// "Instructions: eight 32-bit words".
-pub const RECORD: usize = 8;
+/// "Each instruction record grows to ten words".
+pub const RECORD: usize = 10;
 
 /// What a load answers. The stores hold the instructions kept; what lies past them in the lent
 /// slices is unchanged.
@@ -644,6 +644,7 @@ fn load_one(
     let entry = tracked(&inst, &load.types);
     let old = entry.and_then(|entry| load.types.iter().position(|t| t[0] == entry[0]));
     let presence = u32::from(inst.result_type.is_some()) + 2 * u32::from(inst.result_id.is_some());
+    let [function, block] = numbers(tag, &load.instructions);
     let record = [
         u32::from(inst.opcode) + 65536 * presence,
         tag,
@@ -653,6 +654,8 @@ fn load_one(
         load.log.len() as u32,
         inst.operands.len() as u32,
         words,
+        function,
+        block,
     ];
 
     let [records, log_bytes, string_bytes, type_entries] = load.counts();
@@ -672,6 +675,24 @@ fn load_one(
     }
     *state = next;
     Ok(())
+}
+
+/// "Function number and block number, both from 1, 0 where the instruction has tag 1 to 11. A block
+/// number starts again with each function. Tags 12, 13 and 16 have block 0." By the last function and
+/// its last label before: what stands in between changes nothing.
+fn numbers(tag: u32, before: &[[u32; RECORD]]) -> [u32; 2] {
+    if tag <= 11 {
+        return [0, 0];
+    }
+    let function = before.iter().rev().find(|r| r[1] == 12).map_or(0, |r| r[8]);
+    let label = before.iter().rev().take_while(|r| r[1] != 12).find(|r| r[1] == 14);
+    let block = label.map_or(0, |r| r[9]);
+    match tag {
+        12 => [function + 1, 0],
+        14 => [function, block + 1],
+        15 => [function, block],
+        _ => [function, 0],
+    }
 }
 
 /// Plain: accepted, and nothing in the module that the records do not keep: no tail bytes, only
@@ -797,9 +818,9 @@ pub fn check_records(stores: &Stores, must_close: bool) -> Result<Vec<Piece>, us
     Ok(pieces)
 }
 
-/// One record after those in `reach`; none when it is bad.
+/// One record after those in `reach`; none when it is bad. "The writers do not read the two numbers."
 fn check_record(stores: &Stores, record: &[u32], reach: &mut Reach) -> Option<Piece> {
-    let [head, tag, offset, result_type, result_id, start, operands, words] = record.try_into().unwrap();
+    let [head, tag, offset, result_type, result_id, start, operands, words, _, _]: [u32; RECORD] = record.try_into().unwrap();
     let (opcode, presence) = (head as u16, head >> 16);
     let (has_type, has_id) = (presence & 1 != 0, presence & 2 != 0);
     let (given, next) = layout(layout_kind(opcode), reach.state).ok()?;
