@@ -140,7 +140,7 @@ pub fn same(head: [u32; 16], ends: Ends, parts: &[u8]) -> bool
     requires { ⌜ Rising ends ⌝ }
     requires { ⌜ ends .text ≤ length (now parts) ⌝ }
 {
-    let mut instructions = [WORD; 512];
+    let mut instructions = [WORD; 640];
     let mut log = [BYTE; 576];
     let mut strings = [BYTE; 256];
     let mut types = [WORD; 192];

@@ -16,9 +16,9 @@ use std::collections::{BTreeMap, BinaryHeap, HashSet};
 /// The longest module and the longest text taken, and the most bytes of the whole file.
 const MOST_MODULE: usize = 256;
 const MOST_TEXT: usize = 1_000;
-const MOST_FILE: usize = 150_000;
+const MOST_FILE: usize = 164_000;
 
-/// What a module shows, in words: `number 6`, `cell 3 block`, `kind 40`.
+/// What a module shows, in words: `number 6`, `cell 3 block`, `tag 14 2 1` with function and block number, `kind 40`.
 type Feature = String;
 
 struct Candidate {
@@ -85,9 +85,15 @@ fn features(module: &[u8], a: &Answer) -> Vec<Feature> {
     if matches!(number, 1 | 6..=13) {
         all.push(format!("number {number} at {} of {}", a.offset % 20 / 4, a.index.min(3)));
     }
-    let mut state = State::Outside;
+    let (mut state, mut before) = (State::Outside, 0);
     for record in a.instructions.chunks_exact(RECORD) {
         let opcode = record[0] as u16;
+        let tag = record[1];
+        all.push(format!("tag {tag} {} {}", record[8].min(2), record[9].min(2)));
+        if tag == 15 && !matches!(before, 14 | 15) {
+            all.push(format!("block that goes on after tag {before}"));
+        }
+        before = tag;
         all.push(format!("cell {:?} {state:?}", layout_kind(opcode)));
         all.push(format!("row {opcode}"));
         all.push(format!("presence {} {}", record[0] >> 16, record[6].min(4)));
@@ -161,10 +167,12 @@ fn pool(grammar: &Grammar) -> Vec<Vec<u8>> {
     all
 }
 
-/// What must be shown counts more than what may be.
+/// What must be shown counts so much, and more than what may be.
+const MUST: usize = 60;
+
 fn worth(feature: &Feature) -> usize {
     match feature.split(' ').next() {
-        Some("number" | "cell" | "kind") => 60,
+        Some("number" | "cell" | "tag" | "kind") => MUST,
         Some("row") => 16,
         Some("enumerant") => 8,
         _ => 10,
@@ -214,20 +222,24 @@ fn sample() -> (Vec<u8>, String) {
     for (what, [has, of]) in &counts {
         told += &format!("\n  {what}: {has} of {of}");
     }
-    let lost: Vec<&&Feature> = everything
-        .iter()
-        .filter(|f| !shown.contains(**f) && (f.starts_with("number") || f.starts_with("cell") || f.starts_with("kind")))
-        .collect();
+    let lost: Vec<&&Feature> = everything.iter().filter(|f| !shown.contains(**f) && worth(f) == MUST).collect();
     assert!(lost.is_empty(), "not shown: {lost:?}");
     check_cover(&shown);
     (file, told)
 }
 
-/// Every number the crate gives, every layout cell, every operand kind that a module can bring into the log.
+/// Every number the crate gives, every layout cell, every operand kind that a module can bring into the log, every tag in a first and a
+/// second function and block, a block that goes on after a parameter.
 fn check_cover(shown: &HashSet<&Feature>) {
     let has = |f: String| assert!(shown.contains(&f), "not shown: {f}");
     (0..=23).filter(|n| *n != 14).for_each(|n| has(format!("number {n}")));
     (1..=45).filter(|kind| !matches!(kind, 6 | 8 | 19 | 20 | 27 | 29 | 41..=45)).for_each(|kind| has(format!("kind {kind}")));
+    (1..=11).for_each(|tag| has(format!("tag {tag} 0 0")));
+    for function in 1..=2 {
+        [12, 13, 16].iter().for_each(|tag| has(format!("tag {tag} {function} 0")));
+        (1..=2).for_each(|block| [14, 15].iter().for_each(|tag| has(format!("tag {tag} {function} {block}"))));
+    }
+    has("block that goes on after tag 13".to_string());
     let mut kinds: Vec<Kind> = (1..=11).map(Kind::Tag).collect();
     kinds.extend([Kind::Line, Kind::Variable, Kind::Function, Kind::FunctionParameter, Kind::Label, Kind::Terminator]);
     kinds.extend([Kind::FunctionEnd, Kind::Other]);
