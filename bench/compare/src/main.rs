@@ -139,7 +139,7 @@ fn missing(tally: &Tally) -> Vec<String> {
     all.extend(tally.kinds.iter().enumerate().skip(1).filter(|(_, times)| **times == 0).map(|(n, _)| format!("log kind {n}")));
     all.extend(BROKEN.iter().zip(&tally.broken[1..]).filter(|(_, times)| **times == 0).map(|(what, _)| format!("not plain: {what}")));
     all.extend(STANDING.iter().zip(tally.but_for).filter(|(_, times)| *times == 0).map(|(rule, _)| format!("standing but for: {rule}")));
-    all.extend(NUMBERED.iter().zip(tally.numbered).filter(|(_, times)| *times == 0).map(|(what, _)| what.to_string()));
+    all.extend(NUMBERED.iter().zip(tally.numbered).filter(|(_, times)| *times == 0).map(|(what, _)| format!("numbers: {what}")));
     let random = tally.groups.get("random modules").copied().unwrap_or_default();
     if 3 * random.accepted < random.inputs {
         all.push(format!("a third of the random modules accepted: {} of {}", random.accepted, random.inputs));
