@@ -5,8 +5,8 @@ use mathlib.Core.List.{List, _++_}
 use lib.ListN.{length}
 use Rattle.spec.specs.declared.Fields.{Fields}
 use Rattle.spec.specs.declared.Numbers.{Numbers}
-use Rattle.spec.specs.Records.{recordSize, recordsWith}
-use Rattle.spec.specs.Check.{Given, recordsIn, faultOf, check}
+use Rattle.spec.specs.Records.{recordsWith}
+use Rattle.spec.specs.Check.{Given, faultOf, check}
 use Rattle.spec.specs.Write.{writeParse, writeModule, standing}
 use Rattle.spec.specs.Disassembly.{checkNamed, disassemble}
 use Rattle.demands.proofs.CheckBack.{records-back}

@@ -5,7 +5,7 @@ use mathlib.Core.Bool.{Bool, true, false}
 use mathlib.Core.List.{List, [], _∷_, _++_, map, append-assoc, append-nil}
 use native.Mathlib.Omega.{arith}
 use lib.Dec.{eqb}
-use lib.ListN.{length, length-map}
+use lib.ListN.{length}
 use Rattle.spec.specs.declared.Fields.{Fields}
 use Rattle.spec.specs.declared.Numbers.{Numbers}
 use Rattle.spec.specs.Base.{if_then_else_}

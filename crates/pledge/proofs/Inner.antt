@@ -19,6 +19,7 @@ use Rattle.tracker.specs.declared.Id.{Id}
 use Rattle.tracker.specs.declared.Id.the-variants.{Absent, Is}
 use Rattle.tracker.specs.Track.{idIs}
 use Rattle.used.specs.Parse.{kindIs}
+use Rattle.records.proofs.Good.{same-answer}
 use Rattle.words.proofs.word_at as word-at-call
 use Rattle.reflect.proofs.place as place-call
 use Rattle.grammar.proofs.item_at as item-at-call
@@ -53,6 +54,9 @@ use Rattle.records.proofs.fields_at as fields-at-call
 use Rattle.records.proofs.record_at as record-at-call
 use Rattle.records.proofs.operand_at as operand-at-call
 use Rattle.records.proofs.put_fields as put-fields-call
+use Rattle.records.proofs.put_record as put-record-call
+use Rattle.records.proofs.check_of as check-of-call
+use Rattle.numbers.proofs.count as count-call
 use Rattle.room.proofs.room_in as room-in-call
 use Rattle.room.proofs.room_fault as room-fault-call
 use Rattle.words.proofs.put_word as put-word-call
@@ -268,6 +272,17 @@ operand-at = λ κs a x y after other ask p q. (both (p .is) (q .is), refl)
 -- a record put into the store
 pub put-fields : Determined put-fields-call.Kinds.ps put-fields-call.Kinds.r put-fields-call.Reads.Asked put-fields-call.Reads.Learnt
 put-fields = λ κs a x y after other ask p q. (refl, and (both p q) refl)
+
+pub put-record : Determined put-record-call.Kinds.ps put-record-call.Kinds.r put-record-call.Reads.Asked put-record-call.Reads.Learnt
+put-record = λ κs a x y after other ask p q. (refl, and (both p q) refl)
+
+-- the first record of a length that breaks the store layout, or none
+pub check-of : Determined check-of-call.Kinds.ps check-of-call.Kinds.r check-of-call.Reads.Asked check-of-call.Reads.Learnt
+check-of = λ κs a x y after other ask p q. (same-answer x y (both p q), refl)
+
+-- a record counted
+pub count : Determined count-call.Kinds.ps count-call.Kinds.r count-call.Reads.Asked count-call.Reads.Learnt
+count = λ κs a x y after other ask p q. (both p q, refl)
 
 -- the room in stores, and the first store that lacks it
 pub room-in : Determined room-in-call.Kinds.ps room-in-call.Kinds.r room-in-call.Reads.Asked room-in-call.Reads.Learnt

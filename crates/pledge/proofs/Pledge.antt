@@ -4,11 +4,8 @@ use Prim.Native.Nat.{ℕ}
 use mathlib.Core.Path.{_≡_, refl, ap, ap₂, sym}
 use mathlib.Core.Bool.{Bool, true, false}
 use mathlib.Core.List.{List}
-use native.Mathlib.Omega.{arith}
 use Rattle.spec.specs.Load.{Stores}
-use Rattle.records.specs.declared.Checked.{Checked}
-use Rattle.records.specs.declared.Checked.the-variants.{Good, Bad}
-use Rattle.records.specs.Steps.{checkedIs}
+use Rattle.records.proofs.Good.{same-answer}
 use Rattle.text.proofs.zero as zero-call
 use Rattle.text.proofs.is_ascii_text as is-ascii-text-call
 use Rattle.text.proofs.utf8 as utf8-call
@@ -202,17 +199,9 @@ builtin-table = record { free = λ κs a. tt; one = λ κs a x y after other p q
 
 -- RECORDS
 
--- two answers that name the same fault
-same-check : (x y : Checked) → checkedIs x ≡ checkedIs y → x ≡ y
-unfolding checkedIs
-same-check Good Good e = refl
-same-check Good (Bad i) e = let z : _≡_ {A = ℕ} 0 1 = cc in absurd (omega arith)
-same-check (Bad i) Good e = let z : _≡_ {A = ℕ} 0 1 = cc in absurd (omega arith)
-same-check (Bad i) (Bad j) e = cc
-
 -- the first record that breaks the store layout, or none
 pub check : Offered check-call.Kinds.ps check-call.Kinds.r check-call.Reads.Asked check-call.Reads.Learnt
-check = record { free = λ κs a. tt; one = λ κs a x y after other p q. (same-check x y (both p q), refl) }
+check = record { free = λ κs a. tt; one = λ κs a x y after other p q. (same-answer x y (both p q), refl) }
 
 -- LOADING AND WRITING
 

@@ -197,6 +197,14 @@ module _ (x : Given) (good-x : Good x) where
 
 -- WHAT THE CHECK SAYS
 
+-- two answers that name the same fault are the same
+pub same-answer : (x y : Checked) → checkedIs x ≡ checkedIs y → x ≡ y
+unfolding checkedIs
+same-answer AllGood AllGood e = refl
+same-answer AllGood (Bad i) e = let z : _≡_ {A = ℕ} 0 1 = cc in absurd (omega arith)
+same-answer (Bad i) AllGood e = let z : _≡_ {A = ℕ} 0 1 = cc in absurd (omega arith)
+same-answer (Bad i) (Bad j) e = cc
+
 -- the answer that all is good
 pub check-is-good : (whole : Bool) (x : Given) (r : Checked) → checkedIs r ≡ faultOf recordSize whole x → r ≡ AllGood → check recordSize whole x ≡ good (scanOf recordSize x .instrs)
 unfolding check checkedIs
