@@ -25,13 +25,14 @@ fn onward(tag: u32, n: Numbers) -> Numbers
     ensures { λ r. ⌜ r ≡ onwardBy tag n ⌝ }
 {
     if tag == tags::FUNCTION {
-        return in_function(n.function + 1);
+        let function = n.function + 1;
+        let block = 0;
+        return Numbers { function, block };
     }
     if tag == tags::LABEL {
-        return Numbers {
-            function: n.function,
-            block: n.block + 1,
-        };
+        let function = n.function;
+        let block = n.block + 1;
+        return Numbers { function, block };
     }
     n
 }
