@@ -1,5 +1,3 @@
-pub mod Judging
-pub mod Keeping
 pub mod Growing
 pub mod Running
 pub mod Beginning

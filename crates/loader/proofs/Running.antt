@@ -40,12 +40,12 @@ use Rattle.tracker.specs.Hints.{Blank}
 use Rattle.tracker.specs.declared.TypeTracker.{TypeTracker}
 use Rattle.tracker.proofs.Hinting.{hinted-none}
 use Rattle.used.specs.Fresh.{unused}
-use Rattle.loader.specs.declared.parts.Progress.{Progress}
-use Rattle.loader.specs.declared.parts.Taken.{Taken}
-use Rattle.loader.specs.Steps.{usedBy, saidAt, Bounded, Typed, tracked, needOf, Stored, Recorded}
+use Rattle.steps.specs.declared.parts.Progress.{Progress}
+use Rattle.steps.specs.declared.parts.Taken.{Taken}
+use Rattle.steps.specs.Steps.{usedBy, saidAt, Bounded, Typed, tracked, needOf, Stored, Recorded}
 use Rattle.loader.specs.Loading.{LoadsFrom}
-use Rattle.loader.proofs.Judging.{placedAs, bookOf, word-left, Admitted, Stops, log-size, strings-few, strings-size, tracked-is, need-is, fields-are, placed-is}
-use Rattle.loader.proofs.Keeping.{log-short}
+use Rattle.steps.proofs.Judging.{placedAs, bookOf, word-left, Admitted, Stops, log-size, strings-few, strings-size, tracked-is, need-is, fields-are, placed-is}
+use Rattle.steps.proofs.Keeping.{log-short}
 use Rattle.loader.proofs.Growing.{begunWith, begun-next, records-next, grow, entries-next, types-next}
 
 -- THE DEFINITION, A STEP AT A TIME

@@ -9,8 +9,8 @@ use Rattle.spec.specs.Words.{AllBytes}
 use Rattle.spec.specs.Reader.{readerAt}
 use Rattle.spec.specs.Grammar.{grammarOf}
 use Rattle.spec.specs.Load.{Outcome, emptyBook, loadFrom, withPlain, loadWith, load, Stores, storesOf, roomIn, laidOn}
-use Rattle.loader.specs.declared.parts.Ended.{Ended}
-use Rattle.loader.specs.Steps.{saidAt}
+use Rattle.steps.specs.declared.parts.Ended.{Ended}
+use Rattle.steps.specs.Steps.{saidAt}
 
 -- what a load of a module comes to by a grammar and the room in stores
 unfoldable pub loading : List ℕ → List ℕ → Stores → Outcome

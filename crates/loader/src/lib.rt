@@ -3,16 +3,14 @@ ghost use Rattle.spec.specs.Builtin.{builtin};
 ghost use Rattle.spec.specs.Load.{lent};
 ghost use Rattle.loader.specs.Loading.{Loads};
 
-mod parts;
 mod run;
-mod step;
 
-use parts::no_instruction;
 use run::SHORT;
 use run::load_few;
 use run::load_many;
 use spec::Loaded;
 use spec::refusals;
+use steps::no_instruction;
 
 // Loads a module by the bytes of a grammar.
 pub fn load(

@@ -7,6 +7,8 @@ use mathlib.Core.Option.{Option, none, some}
 use native.Mathlib.Omega.{arith}
 use borrow.Author.Tests.{eqb-true}
 use lib.Dec.{eqb}
+use Rattle.spec.specs.Records.{Instr}
+use Rattle.spec.specs.Reader.{Reader, got}
 use Rattle.spec.specs.Grammar.{Slot}
 use Rattle.spec.proofs.Choice.{cases}
 use Rattle.grammar.specs.declared.find.SlotAt.{SlotAt}
@@ -19,6 +21,8 @@ use Rattle.tracker.specs.declared.Id.{Id}
 use Rattle.tracker.specs.declared.Id.the-variants.{Absent, Is}
 use Rattle.tracker.specs.Track.{idIs}
 use Rattle.used.specs.Parse.{kindIs}
+use Rattle.steps.specs.declared.parts.Progress.{Progress}
+use Rattle.steps.specs.Steps.{readAt, Stored}
 use Rattle.records.proofs.Good.{same-answer}
 use Rattle.words.proofs.word_at as word-at-call
 use Rattle.reflect.proofs.place as place-call
@@ -59,6 +63,11 @@ use Rattle.records.proofs.check_of as check-of-call
 use Rattle.numbers.proofs.count as count-call
 use Rattle.room.proofs.room_in as room-in-call
 use Rattle.room.proofs.room_fault as room-fault-call
+use Rattle.steps.proofs.end_number as end-number-call
+use Rattle.steps.proofs.no_instruction as no-instruction-call
+use Rattle.steps.proofs.stopped as stopped-call
+use Rattle.steps.proofs.admit as admit-call
+use Rattle.steps.proofs.keep_operands as keep-operands-call
 use Rattle.words.proofs.put_word as put-word-call
 use Rattle.operand.proofs.is_two as is-two-call
 use Rattle.operand.proofs.record_length as record-length-call
@@ -138,6 +147,12 @@ same-kind j k e =
     (λ a.
     cases (eqb k 0) (λ b. let f : _≡_ {A = Option ℕ} (some j) none = rw (a, b) at e in absurd (some-none j f))
     (λ b. let f : _≡_ {A = Option ℕ} (some j) (some k) = rw (a, b) at e in cc))
+
+-- what is stored of an instruction that was read
+same-stored : (s g types l₀ s₀ l₁ s₁ l₂ s₂ : List ℕ) (p : Progress) (i : Instr) (r : Reader) → readAt s g types p ≡ got i r
+    → Stored s g types l₀ s₀ l₁ s₁ p → Stored s g types l₀ s₀ l₂ s₂ p → (l₁ ≡ l₂) × (s₁ ≡ s₂)
+unfolding Stored
+same-stored s g types l₀ s₀ l₁ s₁ l₂ s₂ p i r e x y = (both (x i r e .0) (y i r e .0), both (x i r e .1) (y i r e .1))
 
 -- THE CALLS
 
@@ -290,6 +305,26 @@ room-in = λ κs a x y after other ask p q. (both p q, refl)
 
 pub room-fault : Determined room-fault-call.Kinds.ps room-fault-call.Kinds.r room-fault-call.Reads.Asked room-fault-call.Reads.Learnt
 room-fault = λ κs a x y after other ask p q. (both p q, refl)
+
+-- the number at the end, the answer of a load that comes to no instruction, and of one that stopped
+pub end-number : Determined end-number-call.Kinds.ps end-number-call.Kinds.r end-number-call.Reads.Asked end-number-call.Reads.Learnt
+end-number = λ κs a x y after other ask p q. (both p q, refl)
+
+pub no-instruction : Determined no-instruction-call.Kinds.ps no-instruction-call.Kinds.r no-instruction-call.Reads.Asked no-instruction-call.Reads.Learnt
+no-instruction = λ κs a x y after other ask p q. (both p q, refl)
+
+pub stopped : Determined stopped-call.Kinds.ps stopped-call.Kinds.r stopped-call.Reads.Asked stopped-call.Reads.Learnt
+stopped = λ κs a x y after other ask p q. (both p q, refl)
+
+-- what becomes of an instruction
+pub admit : Determined admit-call.Kinds.ps admit-call.Kinds.r admit-call.Reads.Asked admit-call.Reads.Learnt
+admit = λ κs a x y after other ask p q. (both p q, refl)
+
+-- the operands of an instruction that was read, kept
+pub keep-operands : Determined keep-operands-call.Kinds.ps keep-operands-call.Kinds.r keep-operands-call.Reads.Asked keep-operands-call.Reads.Learnt
+keep-operands = λ κs a x y after other ask p q.
+    let same = same-stored _ _ _ _ _ _ _ _ _ _ _ _ (ask .1 .1 .1 .1 .handed .read) p q in
+    (refl, and refl (and refl (and refl (and (same .0) (and (same .1) refl)))))
 
 -- a word put into bytes
 pub put-word : Determined put-word-call.Kinds.ps put-word-call.Kinds.r put-word-call.Reads.Asked put-word-call.Reads.Learnt

@@ -1,7 +1,7 @@
 -- `loader::run::load_from` meets its contract: the invariant is that the load from where it stands is the load of the whole.
 use Rattle.spec.specs.Load.{lent}
 use Rattle.tracker.proofs.Hinting.{marks-leave}
-use Rattle.loader.proofs.Judging.{fair, moderate, verdict}
+use Rattle.steps.proofs.Judging.{fair, moderate, verdict}
 use Rattle.loader.proofs.Running.{Running, start, same-instructions, same-log, same-strings, same-types, few-kept, ends, halts, here, more, operands-fit, record-fits, entries-fit, fewer, goes-on}
 use lib.ListN.{length}
 use Prim.Native.Nat.{_-_}
