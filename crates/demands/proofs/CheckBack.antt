@@ -19,7 +19,7 @@ use Rattle.spec.specs.Words.{bytesOf}
 use Rattle.spec.specs.Text.{isUtf8}
 use Rattle.spec.specs.Kinds.{isLogged, isLong, isText}
 use Rattle.spec.specs.Layout.{endNumber}
-use Rattle.spec.specs.Records.{Operand, narrow, wide, text, Placed, operandSize, operandsSize, operandLog, operandString, operandsLog, operandsStrings, stringStore, logFrom, presence, fieldsOf, fieldsFrom, fieldWords, fieldsAt, recordWords, recordsWith, calledFor, numbered, instructionStore, recordSize}
+use Rattle.spec.specs.Records.{Operand, narrow, wide, text, Placed, operandSize, operandsSize, operandLog, operandString, operandsLog, operandsStrings, stringStore, logFrom, presence, fieldsOf, fieldsFrom, fieldSize, fieldWords, fieldsAt, recordSize, recordWords, recordsWith, calledFor, numbered, instructionStore}
 use Rattle.spec.specs.Check.{Given, recordsOf, bitsIn, fieldsGood, fieldsFault, Left, takeText, takeOperand, takeOperands, fieldIn, placedOf, wordsGood, takeRecord, scanFrom, tagsFault, faultOf, missing, good, check}
 use Rattle.spec.proofs.Choice.{left, right, both}
 use Rattle.demands.proofs.Bytes.{four-bytes}
@@ -40,13 +40,26 @@ records-back [] ns e more = refl
 records-back (f ∷ fs) [] e more = absurd (omega arith)
 records-back (f ∷ fs) (n ∷ ns) e more = ap (λ (z : List Fields). f ∷ z) (records-back fs ns (omega arith) more)
 
+-- and so are those without numbers
+pub fields-back : (fs : List Fields) (more : List ℕ) → recordsOf fieldSize (length fs) (joined fieldWords fs ++ more) ≡ fs
+unfolding recordsOf fieldWords fieldsAt
+fields-back [] more = refl
+fields-back (f ∷ fs) more = ap (λ (z : List Fields). f ∷ z) (fields-back fs more)
+
 -- so are those of instructions
-instructions-back : (is : List Placed) (more : List ℕ) → recordsOf recordSize (length is) (instructionStore is ++ more) ≡ fieldsFrom 0 is
+pub instructions-back : (is : List Placed) (more : List ℕ) → recordsOf recordSize (length is) (instructionStore is ++ more) ≡ fieldsFrom 0 is
 unfolding instructionStore numbered
 instructions-back is more =
     let fs = fieldsFrom 0 is in
     ap (λ (n : ℕ). recordsOf recordSize n (recordsWith fs (calledFor fs) ++ more)) (sym (fields-length 0 is))
     ∙ records-back fs (calledFor fs) (called-length fs) more
+
+-- and without numbers
+pub old-instructions-back : (is : List Placed) (more : List ℕ)
+    → recordsOf fieldSize (length is) (joined fieldWords (fieldsFrom 0 is) ++ more) ≡ fieldsFrom 0 is
+old-instructions-back is more =
+    let fs = fieldsFrom 0 is in
+    ap (λ (n : ℕ). recordsOf fieldSize n (joined fieldWords fs ++ more)) (sym (fields-length 0 is)) ∙ fields-back fs more
 
 -- the presence bits of a record
 bits-back : (start : ℕ) (p : Placed) → p .instr .opcode < 65536
@@ -216,11 +229,11 @@ no-tags-fault (leading {p = p} x e placed more) whole w index start =
 
 -- THE CHECK
 
--- stores that begin with those of some instructions and go on, with the counts of these
+-- records, and log and strings that begin with those of some instructions and go on, with the counts of these
 abbrev givenOf : List Placed → List ℕ → List ℕ → List ℕ → Given
-givenOf is a b c =
+givenOf is ws b c =
     record {
-      instructions = instructionStore is ++ a;
+      instructions = ws;
       log = logFrom 0 is ++ b;
       strings = stringStore is ++ c;
       count = length is;
@@ -228,13 +241,14 @@ givenOf is a b c =
       stringCount = length (stringStore is);
     }
 
--- instructions that follow on from the header pass the check, and are what it says
-pub check-back : (whole : Bool) (is : List Placed) (e : State) → Follow 20 Outside is e → 4 * wordsIn is < 4294967296
-    → implies whole (eqb (endNumber e) 0) ≡ true → (a b c : List ℕ) → check recordSize whole (givenOf is a b c) ≡ good is
+-- instructions that follow on from the header pass the check, in records of any length that have their fields, and are what it says
+pub check-back : (size : ℕ) (whole : Bool) (is : List Placed) (e : State) → Follow 20 Outside is e → 4 * wordsIn is < 4294967296
+    → implies whole (eqb (endNumber e) 0) ≡ true → (ws b c : List ℕ) → recordsOf size (length is) ws ≡ fieldsFrom 0 is
+    → check size whole (givenOf is ws b c) ≡ good is
 unfolding check faultOf missing
-check-back whole is e follow few w a b c =
+check-back size whole is e follow few w ws b c said =
     rw (
-      instructions-back is a,
+      said,
       take-append-seam (logFrom 0 is) b,
       take-append-seam (stringStore is) c,
       fields-length 0 is,

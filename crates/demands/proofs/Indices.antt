@@ -205,6 +205,24 @@ fault-low size whole x fit =
     (soon (x .logCount) (x .stringCount) fs 1 20 _ (offsets-fit size (x .count) (x .instructions) fit) (omega arith) (omega arith))
     (λ e. (missing-most (x .count) fs e, tags-most whole fs 1 Outside e))
 
+-- its index is one of 32 bits
+pub fault-index : (size : ℕ) (whole : Bool) (x : Given) → WordsFit (x .instructions) → IfSome (λ i. i < 4294967296) (faultOf size whole x)
+fault-index size whole x fit = by (faultOf size whole x) (low-most (faultOf size whole x) _ (fault-low size whole x fit))
+  where
+    by : (o : Option ℕ) → AtMost o → IfSome (λ i. i < 4294967296) o
+    by none p = tt
+    by (some i) p = omega arith
+
+-- where there is none the records are few
+pub good-few : (size : ℕ) (whole : Bool) (x : Given) → WordsFit (x .instructions) → faultOf size whole x ≡ none
+    → length (recordsIn size x) ≤ 1073741824
+good-few size whole x fit e = by (faultOf size whole x) e (fault-low size whole x fit)
+  where
+    by : (o : Option ℕ) → o ≡ none → Low o (1 + length (recordsIn size x)) → length (recordsIn size x) ≤ 1073741824
+    by none e (isThere p) = absurd p
+    by none e (fewer p h) = omega arith
+    by (some i) e l = let z : _≡_ {A = ℕ} 0 1 = cc in absurd (omega arith)
+
 -- a check of them
 check-soon : (size : ℕ) (whole : Bool) (x : Given) → WordsFit (x .instructions) → BadSoon (check size whole x)
 unfolding check

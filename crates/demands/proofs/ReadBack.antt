@@ -2,7 +2,7 @@
 use Prim.Native.Nat.{ℕ, _*_, _≤_}
 use mathlib.Core.Path.{_≡_, refl, ap, ap₂, sym, _∙_}
 use mathlib.Core.Bool.{Bool, true, false}
-use mathlib.Core.List.{List, [], _∷_, append-nil, nil≢cons, cons≢nil, tail-eq-of-cons-eq}
+use mathlib.Core.List.{List, [], _∷_, _++_, append-nil, nil≢cons, cons≢nil, tail-eq-of-cons-eq}
 use native.Mathlib.Omega.{arith}
 use lib.Dec.{eqb}
 use lib.ListN.{length}
@@ -11,16 +11,17 @@ use Rattle.spec.specs.declared.State.the-variants.{Outside}
 use Rattle.spec.specs.declared.Counts.{Counts}
 use Rattle.spec.specs.Base.{joined, implies}
 use Rattle.spec.specs.Layout.{endNumber}
-use Rattle.spec.specs.Records.{Placed, Entry, entry, entryWords, stringStore, logFrom, recordSize, instructionStore}
-use Rattle.spec.specs.Load.{Outcome, nothing, load, Stores, storesOf}
-use Rattle.spec.specs.Check.{good, check, givenBy}
+use Rattle.spec.specs.Records.{Placed, Entry, entry, entryWords, stringStore, logFrom, fieldsFrom, fieldSize, fieldWords, recordSize, instructionStore}
+use Rattle.spec.specs.Load.{Outcome, nothing, load, Stores, lent, storesOf}
+use Rattle.spec.specs.Check.{recordsOf, good, check, givenBy}
 use Rattle.spec.specs.Words.{AllBytes}
+use Rattle.demands.proofs.Lists.{Begins}
 use Rattle.demands.proofs.Stores.{BeginWith, instructions-length, entries-length}
 use Rattle.demands.proofs.Starts.{Loads, unformed, overlong, headless, opens, load-is}
 use Rattle.demands.proofs.Kept.{Follow, last, wordsIn}
 use Rattle.demands.proofs.Returns.{kept-is, all-long, sure, module-read}
 use Rattle.demands.proofs.KeptSays.{takenBy, KeptSays, load-says}
-use Rattle.demands.proofs.CheckBack.{check-back}
+use Rattle.demands.proofs.CheckBack.{instructions-back, old-instructions-back, check-back}
 
 -- WHAT A LOAD KEEPS
 
@@ -57,26 +58,46 @@ load-kept g room s by = of (load-is g room s)
 
 -- READ BACK
 
--- what is kept, in stores that begin with its records
-kept-back : (whole : Bool) (x : Outcome) (k : Kept x) → implies whole (eqb (endNumber (k .state)) 0) ≡ true
-    → KeptSays x → (t : Stores) → BeginWith t (storesOf x)
-    → check recordSize whole (givenBy t (x .said .counts)) ≡ good (x .kept)
+-- what is kept, in records of a length that have its fields, with a log and strings that begin with its own
+kept-back : (size : ℕ) (whole : Bool) (x : Outcome) (k : Kept x) → implies whole (eqb (endNumber (k .state)) 0) ≡ true
+    → KeptSays x → (t : Stores) → recordsOf size (length (x .kept)) (t .instructions) ≡ fieldsFrom 0 (x .kept)
+    → Begins (t .log) (storesOf x .log) → Begins (t .strings) (storesOf x .strings)
+    → check size whole (givenBy t (x .said .counts)) ≡ good (x .kept)
 unfolding givenBy takenBy storesOf
-kept-back whole x k w n t b =
-    rw (n .counts, b .instructions .1, b .log .1, b .strings .1, n .left)
-    (check-back whole (x .kept) (k .state) (k .follow) (omega (arith, k .few)) w (b .instructions .0) (b .log .0) (b .strings .0))
+kept-back size whole x k w n t said log strings =
+    rw (n .counts, log .1, strings .1, n .left)
+    (check-back size whole (x .kept) (k .state) (k .follow) (omega (arith, k .few)) w (t .instructions) (log .0) (strings .0) said)
+
+-- the instruction store of what is kept has its fields
+kept-fields : (x : Outcome) → KeptSays x → (t : Stores) → BeginWith t (storesOf x)
+    → recordsOf recordSize (length (x .kept)) (t .instructions) ≡ fieldsFrom 0 (x .kept)
+unfolding storesOf
+kept-fields x n t b = rw (b .instructions .1, n .left) (instructions-back (x .kept) (b .instructions .0))
 
 module _ (g : List ℕ) (room : Counts) (s : List ℕ) (by : AllBytes s) (t : Stores) (b : BeginWith t (storesOf (load g room s))) where
   -- the records of a load, accepted or refused, wherever stores begin with them, pass the check, and say what the load keeps
   pub reads-back : check recordSize false (givenBy t (load g room s .said .counts)) ≡ good (load g room s .kept)
-  reads-back = kept-back false (load g room s) (load-kept g room s by) refl (load-says g room s) t b
+  reads-back =
+      let n : KeptSays (load g room s) = load-says g room s in
+      kept-back recordSize false (load g room s) (load-kept g room s by) refl n t (kept-fields (load g room s) n t b) (b .log) (b .strings)
 
   -- the records of an accepted load pass the check for module order too
   pub reads-back-whole : load g room s .said .number ≡ 0
       → check recordSize true (givenBy t (load g room s .said .counts)) ≡ good (load g room s .kept)
   reads-back-whole z =
       let k : Kept (load g room s) = load-kept g room s by in
-      kept-back true (load g room s) k (rw (k .whole z)) (load-says g room s) t b
+      let n : KeptSays (load g room s) = load-says g room s in
+      kept-back recordSize true (load g room s) k (rw (k .whole z)) n t (kept-fields (load g room s) n t b) (b .log) (b .strings)
+
+  -- so do the same records without their numbers, eight words each
+  pub reads-back-old : (more : List ℕ)
+      → check fieldSize false
+      (givenBy (lent (joined fieldWords (fieldsFrom 0 (load g room s .kept)) ++ more) (t .log) (t .strings) (t .types)) (load g room s .said .counts))
+      ≡ good (load g room s .kept)
+  reads-back-old more =
+      kept-back fieldSize false (load g room s) (load-kept g room s by) refl (load-says g room s)
+      (lent (joined fieldWords (fieldsFrom 0 (load g room s .kept)) ++ more) (t .log) (t .strings) (t .types))
+      (old-instructions-back (load g room s .kept) more) (b .log) (b .strings)
 
 -- STORES TELL
 

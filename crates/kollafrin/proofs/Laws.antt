@@ -8,17 +8,20 @@ use lib.ListN.{length}
 use lib.Seq.{sets}
 use Rattle.spec.specs.declared.Loaded.{Loaded}
 use Rattle.spec.specs.declared.Written.{Written}
+use Rattle.spec.specs.declared.Turned.{Turned}
 use Rattle.spec.specs.declared.Joined.{Joined}
 use Rattle.spec.specs.Words.{AllBytes}
 use Rattle.spec.specs.Load.{Stores, laidOver, roomIn, Small}
 use Rattle.spec.specs.Write.{Writing}
+use Rattle.spec.specs.Books.{Turning}
 use Rattle.spec.specs.Join.{join}
 use Rattle.loader.specs.Loading.{loading, Loads}
 use Rattle.assemble.specs.Writes.{Writes}
+use Rattle.books.specs.Turns.{Turns}
 use Rattle.join.specs.Steps.{Joins}
 use Rattle.join.proofs.JoinLaws.{bytes-few}
 use Rattle.demands.proofs.Bounds.{load-small}
-use Rattle.kollafrin.specs.Answers.{loadAnswer, LoadAnswers, writeAnswer, WriteAnswers, joinAnswer, JoinAnswers, laidIn}
+use Rattle.kollafrin.specs.Answers.{loadAnswer, LoadAnswers, writeAnswer, WriteAnswers, turnAnswer, TurnAnswers, joinAnswer, JoinAnswers, laidIn}
 
 -- WHAT IS SAID: of an answer, and so of the one that it is
 
@@ -40,6 +43,13 @@ pub written-said : {w : Writing} {out answer : List ℕ} {r : ℕ} {x : Written}
 written-said said writes =
     let is = writes .said in
     record { number = said .0 ∙ ap (λ (z : Written). z .number) is; words = said .1 ∙ ap writeAnswer is; output = writes .output }
+
+-- of turning a book
+pub turned-said : {t : Turning} {out answer : List ℕ} {r : ℕ} {x : Turned} → (r ≡ x .number) × (answer ≡ turnAnswer x)
+    → Turns t out x → TurnAnswers t out answer r
+turned-said said turns =
+    let is = turns .said in
+    record { number = said .0 ∙ ap (λ (z : Turned). z .number) is; words = said .1 ∙ ap turnAnswer is; output = turns .output }
 
 -- of joining
 pub joined-said : {a b before after answer : List ℕ} {r : ℕ} {x : Joined} → (r ≡ x .number) × (answer ≡ joinAnswer x)

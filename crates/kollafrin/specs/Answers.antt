@@ -7,11 +7,13 @@ use lib.ListN.{length, getD}
 use Rattle.spec.specs.declared.Loaded.{Loaded}
 use Rattle.spec.specs.declared.Written.{Written}
 use Rattle.spec.specs.declared.Stands.{Stands}
+use Rattle.spec.specs.declared.Turned.{Turned}
 use Rattle.spec.specs.declared.Joined.{Joined}
 use Rattle.spec.specs.Base.{if_then_else_}
 use Rattle.spec.specs.Words.{AllBytes}
 use Rattle.spec.specs.Load.{Stores, storesOf, laidOver, laidOn}
 use Rattle.spec.specs.Write.{Writing}
+use Rattle.spec.specs.Books.{Turning}
 use Rattle.spec.specs.Join.{join}
 use Rattle.loader.specs.Loading.{loading}
 
@@ -52,6 +54,16 @@ standAnswer x = x .number ∷ x .index ∷ (if x .yes then 1 else 0) ∷ 0 ∷ [
 pub record StandAnswers (x : Stands) (answer : List ℕ) (r : ℕ) : Type 0 where
   pub number : r ≡ x .number
   pub words : answer ≡ standAnswer x
+
+-- number, index, records written, 0
+unfoldable pub turnAnswer : Turned → List ℕ
+turnAnswer x = x .number ∷ x .index ∷ x .records ∷ 0 ∷ []
+
+-- what turning a book of which x became answers, as its number and in words, and leaves in the output
+pub record TurnAnswers (x : Turning) (out answer : List ℕ) (r : ℕ) : Type 0 where
+  pub number : r ≡ x .said .number
+  pub words : answer ≡ turnAnswer (x .said)
+  pub output : out ≡ x .output
 
 -- number, place, value, bytes written
 unfoldable pub joinAnswer : Joined → List ℕ

@@ -4,7 +4,7 @@
 // A word of an answer is the number itself, never its low bits. Offsets, index and counts of a load fit 32 bits, since a module has at
 // most 67,108,864 bytes. So does the index of a bad record, for stores and counts of any size: the offset of a good record is a word
 // of 32 bits and each good record moves it by four bytes or more, so that no more than 2^30 records are good.
-// The bytes written may be more, and take two words.
+// The bytes written may be more, and take two words; the records that a book is turned into are good ones, and few.
 ghost use mathlib.Core.Path.{_≡_};
 ghost use Prim.Native.Nat.{_<_};
 ghost use lib.ListN.{length};
@@ -13,11 +13,13 @@ ghost use Rattle.spec.specs.Builtin.{builtin};
 ghost use Rattle.spec.specs.Load.{lent, Small};
 ghost use Rattle.spec.specs.Write.{writeParse, writeModule, standing as standingOf};
 ghost use Rattle.spec.specs.Disassembly.{disassemble as disassembleOf};
+ghost use Rattle.spec.specs.Books.{newBook, oldBook};
 ghost use Rattle.records.specs.Steps.{given};
-ghost use Rattle.kollafrin.specs.Answers.{version, loadAnswer, LoadAnswers, writeAnswer, WriteAnswers, StandAnswers, joinAnswer, JoinAnswers, laidIn};
+ghost use Rattle.kollafrin.specs.Answers.{version, loadAnswer, LoadAnswers, writeAnswer, WriteAnswers, StandAnswers, turnAnswer, TurnAnswers, joinAnswer, JoinAnswers, laidIn};
 use spec::Joined;
 use spec::Loaded;
 use spec::Stands;
+use spec::Turned;
 use spec::Written;
 
 // The version of the layouts and calls: KOLLAFRIN_VERSION of the header.
@@ -82,6 +84,16 @@ fn say_standing(x: Stands, answer: &mut [u32; 4]) -> u32
 {
     let yes = yes_or_no(x.yes);
     *answer = [x.number, x.index as u32, yes, 0];
+    x.number
+}
+
+// The answer of turning a book into words.
+fn say_turned(x: Turned, answer: &mut [u32; 4]) -> u32
+    requires { ⌜ (x .index < 4294967296) × (x .records < 4294967296) ⌝ }
+    ensures { λ r. ⌜ r ≡ x .number ⌝ }
+    ensures { λ _. ⌜ now (answer .exit) ≡ turnAnswer x ⌝ }
+{
+    *answer = [x.number, x.index as u32, x.records as u32, 0];
     x.number
 }
 
@@ -284,6 +296,64 @@ pub extern "C" fn kollafrin_standing(
         string_count,
     );
     say_standing(x, answer)
+}
+
+// Turns last season's records, of eight words, into records of ten, written to `out`: the number, and the whole answer in `answer`.
+#[no_mangle]
+pub extern "C" fn kollafrin_new_book(
+    records: &[u32],
+    log: &[u8],
+    strings: &[u8],
+    instruction_count: usize,
+    log_count: usize,
+    string_count: usize,
+    out: &mut [u32],
+    answer: &mut [u32; 4],
+) -> u32
+    ensures { λ r. ⌜ TurnAnswers
+        (newBook (given (now (records .entry)) (now (log .entry)) (now (strings .entry))
+        «instruction_count» «log_count» «string_count») (now (out .entry)))
+        (now (out .exit)) (now (answer .exit)) r ⌝ }
+{
+    let x = books::new_book(
+        records,
+        log,
+        strings,
+        instruction_count,
+        log_count,
+        string_count,
+        out,
+    );
+    say_turned(x, answer)
+}
+
+// Turns records of ten words into last season's.
+#[no_mangle]
+pub extern "C" fn kollafrin_old_book(
+    records: &[u32],
+    log: &[u8],
+    strings: &[u8],
+    instruction_count: usize,
+    log_count: usize,
+    string_count: usize,
+    out: &mut [u32],
+    answer: &mut [u32; 4],
+) -> u32
+    ensures { λ r. ⌜ TurnAnswers
+        (oldBook (given (now (records .entry)) (now (log .entry)) (now (strings .entry))
+        «instruction_count» «log_count» «string_count») (now (out .entry)))
+        (now (out .exit)) (now (answer .exit)) r ⌝ }
+{
+    let x = books::old_book(
+        records,
+        log,
+        strings,
+        instruction_count,
+        log_count,
+        string_count,
+        out,
+    );
+    say_turned(x, answer)
 }
 
 // Joins two grammars into one, written to `out`: the number, and the whole answer in `answer`.

@@ -55,6 +55,7 @@ use Rattle.used.proofs.id_of as id-of-call
 use Rattle.used.proofs.literal_for as literal-for-call
 use Rattle.untyped.proofs.next_place as next-place-call
 use Rattle.records.proofs.fields_at as fields-at-call
+use Rattle.records.proofs.numbers_at as numbers-at-call
 use Rattle.records.proofs.record_at as record-at-call
 use Rattle.records.proofs.operand_at as operand-at-call
 use Rattle.records.proofs.put_fields as put-fields-call
@@ -276,6 +277,9 @@ next-place = λ κs a x y after other ask p q. (both p q, refl)
 -- the words of a record
 pub fields-at : Determined fields-at-call.Kinds.ps fields-at-call.Kinds.r fields-at-call.Reads.Asked fields-at-call.Reads.Learnt
 fields-at = λ κs a x y after other ask p q. (both p q, refl)
+
+pub numbers-at : Determined numbers-at-call.Kinds.ps numbers-at-call.Kinds.r numbers-at-call.Reads.Asked numbers-at-call.Reads.Learnt
+numbers-at = λ κs a x y after other ask p q. (both p q, refl)
 
 pub record-at : Determined record-at-call.Kinds.ps record-at-call.Kinds.r record-at-call.Reads.Asked record-at-call.Reads.Learnt
 record-at = λ κs a x y after other ask p q. (both p q, refl)

@@ -44,6 +44,8 @@ use Rattle.loader.proofs.load_builtin as load-builtin-call
 use Rattle.assemble.proofs.write_parse_order as parse-call
 use Rattle.assemble.proofs.write_module_order as module-call
 use Rattle.standing.proofs.standing as standing-call
+use Rattle.books.proofs.new_book as new-book-call
+use Rattle.books.proofs.old_book as old-book-call
 use Rattle.disassemble.proofs.disassemble as disassemble-call
 use Rattle.join.proofs.join as join-call
 use Rattle.round_trip.proofs.round_trip as round-trip-call
@@ -55,6 +57,8 @@ use Rattle.kollafrin.proofs.kollafrin_write_parse_order as door-write-parse-cal
 use Rattle.kollafrin.proofs.kollafrin_write_module_order as door-write-module-call
 use Rattle.kollafrin.proofs.kollafrin_disassemble as door-disassemble-call
 use Rattle.kollafrin.proofs.kollafrin_standing as door-standing-call
+use Rattle.kollafrin.proofs.kollafrin_new_book as door-new-book-call
+use Rattle.kollafrin.proofs.kollafrin_old_book as door-old-book-call
 use Rattle.kollafrin.proofs.kollafrin_join as door-join-call
 use Rattle.pledge.proofs.Offered.{Offered, OfferedLent, both, and, both-lent}
 
@@ -268,6 +272,24 @@ join =
 pub standing : Offered standing-call.Kinds.ps standing-call.Kinds.r standing-call.Reads.Asked standing-call.Reads.Learnt
 standing = record { free = λ κs a. tt; one = λ κs a x y after other p q. (both p q, refl) }
 
+-- an old book turned into a new one: the answer and the output after it
+pub new-book : Offered new-book-call.Kinds.ps new-book-call.Kinds.r new-book-call.Reads.Asked new-book-call.Reads.Learnt
+new-book =
+    record {
+      free = λ κs a. tt;
+      one = λ κs a x y after other p q.
+          (both (p .said) (q .said), ap (λ (o : List ℕ). (tt, (tt, (tt, (tt, (tt, (tt, (o, tt)))))))) (both (p .output) (q .output)));
+    }
+
+-- a new book turned into an old one
+pub old-book : Offered old-book-call.Kinds.ps old-book-call.Kinds.r old-book-call.Reads.Asked old-book-call.Reads.Learnt
+old-book =
+    record {
+      free = λ κs a. tt;
+      one = λ κs a x y after other p q.
+          (both (p .said) (q .said), ap (λ (o : List ℕ). (tt, (tt, (tt, (tt, (tt, (tt, (o, tt)))))))) (both (p .output) (q .output)));
+    }
+
 -- two answers of which each is yes where the other is
 same-yes : (x y : Bool) → (x ≡ true → y ≡ true) → (y ≡ true → x ≡ true) → x ≡ y
 same-yes true y f g = sym (f refl)
@@ -368,6 +390,32 @@ door-standing =
       free = λ κs a. tt;
       one = λ κs a x y after other p q.
           (both (p .number) (q .number), ap (λ (w : List ℕ). (tt, (tt, (tt, (tt, (tt, (tt, (w, tt)))))))) (both (p .words) (q .words)));
+    }
+
+-- an old book turned into a new one: the number, the output and the words of the answer
+pub door-new-book :
+    Offered door-new-book-call.Kinds.ps door-new-book-call.Kinds.r door-new-book-call.Reads.Asked door-new-book-call.Reads.Learnt
+door-new-book =
+    record {
+      free = λ κs a. tt;
+      one = λ κs a x y after other p q. (
+        both (p .number) (q .number),
+        ap₂ (λ (o : List ℕ) (w : List ℕ). (tt, (tt, (tt, (tt, (tt, (tt, (o, (w, tt))))))))) (both (p .output) (q .output))
+            (both (p .words) (q .words)),
+      );
+    }
+
+-- a new book turned into an old one
+pub door-old-book :
+    Offered door-old-book-call.Kinds.ps door-old-book-call.Kinds.r door-old-book-call.Reads.Asked door-old-book-call.Reads.Learnt
+door-old-book =
+    record {
+      free = λ κs a. tt;
+      one = λ κs a x y after other p q. (
+        both (p .number) (q .number),
+        ap₂ (λ (o : List ℕ) (w : List ℕ). (tt, (tt, (tt, (tt, (tt, (tt, (o, (w, tt))))))))) (both (p .output) (q .output))
+            (both (p .words) (q .words)),
+      );
     }
 
 -- two grammars joined: the number, the output and the words of the answer

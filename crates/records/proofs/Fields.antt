@@ -26,6 +26,7 @@ use Rattle.spec.proofs.Store.{sets-append}
 use Rattle.text.specs.Zero.{zeroAfter, zeroIn}
 use Rattle.records.specs.declared.Offset.the-variants as offset
 use Rattle.records.specs.declared.Tagging.the-variants as tagging
+use Rattle.records.specs.Good.{numbersAt}
 use Rattle.records.specs.Steps.{fieldsHold, offsetAfter, isString, tagBy, tagAfter, wordIf, atMost}
 
 -- the words of the record at a place
@@ -43,6 +44,11 @@ pub fields-drop : (ws : List ℕ) (at : ℕ)
     ≡ fieldsAt (drop at ws)
 unfolding fieldsAt
 fields-drop ws at = sym (simp (getD-drop, add-zero))
+
+-- the numbers after them
+pub numbers-drop : (ws : List ℕ) (at : ℕ) → record { function = getD ws (at + 8) 0; block = getD ws (at + 9) 0 } ≡ numbersAt (drop at ws)
+unfolding numbersAt
+numbers-drop ws at = sym (simp getD-drop)
 
 -- a record's words, stored one after the other
 pub record-put : (l l₁ : List ℕ) (at : ℕ) (f : Fields) (n : Numbers) → l₁ ≡ sets l at (fieldWords f)

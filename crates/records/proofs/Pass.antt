@@ -51,7 +51,7 @@ past-store size i n h g =
 
 module _ (size : ℕ) (ws : List ℕ) (i : ℕ) where
   -- the first of those left, and those after it
-  records-by : (n m : ℕ) → m ≡ suc n → size * i + size ≤ length ws
+  pub records-by : (n m : ℕ) → m ≡ suc n → size * i + size ≤ length ws
       → recordsOf size m (drop (size * i) ws) ≡ fieldsAt (drop (size * i) ws) ∷ recordsOf size n (drop (size * (i + 1)) ws)
   unfolding recordsOf
   records-by n m e h =
@@ -64,7 +64,7 @@ module _ (size : ℕ) (ws : List ℕ) (i : ℕ) where
   records-none n m e z h = rw (e, has-no size (drop (size * i) ws) (omega (arith, length-drop (size * i) ws)))
 
 -- no more are asked for
-records-end : (size : ℕ) (ws : List ℕ) (m : ℕ) → m ≡ 0 → recordsOf size m ws ≡ []
+pub records-end : (size : ℕ) (ws : List ℕ) (m : ℕ) → m ≡ 0 → recordsOf size m ws ≡ []
 unfolding recordsOf
 records-end size ws m e = rw e
 

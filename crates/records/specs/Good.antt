@@ -5,6 +5,7 @@ use mathlib.Core.Bool.{Bool, true, false}
 use mathlib.Core.List.{List}
 use mathlib.Core.Option.{none}
 use lib.ListN.{length, take, drop, getD}
+use Rattle.spec.specs.declared.Numbers.{Numbers}
 use Rattle.spec.specs.Words.{fourAt, long}
 use Rattle.spec.specs.Kinds.{isLogged, isLong}
 use Rattle.spec.specs.Records.{Operand, narrow, wide, text, recordSize}
@@ -15,6 +16,10 @@ use Rattle.operand.specs.Parts.{parts, isTwo, Fits}
 -- the stores are good for the counts, in the order read
 unfoldable pub Good : Given → Type 0
 Good x = faultOf recordSize false x ≡ none
+
+-- the numbers that the words of a record end with
+unfoldable pub numbersAt : List ℕ → Numbers
+numbersAt ws = record { function = getD ws 8 0; block = getD ws 9 0 }
 
 -- a whole operand of a known kind at a place of the log
 pub record Whole (log : List ℕ) (at : ℕ) : Type 0 where

@@ -10,7 +10,7 @@ ghost use Rattle.text.specs.AsciiText.{isAsciiText};
 ghost use Rattle.reflect.specs.Column.{layoutTable, kindTable};
 ghost use Rattle.spec.specs.Check.{takeOperand, takeOperands, faultOf};
 ghost use Rattle.records.specs.Steps.{given, checkedIs, endAnswer, leftAt, fieldsHold, offsetAfter, wordIf, resultWords, isString, textPassed, passedOne, passedAll, operandsAfter, tagAfter, isOutside, atMost, faultIn, isFree};
-ghost use Rattle.records.specs.Good.{Whole, Logged};
+ghost use Rattle.records.specs.Good.{numbersAt, Whole, Logged};
 use operand::Parts;
 use operand::is_two;
 use spec::Cell;
@@ -40,6 +40,17 @@ pub fn fields_at(instructions: &[u32], at: usize) -> Fields
         start: instructions[at + 5],
         count: instructions[at + 6],
         words: instructions[at + 7],
+    }
+}
+
+// The numbers of the record at a place, its words after the fields.
+pub fn numbers_at(instructions: &[u32], at: usize) -> Numbers
+    requires { ⌜ at + recordSize ≤ length (now instructions) ⌝ }
+    ensures { λ r. ⌜ r ≡ numbersAt (drop at (now (instructions .entry))) ⌝ }
+{
+    Numbers {
+        function: instructions[at + 8],
+        block: instructions[at + 9],
     }
 }
 

@@ -16,6 +16,7 @@ pub mod Plain
 pub mod Load
 pub mod Check
 pub mod Write
+pub mod Books
 pub mod Digits
 pub mod Join
 pub mod Listing

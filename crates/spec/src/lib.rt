@@ -88,6 +88,13 @@ pub struct Written {
     pub bytes: usize,
 }
 
+// What turning a book answers: the number (0 turned), the index of the first record that is at fault or 0, the records written.
+pub struct Turned {
+    pub number: u32,
+    pub index: usize,
+    pub records: usize,
+}
+
 // Whether a module is standing: the number (0 or 30), the index of the first bad record or 0, yes or no.
 pub struct Stands {
     pub number: u32,

@@ -52,6 +52,8 @@ pub const MODULE_TOO_LONG: u32 = 31;
 
 pub const TEXT_LONG: u32 = 32;
 
+pub const NUMBERS_WRONG: u32 = 33;
+
 pub const GRAMMARS_CLASH: u32 = 34;
 
 pub const JOINED_SHORT: u32 = 35;
