@@ -58,7 +58,8 @@ enum kollafrin_number {
     KOLLAFRIN_MISMATCHED_TERMINATOR = 22,       /* A terminator outside blocks. Its instruction. */
     KOLLAFRIN_DETACHED_INSTRUCTION = 23,        /* Any other instruction that must stand in a block. Its instruction. */
     KOLLAFRIN_GRAMMAR_NOT_WELL_FORMED = 24,     /* The grammar's bytes are not well-formed. */
-    KOLLAFRIN_NO_ROOM_INSTRUCTIONS = 25,        /* No room in `instructions` for an instruction's record. Its instruction. */
+    KOLLAFRIN_NO_ROOM_INSTRUCTIONS = 25,        /* No room in `instructions` for an instruction's record. Its instruction. Of a book
+                                                 * that is turned: no room in `out`. Index: the first record that does not fit. */
     KOLLAFRIN_NO_ROOM_LOG = 26,                 /* No room in `log` for its operands. Its instruction. */
     KOLLAFRIN_NO_ROOM_STRINGS = 27,             /* No room in `strings` for its strings. Its instruction. */
     KOLLAFRIN_NO_ROOM_TYPES = 28,               /* No room in `types` for its type entry. Its instruction. */
@@ -66,6 +67,7 @@ enum kollafrin_number {
     KOLLAFRIN_BAD_RECORDS = 30,                 /* The records break the store layout. Index: the first bad one, or count + 1. */
     KOLLAFRIN_MODULE_TOO_LONG = 31,             /* The module has more than 67,108,864 bytes. */
     KOLLAFRIN_TEXT_LONG = 32,                   /* The output is shorter than the text. */
+    KOLLAFRIN_NUMBERS_WRONG = 33,               /* Function or block number of a record is not what the tags call for. Its index. */
     KOLLAFRIN_GRAMMARS_CLASH = 34,              /* Two grammars have a row or an enumerant each in its own way. */
     KOLLAFRIN_JOINED_SHORT = 35                 /* The output is shorter than the two grammars joined. */
 };
@@ -85,8 +87,8 @@ enum kollafrin_load_word {
     KOLLAFRIN_LOAD_BREAKS = 14       /* The lowest byte offset that breaks an accepted module that is not plain, else 0. */
 };
 
-/* The words of an instruction record. */
-enum kollafrin_record { KOLLAFRIN_RECORD = 10 };
+/* The words of an instruction record; KOLLAFRIN_OLD_RECORD in an old book, which lacks function and block number. */
+enum kollafrin_record { KOLLAFRIN_RECORD = 10, KOLLAFRIN_OLD_RECORD = 8 };
 
 /* The presence bits of an instruction record's first word, which is the opcode + 65536 * these. */
 enum kollafrin_presence { KOLLAFRIN_PRESENCE_RESULT_TYPE = 1, KOLLAFRIN_PRESENCE_RESULT_ID = 2 };
@@ -180,7 +182,9 @@ enum kollafrin_stack {
     KOLLAFRIN_STACK_WRITE_MODULE_ORDER = 1500,
     KOLLAFRIN_STACK_DISASSEMBLE = 47000,
     KOLLAFRIN_STACK_STANDING = 1500,
-    KOLLAFRIN_STACK_JOIN = 60000
+    KOLLAFRIN_STACK_JOIN = 60000,
+    KOLLAFRIN_STACK_NEW_BOOK = 1500,
+    KOLLAFRIN_STACK_OLD_BOOK = 1500
 };
 
 /* A sentence for each number, for people; docs/REFERENCE.md ("In words") has the same. 9 has two causes, and for it alone `missing` is looked
@@ -222,6 +226,7 @@ static inline const char *kollafrin_sentence(uint32_t number, int missing) {
     case 30: return "a record breaks the layout of the stores, or has no name in a listing";
     case 31: return "the module has more than 67,108,864 bytes";
     case 32: return "the output is too short for the text";
+    case 33: return "the function or block number is not the one that the tags call for";
     case 34: return "the two grammars have a row or an enumerant each in its own way";
     case 35: return "the output is too short for the two grammars joined";
     default: return "this number is not given";
@@ -263,7 +268,7 @@ uint32_t kollafrin_load_builtin(const uint8_t *module_bytes, size_t module_lengt
 
 /* Writes the header words and the instructions in the order read, and returns 0, 29 or 30. The counts are those of a load's answer
  * (words 4, 5 and 6), or of records made otherwise, which are checked first: 30, and docs/REFERENCE.md ("Writing") says what is bad.
- * Function and block number of a record are not read, here and in the calls below: any will do.
+ * Function and block number of a record are not read, here and in the calls below but kollafrin_old_book: any will do.
  *
  * The records of an accepted module are written as its whole words: 4 * (module_length / 4) bytes.
  *
@@ -301,6 +306,29 @@ uint32_t kollafrin_disassemble(const uint32_t header[5], const uint32_t *instruc
 uint32_t kollafrin_standing(const uint32_t *instructions, size_t instructions_length, const uint8_t *log, size_t log_length,
                             const uint8_t *strings, size_t strings_length, size_t instruction_count, size_t log_count,
                             size_t string_count, uint32_t answer[4]);
+
+/* Turns an old book into a new one: records of eight words, as they were before function and block number were added, into records of ten.
+ * A book is the three stores of a module with their counts, as a writer takes them; `records` is its instruction store. Each record is put
+ * into `out` with its eight words and, behind them, the two numbers that the tags call for (see kollafrin_load). Log and strings are looked
+ * at alone: they are the same in both books.
+ *
+ * Returns 0, 25 or 30: 30 as parse order does, over records of eight words; then 25 where `out` has not room for all records, its length by
+ * KOLLAFRIN_RECORD.
+ *
+ * `answer`: number; index, which is after 30 that of the first bad record from 1, or count + 1, and after 25 that of the first record that
+ * does not fit, else 0; records written; 0. A refusal changes no word of `out` and writes 0 records; else `out` is unchanged past them. */
+uint32_t kollafrin_new_book(const uint32_t *records, size_t records_length, const uint8_t *log, size_t log_length, const uint8_t *strings,
+                            size_t strings_length, size_t instruction_count, size_t log_count, size_t string_count, uint32_t *out,
+                            size_t out_length, uint32_t answer[4]);
+
+/* Turns a new book into an old one: of each record the first eight words. What a book is turned into and back is the same, word for word.
+ *
+ * Returns 0, 25, 30 or 33: 30 as parse order does, over records of ten words; then 33 where function or block number of a record is not the
+ * one that the tags call for, with the index of the first such record; then 25 where `out` has not room for all records, its length by
+ * KOLLAFRIN_OLD_RECORD. `answer` and `out` as above. */
+uint32_t kollafrin_old_book(const uint32_t *records, size_t records_length, const uint8_t *log, size_t log_length, const uint8_t *strings,
+                            size_t strings_length, size_t instruction_count, size_t log_count, size_t string_count, uint32_t *out,
+                            size_t out_length, uint32_t answer[4]);
 
 /* Joins two grammars into one, written to `out`: the rows of both in rising opcodes, then the enumerants of both in rising kinds and values,
  * each with its operands or parameters as they came. One that is in both is taken once, where it is equal in every byte. At most

@@ -44,7 +44,7 @@ static size_t grammar_length;
 struct lent {
     const uint8_t *module;
     size_t length, words;
-    uint32_t *instructions, *types;
+    uint32_t *instructions, *types, *old, *back;
     uint8_t *log, *strings, *out;
     uint32_t load[16], answer[4];
     size_t number;
@@ -63,6 +63,8 @@ static struct lent lend(const uint8_t *module, size_t length) {
     x.log = room(9 * x.words);
     x.strings = room(4 * x.words);
     x.types = room(12 * x.words);
+    x.old = room(sizeof(uint32_t) * KOLLAFRIN_OLD_RECORD * x.words);
+    x.back = room(sizeof(uint32_t) * KOLLAFRIN_RECORD * x.words);
     x.out = room(TEXT * length + grammar_length);
     return x;
 }
@@ -72,6 +74,8 @@ static void take_back(struct lent *x) {
     free(x->log);
     free(x->strings);
     free(x->types);
+    free(x->old);
+    free(x->back);
     free(x->out);
 }
 
@@ -120,6 +124,19 @@ static void join(struct lent *x) {
     x->number = kollafrin_join(grammar, grammar_length, grammar, grammar_length, x->out, x->length + grammar_length, x->answer);
 }
 
+/* The records as an old book, and that as a new one again. */
+static void old_book(struct lent *x) {
+    x->number = kollafrin_old_book(x->instructions, KOLLAFRIN_RECORD * x->words, x->log, 9 * x->words, x->strings, 4 * x->words,
+                                   x->load[KOLLAFRIN_LOAD_INSTRUCTIONS], x->load[KOLLAFRIN_LOAD_LOG], x->load[KOLLAFRIN_LOAD_STRINGS],
+                                   x->old, KOLLAFRIN_OLD_RECORD * x->words, x->answer);
+}
+
+static void new_book(struct lent *x) {
+    x->number = kollafrin_new_book(x->old, KOLLAFRIN_OLD_RECORD * x->words, x->log, 9 * x->words, x->strings, 4 * x->words,
+                                   x->load[KOLLAFRIN_LOAD_INSTRUCTIONS], x->load[KOLLAFRIN_LOAD_LOG], x->load[KOLLAFRIN_LOAD_STRINGS],
+                                   x->back, KOLLAFRIN_RECORD * x->words, x->answer);
+}
+
 struct call {
     const char *name;
     void (*make)(struct lent *);
@@ -127,7 +144,10 @@ struct call {
     unsigned runs;
 };
 
-enum { VERSION, BUILTIN, LOAD, LOAD_SHORT, LOAD_BUILTIN, LOAD_BUILTIN_SHORT, WRITE_PARSE_ORDER, WRITE_MODULE_ORDER, DISASSEMBLE, STANDING, JOIN, CALLS };
+enum {
+    VERSION, BUILTIN, LOAD, LOAD_SHORT, LOAD_BUILTIN, LOAD_BUILTIN_SHORT, WRITE_PARSE_ORDER, WRITE_MODULE_ORDER, DISASSEMBLE, STANDING, JOIN,
+    OLD_BOOK, NEW_BOOK, CALLS
+};
 
 static struct call calls[CALLS] = {
     {"kollafrin_version", version, KOLLAFRIN_STACK_VERSION, 0, 0},
@@ -141,6 +161,8 @@ static struct call calls[CALLS] = {
     {"kollafrin_disassemble", disassemble, KOLLAFRIN_STACK_DISASSEMBLE, 0, 0},
     {"kollafrin_standing", standing, KOLLAFRIN_STACK_STANDING, 0, 0},
     {"kollafrin_join", join, KOLLAFRIN_STACK_JOIN, 0, 0},
+    {"kollafrin_old_book", old_book, KOLLAFRIN_STACK_OLD_BOOK, 0, 0},
+    {"kollafrin_new_book", new_book, KOLLAFRIN_STACK_NEW_BOOK, 0, 0},
 };
 
 /* A THREAD WITH SO MUCH STACK */
@@ -201,7 +223,7 @@ static void hold(int which, struct lent *x) {
     }
 }
 
-/* Every call on one module: what the loads leave is the same, and parse order gives the module back. */
+/* Every call on one module: what the loads leave is the same, parse order gives the module back, and so do the two turns its records. */
 static void hold_all(const uint8_t *module, size_t length) {
     struct lent x = lend(module, length);
     uint32_t first[16];
@@ -224,6 +246,11 @@ static void hold_all(const uint8_t *module, size_t length) {
     expect(x.number == grammar_length && memcmp(x.out, grammar, grammar_length) == 0, "the grammar is another one");
     hold(JOIN, &x);
     expect(x.number == 0 && x.answer[3] == grammar_length && memcmp(x.out, grammar, grammar_length) == 0, "the grammar joined with itself is not itself");
+    hold(OLD_BOOK, &x);
+    expect(x.number == 0 && x.answer[2] == x.load[KOLLAFRIN_LOAD_INSTRUCTIONS], "the records are not turned into an old book");
+    hold(NEW_BOOK, &x);
+    expect(x.number == 0 && memcmp(x.back, x.instructions, sizeof(uint32_t) * KOLLAFRIN_RECORD * x.answer[2]) == 0,
+           "the old book is not turned into the records again");
     take_back(&x);
 }
 
@@ -275,6 +302,11 @@ static void hold_null(const uint8_t *module, size_t length) {
     expect(kollafrin_join(NULL, 0, NULL, 0, NULL, 0, answer) == 0 && answer[3] == 0
                && kollafrin_join(grammar, grammar_length, NULL, 0, NULL, 0, answer) == KOLLAFRIN_JOINED_SHORT,
            "null: kollafrin_join");
+    expect(kollafrin_new_book(NULL, 0, NULL, 0, NULL, 0, 0, 0, 0, NULL, 0, answer) == 0 && answer[2] == 0
+               && kollafrin_new_book(NULL, 0, NULL, 0, NULL, 0, 1, 1, 1, NULL, 0, answer) == KOLLAFRIN_BAD_RECORDS
+               && kollafrin_old_book(NULL, 0, NULL, 0, NULL, 0, 0, 0, 0, NULL, 0, answer) == 0 && answer[2] == 0
+               && kollafrin_old_book(NULL, 0, NULL, 0, NULL, 0, 1, 1, 1, NULL, 0, answer) == KOLLAFRIN_BAD_RECORDS,
+           "null: kollafrin_new_book, kollafrin_old_book");
 }
 
 /* SEVERAL THREADS */
@@ -304,6 +336,8 @@ static uint64_t all_said(void) {
             sum = mixed(sum, x.strings, 4 * x.words);
             sum = mixed(sum, x.types, 12 * x.words);
             sum = mixed(sum, x.out, x.length + grammar_length);
+            sum = mixed(sum, x.old, sizeof(uint32_t) * KOLLAFRIN_OLD_RECORD * x.words);
+            sum = mixed(sum, x.back, sizeof(uint32_t) * KOLLAFRIN_RECORD * x.words);
         }
         take_back(&x);
     }

@@ -1,4 +1,4 @@
-//! The functions of the library, their version and the length of a record as its header has them (include/kollafrin.h). Declared here alone: the drivers under
+//! The functions of the library, their version and the lengths of a record as its header has them (include/kollafrin.h). Declared here alone: the drivers under
 //! bench take this file over by its path.
 
 /// KOLLAFRIN_VERSION: what `kollafrin_version` says of a library that these declarations fit.
@@ -6,6 +6,9 @@ pub const VERSION: u32 = 3;
 
 /// KOLLAFRIN_RECORD: how many words an instruction record has.
 pub const RECORD: usize = 10;
+
+/// KOLLAFRIN_OLD_RECORD: how many it has in an old book.
+pub const OLD_RECORD: usize = 8;
 
 extern "C" {
     pub fn kollafrin_version() -> u32;
@@ -93,6 +96,34 @@ extern "C" {
         instruction_count: usize,
         log_count: usize,
         string_count: usize,
+        answer: *mut [u32; 4],
+    ) -> u32;
+    pub fn kollafrin_new_book(
+        records: *const u32,
+        records_length: usize,
+        log: *const u8,
+        log_length: usize,
+        strings: *const u8,
+        strings_length: usize,
+        instruction_count: usize,
+        log_count: usize,
+        string_count: usize,
+        out: *mut u32,
+        out_length: usize,
+        answer: *mut [u32; 4],
+    ) -> u32;
+    pub fn kollafrin_old_book(
+        records: *const u32,
+        records_length: usize,
+        log: *const u8,
+        log_length: usize,
+        strings: *const u8,
+        strings_length: usize,
+        instruction_count: usize,
+        log_count: usize,
+        string_count: usize,
+        out: *mut u32,
+        out_length: usize,
         answer: *mut [u32; 4],
     ) -> u32;
     pub fn kollafrin_join(

@@ -2,6 +2,7 @@
 //! length, a reference to an array as its pointer. No function is called of a library with another version than the declarations here:
 //! each asks for the version first, which costs less than to remember it.
 
+use crate::books::Book;
 use crate::{c, Error, Records};
 use std::alloc::{alloc_zeroed, Layout};
 
@@ -175,6 +176,40 @@ pub fn standing(records: Records<'_>, answer: &mut [u32; 4]) -> Result<u32, Erro
             answer,
         )
     })
+}
+
+/// A turn of a book: both take the same, and answer alike.
+type Turn =
+    unsafe extern "C" fn(*const u32, usize, *const u8, usize, *const u8, usize, usize, usize, usize, *mut u32, usize, *mut [u32; 4]) -> u32;
+
+/// Turns a book with records of so many words.
+fn turn(turn: Turn, record: usize, book: Book<'_>, out: &mut [u32], answer: &mut [u32; 4]) -> Result<u32, Error> {
+    same_version()?;
+    // Safety: as for a load: live slices with their lengths, and output and answer, which are borrowed mutably.
+    Ok(unsafe {
+        turn(
+            book.records.as_ptr(),
+            book.records.len(),
+            book.log.as_ptr(),
+            book.log.len(),
+            book.strings.as_ptr(),
+            book.strings.len(),
+            book.records.len() / record,
+            book.log.len(),
+            book.strings.len(),
+            out.as_mut_ptr(),
+            out.len(),
+            answer,
+        )
+    })
+}
+
+pub fn new_book(book: Book<'_>, out: &mut [u32], answer: &mut [u32; 4]) -> Result<u32, Error> {
+    turn(c::kollafrin_new_book, c::OLD_RECORD, book, out, answer)
+}
+
+pub fn old_book(book: Book<'_>, out: &mut [u32], answer: &mut [u32; 4]) -> Result<u32, Error> {
+    turn(c::kollafrin_old_book, c::RECORD, book, out, answer)
 }
 
 pub fn join(first: &[u8], second: &[u8], out: &mut [u8], answer: &mut [u32; 4]) -> Result<u32, Error> {

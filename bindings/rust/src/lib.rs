@@ -26,9 +26,9 @@
 //! ```
 //!
 //! A call takes stack, on x86-64 up to 120,000 bytes for [`Module::load`] and 92,000 for [`Module::load_builtin`] (60,000 and 32,000
-//! for a module of 16,384 bytes or less), 1,500 for the writers and [`Module::standing`], 47,000 for [`Module::disassemble`],
-//! 60,000 for [`join`], 500 for any other function of the library; this crate's own functions come on top. A thread that has less
-//! left ends with a fault.
+//! for a module of 16,384 bytes or less), 1,500 for the writers, [`Module::standing`], [`new_book`] and [`old_book`], 47,000 for
+//! [`Module::disassemble`], 60,000 for [`join`], 500 for any other function of the library; this crate's own functions come on top. A
+//! thread that has less left ends with a fault.
 //!
 //! Linking needs the archive `libkollafrin.a`, made by `rt staticlib kollafrin` for x86-64. It is looked for in the folder
 //! `target/staticlib` of the repository, or where the environment variable `KOLLAFRIN_LIB` says.
@@ -39,6 +39,7 @@
 #![warn(missing_docs)]
 #![deny(unsafe_code)]
 
+mod books;
 mod c;
 #[allow(unsafe_code)]
 mod door;
@@ -50,8 +51,8 @@ mod room;
 mod stores;
 mod told;
 
-use c::RECORD;
-pub use c::VERSION;
+pub use books::{new_book, old_book};
+pub use c::{OLD_RECORD, RECORD, VERSION};
 pub use error::Error;
 pub use kinds::{kind, presence, tag};
 pub use records::{Instruction, Instructions, Operand, Operands, Value};
@@ -155,6 +156,20 @@ impl Module {
         Module { header, instructions, log, strings, types, plain: false, breaks: 0 }
     }
 
+    /// A module of an old book, whose instruction records have [`OLD_RECORD`] words each: [`new_book`] turns them, and says what is refused.
+    ///
+    /// ```
+    /// use kollafrin::Module;
+    /// let module = Module::load_builtin(&std::fs::read("../../samples/function.spv")?)?;
+    /// let old = module.old_book()?;
+    /// let (log, strings, types) = (module.log().to_vec(), module.strings().to_vec(), module.type_words().to_vec());
+    /// assert_eq!(Module::from_old_book(module.header(), &old, log, strings, types)?, module);
+    /// # Ok::<(), Box<dyn std::error::Error>>(())
+    /// ```
+    pub fn from_old_book(header: [u32; 5], instructions: &[u32], log: Vec<u8>, strings: Vec<u8>, types: Vec<u32>) -> Result<Module, Error> {
+        Ok(Module::from_stores(header, new_book(instructions, &log, &strings)?, log, strings, types))
+    }
+
     /// Whether the load that made this was accepted and the bytes were plain: no bytes after the last whole word, only zeros after
     /// the ends of strings, embedded opcodes below 65,536. Of records from elsewhere: no.
     pub fn is_plain(&self) -> bool {
@@ -189,6 +204,12 @@ impl Module {
     /// writing agree after the header.
     pub fn standing(&self) -> Result<bool, Error> {
         self.records().standing()
+    }
+
+    /// The instruction words as those of an old book, [`OLD_RECORD`] each, see [`old_book`]; header words, log, strings and types are the same
+    /// there. 30 and 33 can only be of records from elsewhere.
+    pub fn old_book(&self) -> Result<Vec<u32>, Error> {
+        self.records().old_book()
     }
 
     /// Header words and records, borrowed.

@@ -13,9 +13,9 @@ use std::fmt;
 /// ```
 #[derive(Clone, Copy, Debug, Default, PartialEq, Eq, Hash)]
 pub struct Refusal {
-    /// The number of the refusal, 1 to 32; [`sentence`] says what it means.
+    /// The number of the refusal, 1 to 33; [`sentence`] says what it means.
     pub number: u32,
-    /// The place: a byte offset into the module. 0 for 2, 3, 24 and 29 to 32.
+    /// The place: a byte offset into the module. 0 for 2, 3, 24 and 29 to 33.
     pub offset: u32,
     /// The instruction or record, from 1; 0 where the header or the grammar is at fault, and for 29, 31 and 32. After 30, count + 1
     /// means that log or string bytes are left over, or that the records end inside a function.
@@ -43,7 +43,7 @@ impl Refusal {
         match self.number {
             1 => write!(f, " at byte {}", self.offset),
             4..=23 | 25..=28 => write!(f, " at byte {}, instruction {}", self.offset, self.index),
-            30 => write!(f, " at record {}", self.index),
+            30 | 33 => write!(f, " at record {}", self.index),
             _ => Ok(()),
         }
     }
@@ -120,7 +120,7 @@ impl Error for Unjoined {}
 /// The second sentence of 9; [`sentence`] has the first.
 pub const MISSING: &str = "a value or mask that belongs to an operand is missing at the end of the instruction's words";
 
-/// A sentence for each number, 0 to 32, 34 and 35.
+/// A sentence for each number, 0 to 35.
 pub fn sentence(number: u32) -> &'static str {
     match number {
         0 => "the input is accepted",
@@ -156,6 +156,7 @@ pub fn sentence(number: u32) -> &'static str {
         30 => "a record breaks the layout of the stores, or has no name in a listing",
         31 => "the module has more than 67,108,864 bytes",
         32 => "the output is too short for the text",
+        33 => "the function or block number is not the one that the tags call for",
         34 => "the two grammars have a row or an enumerant each in its own way",
         35 => "the output is too short for the two grammars joined",
         _ => "this number is not given",

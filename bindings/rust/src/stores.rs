@@ -1,7 +1,7 @@
 //! Stores that are kept from one load to the next, and the records in them.
 
 use crate::c::RECORD;
-use crate::{door, room, Error, Instructions, Module, Refusal, MOST_MODULE_BYTES};
+use crate::{door, old_book, room, Error, Instructions, Module, Refusal, MOST_MODULE_BYTES};
 
 /// Stores for loads, one after the other: they grow where a longer module comes, and are not cleared in between.
 ///
@@ -156,6 +156,11 @@ impl<'a> Records<'a> {
         }
     }
 
+    /// The instruction words as those of an old book, see [`Module::old_book`].
+    pub fn old_book(self) -> Result<Vec<u32>, Error> {
+        old_book(self.instructions, self.log, self.strings)
+    }
+
     /// The five header words: magic number, version, generator, bound, reserved.
     pub fn header(self) -> [u32; 5] {
         self.header
@@ -169,6 +174,26 @@ impl<'a> Records<'a> {
     /// The instructions in the order they were read.
     pub fn instructions(self) -> Instructions<'a> {
         Instructions::of(self.instructions, self.log, self.strings)
+    }
+
+    /// The words of the instruction records, ten each.
+    pub fn instruction_words(self) -> &'a [u32] {
+        self.instructions
+    }
+
+    /// The bytes of the operand log.
+    pub fn log(self) -> &'a [u8] {
+        self.log
+    }
+
+    /// The bytes of all strings, one after the other.
+    pub fn strings(self) -> &'a [u8] {
+        self.strings
+    }
+
+    /// The words of the type entries, three each.
+    pub fn type_words(self) -> &'a [u32] {
+        self.types
     }
 
     /// Where the last record ends, as a byte offset in the module: the next instruction would start there.

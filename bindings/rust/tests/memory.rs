@@ -1,6 +1,6 @@
 //! Where memory lacks: an allocator that refuses what is larger than a test allows, and keeps the largest request.
 
-use kollafrin::{builtin, join, Error, Module, Refusal};
+use kollafrin::{builtin, join, new_book, Error, Module, Refusal};
 use std::alloc::{GlobalAlloc, Layout, System};
 use std::cell::Cell;
 
@@ -71,6 +71,16 @@ fn output_of_a_write() {
     assert_eq!(with_at_most(8_020, || loaded.write_parse_order()), (Ok(bytes), 8_020));
     assert_eq!(with_at_most(8_020, || loaded.write_module_order().map(|bytes| bytes.len())), (Ok(8_020), 8_020));
     assert_eq!(with_at_most(0, || loaded.standing()), (Ok(false), 0));
+}
+
+#[test]
+fn output_of_a_turn() {
+    let loaded = Module::load_builtin(&module(1000)).unwrap();
+    let old = loaded.old_book().unwrap();
+    assert_eq!(with_at_most(31_999, || loaded.old_book()).0, Err(Error::NoMemory));
+    assert_eq!(with_at_most(32_000, || loaded.old_book()), (Ok(old.clone()), 32_000));
+    assert_eq!(with_at_most(39_999, || new_book(&old, loaded.log(), &[])).0, Err(Error::NoMemory));
+    assert_eq!(with_at_most(40_000, || new_book(&old, loaded.log(), &[]).map(|words| words.len())), (Ok(10_000), 40_000));
 }
 
 #[test]

@@ -1,6 +1,6 @@
 //! Modules through the safe crate: what is kept, what is refused and where, what is written.
 
-use kollafrin::{builtin, join, Error, Module, Refusal, Unjoined, Value, MOST_MODULE_BYTES};
+use kollafrin::{builtin, join, new_book, old_book, Error, Module, Refusal, Stores, Unjoined, Value, MOST_MODULE_BYTES};
 
 /// The header 07230203 00010000 0 0 0 and these words, as bytes.
 fn module(words: &[u32]) -> Vec<u8> {
@@ -163,6 +163,77 @@ fn numbers_are_not_read_by_the_writers() {
     assert_eq!(other.write_module_order(), loaded.write_module_order());
     assert_eq!(other.disassemble(), loaded.disassemble());
     assert_eq!((other.standing(), loaded.standing()), (Ok(false), Ok(false)));
+}
+
+/// Of each record the first eight words.
+fn eight(words: &[u32]) -> Vec<u32> {
+    words.chunks(10).flat_map(|record| &record[..8]).copied().collect()
+}
+
+#[test]
+fn books_are_turned_and_back() {
+    let bytes = two_functions();
+    let loaded = Module::load_builtin(&bytes).unwrap();
+    let (new, log, strings) = (loaded.instruction_words(), loaded.log(), loaded.strings());
+    let old = loaded.old_book().unwrap();
+    assert_eq!((old.len(), &old), (8 * 16, &eight(new)));
+    assert_eq!(old_book(new, log, strings).as_ref(), Ok(&old));
+    assert_eq!(new_book(&old, log, strings).as_deref(), Ok(new));
+    let back = Module::from_old_book(loaded.header(), &old, log.to_vec(), strings.to_vec(), loaded.type_words().to_vec()).unwrap();
+    assert_eq!(back, loaded);
+    assert_eq!(back.write_parse_order(), Ok(bytes.clone()));
+    assert_eq!((back.write_module_order(), back.disassemble()), (loaded.write_module_order(), loaded.disassemble()));
+    // the records in stores that are kept, also of a module that is refused, which ends inside a block
+    let mut stores = Stores::default();
+    let (records, refusal) = stores.load(&bytes[..bytes.len() - 8], None).unwrap();
+    assert_eq!(refusal.map(|refusal| refusal.number), Some(21));
+    let old = records.old_book().unwrap();
+    assert_eq!((records.instruction_words(), records.strings()), (&new[..140], strings));
+    assert_eq!(new_book(&old, records.log(), records.strings()).as_deref(), Ok(&new[..140]));
+    assert_eq!(records.type_words(), loaded.type_words());
+    // words past the last record; no records
+    assert_eq!(new_book(&[&eight(new)[..], &[7; 7]].concat(), log, strings).as_deref(), Ok(new));
+    assert_eq!(old_book(&[new, &[7; 9]].concat(), log, strings), Ok(eight(new)));
+    assert_eq!((new_book(&[], &[], &[]), old_book(&[], &[], &[])), (Ok(vec![]), Ok(vec![])));
+    assert_eq!((new_book(&[7; 7], &[], &[]), Module::default().old_book()), (Ok(vec![]), Ok(vec![])));
+}
+
+#[test]
+fn books_that_are_not_turned() {
+    let refused = |number, index| Err(Error::Refused(Refusal { number, index, ..Refusal::default() }));
+    let loaded = Module::load_builtin(&two_functions()).unwrap();
+    let (new, log, strings) = (loaded.instruction_words(), loaded.log(), loaded.strings());
+    // a number that is not called for, in each record
+    for record in 0..16 {
+        for word in [8, 9] {
+            let mut other = new.to_vec();
+            other[10 * record + word] ^= 1;
+            other[159] ^= 2;
+            assert_eq!(old_book(&other, log, strings), refused(33, record as u32 + 1));
+            assert_eq!(new_book(&eight(&other), log, strings).as_deref(), Ok(new));
+            // a bad record behind it goes before
+            other[151] = 11;
+            assert_eq!(old_book(&other, log, strings), refused(30, 16));
+        }
+    }
+    // each of the eight words; a result type or id that is there may be any
+    for at in (0..160).filter(|at| at % 10 < 8 && !(matches!(at % 10, 3 | 4) && new[*at] != 0)) {
+        let mut other = new.to_vec();
+        other[at] = other[at].wrapping_add(65_537);
+        assert_eq!(old_book(&other, log, strings), refused(30, at as u32 / 10 + 1), "{at}");
+        assert_eq!(new_book(&eight(&other), log, strings), refused(30, at as u32 / 10 + 1), "{at}");
+    }
+    // bytes that are left over, or lack
+    let longer = [log, &[33]].concat();
+    assert_eq!((old_book(new, &longer, strings), new_book(&eight(new), &longer, strings)), (refused(30, 17), refused(30, 17)));
+    assert_eq!((old_book(new, log, b"x"), new_book(&eight(new), log, b"x")), (refused(30, 17), refused(30, 17)));
+    assert_eq!((old_book(new, &log[..1], strings), new_book(&eight(new), &log[..1], strings)), (refused(30, 1), refused(30, 1)));
+    assert_eq!((old_book(&[], log, &[]), new_book(&[], log, &[])), (refused(30, 1), refused(30, 1)));
+    // one kind taken for the other
+    assert_eq!(new_book(new, log, strings), refused(30, 2));
+    assert_eq!(old_book(&eight(new), log, strings), refused(30, 2));
+    let said = Error::Refused(Refusal { number: 33, index: 4, ..Refusal::default() }).to_string();
+    assert_eq!(said, "33 at record 4: the function or block number is not the one that the tags call for");
 }
 
 #[test]

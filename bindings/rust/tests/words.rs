@@ -1,6 +1,7 @@
 //! What is said to people, and the names of numbers: the same in this crate, in the header and in docs/REFERENCE.md.
 
-use kollafrin::{builtin, join, kind, opcode_name, presence, sentence, tag, Module, Refusal, Unjoined, MISSING, VERSION};
+use kollafrin::{builtin, join, kind, opcode_name, presence, sentence, tag, Module, Refusal, Unjoined};
+use kollafrin::{MISSING, OLD_RECORD, RECORD, VERSION};
 use std::collections::{BTreeMap, HashSet};
 
 fn file(path: &str) -> String {
@@ -107,10 +108,12 @@ fn one_version() {
 
 #[test]
 fn one_length_of_a_record() {
-    let record = constants("kollafrin_record", "KOLLAFRIN_")["RECORD"] as usize;
+    let lengths = [("RECORD", RECORD), ("OLD_RECORD", OLD_RECORD)].map(|(name, length)| (name.to_string(), length as u32));
+    assert_eq!(constants("kollafrin_record", "KOLLAFRIN_"), lengths.into());
     let loaded = Module::load_builtin(&module(&[0x0003_000E, 0, 1])).unwrap();
-    assert_eq!(loaded.instruction_words().len(), record);
-    assert_eq!(table(&file("docs/REFERENCE.md"), "### Instructions: ten words each").len(), record);
+    assert_eq!(loaded.instruction_words().len(), RECORD);
+    assert_eq!(loaded.old_book().map(|words| words.len()), Ok(OLD_RECORD));
+    assert_eq!(table(&file("docs/REFERENCE.md"), "### Instructions: ten words each").len(), RECORD);
 }
 
 /// The header 07230203 00010000 0 0 0 and these words, as bytes.
