@@ -1,6 +1,7 @@
 //! Named inputs, chosen by hand: loads with the built-in grammar, small grammars and tight rooms, grammar bytes, records.
 //! Nothing here judges anything.
 
+use crate::books::{called_for, old_of, Turn, Turned, OLD_RECORD};
 use crate::grow::*;
 use crate::reading::*;
 
@@ -10,6 +11,10 @@ pub enum Input {
     Load { module: Vec<u8>, grammar: Option<Vec<u8>>, rooms: [usize; 4] },
     /// Records with a header and the length of the lent output: both writers and standing.
     Records { header: [u32; 5], stores: Stores, output: usize },
+    /// A new book, and the old one that has the first eight words of each record: both turns, outputs long and short.
+    Books { stores: Stores },
+    /// A book with what comes of turning it into an output of this many words.
+    Turned { turn: Turn, stores: Stores, output: usize, turned: Turned },
 }
 
 pub struct Case {
@@ -24,6 +29,7 @@ pub fn all(builtin: &Grammar) -> Vec<Case> {
     rooms_and_grammars(&mut cases);
     grammar_bytes_alone(&mut cases);
     records(&mut cases);
+    books(&mut cases);
     plain(&mut cases);
     cases.all
 }
@@ -53,6 +59,14 @@ impl<'a> Cases<'a> {
 
     fn records(&mut self, name: &str, header: [u32; 5], stores: &Stores, output: usize) {
         self.all.push(Case { name: name.to_string(), input: Input::Records { header, stores: stores.clone(), output } });
+    }
+
+    fn books(&mut self, name: &str, stores: &Stores) {
+        self.all.push(Case { name: name.to_string(), input: Input::Books { stores: stores.clone() } });
+    }
+
+    fn turned(&mut self, name: &str, turn: Turn, stores: &Stores, output: usize, turned: Turned) {
+        self.all.push(Case { name: name.to_string(), input: Input::Turned { turn, stores: stores.clone(), output, turned } });
     }
 
     fn grower(&self) -> Grower<'a> {
@@ -1014,10 +1028,13 @@ fn record(fields: [u32; 8]) -> [u32; RECORD] {
     all
 }
 
-/// The calls over stores; outputs that are ample.
+/// The calls over stores, and both turns; outputs that are ample.
 fn e_three(p: &mut Cases, name: &str, header: [u32; 5], s: &Stores) {
     let ample = 20 + 4 * s.instructions.chunks(RECORD).map(|r| *r.get(7).unwrap_or(&0) as usize).filter(|w| *w < 70_000).sum::<usize>();
     p.records(name, header, s, ample);
+    if header == H {
+        p.books(name, s);
+    }
 }
 
 /// Stores of a module whose records are kept even where its end is open.
@@ -1356,6 +1373,131 @@ fn e_long(p: &mut Cases) {
     e_three(p, "big/operands-more", H, &more);
     more.instructions[6] = u32::MAX;
     e_three(p, "big/operands-most", H, &more);
+}
+
+// ------------------------------------------------------------------------------------------ Books
+
+/// Books with function and block numbers that are called for and others, and what the request says of some.
+fn books(p: &mut Cases) {
+    for (name, s) in e_bases(p) {
+        for n in 0..s.counts[0] {
+            for word in [8, 9] {
+                let at = RECORD * n + word;
+                for new in [s.instructions[at] + 1, s.instructions[at].wrapping_sub(1), u32::MAX, s.instructions[at] ^ 0x8000_0000] {
+                    let mut other = s.clone();
+                    other.instructions[at] = new;
+                    p.books(&format!("books/{name}-{}-{word}-{new}", n + 1), &other);
+                }
+            }
+            // the two numbers the other way round, and those of the record before
+            let mut other = s.clone();
+            other.instructions.swap(RECORD * n + 8, RECORD * n + 9);
+            p.books(&format!("books/{name}-{}-swapped", n + 1), &other);
+            if n > 0 {
+                let mut other = s.clone();
+                other.instructions.copy_within(RECORD * n - 2..RECORD * n, RECORD * n + 8);
+                p.books(&format!("books/{name}-{}-before", n + 1), &other);
+            }
+        }
+        b_stray(p, name, &s);
+        b_each_short(p, name, &s);
+    }
+    b_told(p);
+}
+
+/// The old store with words behind its records, and cut by each number of words; the new one likewise.
+fn b_stray(p: &mut Cases, name: &str, s: &Stores) {
+    for (turn, book) in [(Turn::New, old_of(s)), (Turn::Old, s.clone())] {
+        let (from, to) = turn.lengths();
+        let whole = crate::books::turn(turn, &book, usize::MAX);
+        for stray in 1..=from {
+            let mut longer = book.clone();
+            longer.instructions.extend(1..=stray as u32);
+            longer.log.extend([34, 1, 2, 3, 4, 5]);
+            longer.strings.extend(b"xy");
+            p.turned(&format!("books/{name}-stray-{stray}"), turn, &longer, to * s.counts[0] + stray, whole.clone());
+            if s.counts[0] > 0 {
+                let mut cut = book.clone();
+                cut.instructions.truncate(from * s.counts[0] - stray);
+                let refused = Turned { number: 30, index: s.counts[0], ..Turned::default() };
+                p.turned(&format!("books/{name}-cut-{stray}"), turn, &cut, to * s.counts[0], refused);
+            }
+        }
+    }
+}
+
+/// Outputs of every length up to all records: 25 names the first record that does not fit.
+fn b_each_short(p: &mut Cases, name: &str, s: &Stores) {
+    for (turn, book) in [(Turn::New, old_of(s)), (Turn::Old, s.clone())] {
+        let (_, to) = turn.lengths();
+        for output in 0..to * s.counts[0] {
+            let refused = Turned { number: 25, index: output / to + 1, ..Turned::default() };
+            p.turned(&format!("books/{name}-short-{output}"), turn, &book, output, refused);
+        }
+    }
+}
+
+/// What the papers say of single books, in numbers.
+fn b_told(p: &mut Cases) {
+    let refused = |number, index| Turned { number, index, ..Turned::default() };
+    let bare = stores_of(p, &inst(317, &[]));
+    let two = stores_of(p, &insts(&[inst(317, &[]), inst(317, &[])]));
+    let whole = |turn: Turn, s: &Stores| {
+        let words = if turn == Turn::New { s.instructions.clone() } else { old_of(s).instructions };
+        Turned { number: 0, index: 0, records: s.counts[0], words }
+    };
+    for (turn, of) in [(Turn::New, old_of as fn(&Stores) -> Stores), (Turn::Old, |s: &Stores| s.clone())] {
+        let (_, to) = turn.lengths();
+        // "H 0001013D loaded, log count 1: 30 at 2"
+        let mut left = of(&bare);
+        left.counts[1] = 1;
+        p.turned("books/log-count", turn, &left, 2 * to, refused(30, 2));
+        left.log.push(33);
+        p.turned("books/log-left", turn, &left, 2 * to, refused(30, 2));
+        left.counts[1] = 0;
+        left.counts[2] = 1;
+        p.turned("books/string-count", turn, &left, 0, refused(30, 2));
+        // "Two records, 19 words: 25 at 2"
+        p.turned("books/two-short", turn, &of(&two), 2 * to - 1, refused(25, 2));
+        p.turned("books/two-fit", turn, &of(&two), 2 * to, whole(turn, &two));
+        p.turned("books/two-none", turn, &of(&two), 0, refused(25, 1));
+        // "Count 0 is turned"
+        let mut none = of(&two);
+        none.counts[0] = 0;
+        let empty = Turned::default();
+        p.turned("books/count-zero", turn, &none, 0, empty.clone());
+        p.turned("books/count-zero-room", turn, &none, 9, empty);
+        // "an old book with every tag 0: 30 at 1"
+        let mut untagged = two.clone();
+        (untagged.instructions[1], untagged.instructions[RECORD + 1]) = (0, 0);
+        p.turned("books/tags-zero", turn, &of(&untagged), 2 * to, refused(30, 1));
+        // a count past the store, before a short output
+        let mut past = of(&two);
+        past.counts[0] = 3;
+        p.turned("books/count-past", turn, &past, 0, refused(30, 3));
+    }
+    // "bad record 2, wrong numbers in record 1: 30 at 2"; 33 before 25; both numbers wrong in two records
+    let mut wrong = two.clone();
+    wrong.instructions[8] = 1;
+    let mut bad = wrong.clone();
+    bad.instructions[RECORD + 1] = 15;
+    p.turned("books/wrong-and-bad", Turn::Old, &bad, 2 * OLD_RECORD, refused(30, 2));
+    for output in [0, OLD_RECORD, 2 * OLD_RECORD - 1, 2 * OLD_RECORD] {
+        p.turned("books/wrong-and-short", Turn::Old, &wrong, output, refused(33, 1));
+    }
+    wrong.instructions[8] = 0;
+    wrong.instructions[RECORD + 9] = 7;
+    p.turned("books/second-wrong-and-short", Turn::Old, &wrong, OLD_RECORD, refused(33, 2));
+    // an old book has no numbers to be wrong
+    p.turned("books/numbers-given", Turn::New, &old_of(&wrong), 2 * RECORD, whole(Turn::New, &two));
+    // records that end inside a block, with the numbers by hand
+    let mut open = stores_of(p, &insts(&[opening(State::Block), inst(55, &[1, 9]), inst(317, &[])]));
+    for (record, numbers) in open.instructions.chunks_mut(RECORD).zip([[1, 0], [1, 1], [1, 0], [1, 1]]) {
+        record[8..].copy_from_slice(&numbers);
+    }
+    assert_eq!(called_for(&[12, 14, 13, 15]), [[1, 0], [1, 1], [1, 0], [1, 1]]);
+    p.turned("books/open", Turn::New, &old_of(&open), 4 * RECORD, whole(Turn::New, &open));
+    p.turned("books/open", Turn::Old, &open, 4 * OLD_RECORD, whole(Turn::Old, &open));
 }
 
 // ------------------------------------------------------------------------------------------ Plain

@@ -1,6 +1,7 @@
 //! The inputs: systematic ones once, random ones in rounds. All of them follow from the seed, whatever the number of threads.
 
 use crate::judge::Judge;
+use compare::books::{old_of, Turn};
 use compare::cases::{self, Input};
 use compare::grow::*;
 use compare::joining;
@@ -168,6 +169,22 @@ fn named(judge: &mut Judge, input: &Input) {
             judge.load("named grammars and rooms", module, grammar.as_deref(), *rooms);
         }
         Input::Records { header, stores, output } => judge.records("named records", *header, stores, *output),
+        Input::Books { stores } => books("named books", judge, stores),
+        Input::Turned { turn, stores, output, turned } => {
+            judge.turn_to("named books and what comes of them", *turn, stores, *output, turned)
+        }
+    }
+}
+
+/// A new book and the old one with the first eight words of each record: both turns, into outputs exactly long enough, a word and a record
+/// short, longer and empty.
+fn books(group: &'static str, judge: &mut Judge, new: &Stores) {
+    for (turn, stores) in [(Turn::New, old_of(new)), (Turn::Old, new.clone())] {
+        let (from, to) = turn.lengths();
+        let needed = to * new.counts[0].min(stores.instructions.len() / from + 2);
+        for output in [needed, needed.saturating_sub(1), needed.saturating_sub(to), needed + 7, 0] {
+            judge.turn(group, turn, &stores, output);
+        }
     }
 }
 
@@ -381,6 +398,8 @@ fn whole_shader(judge: &mut Judge, shader: &[u8], seed: u64) {
         judge.module("shaders", &shader[..cut]);
     }
     judge.any_numbers("records with any function and block numbers", shader, || random_number(&mut rng));
+    judge.there_and_back("books turned and back", shader);
+    (0..20).for_each(|_| random_books(judge, &mut rng, shader));
     let load = load_with(shader, judge.builtin, enough(shader));
     let [records, log, strings, types] = load.counts();
     let need = [RECORD * records, log, strings, 3 * types];
@@ -394,7 +413,7 @@ fn whole_shader(judge: &mut Judge, shader: &[u8], seed: u64) {
 
 // --------------------------------------------------------------------------------- Random rounds
 
-/// One round of random inputs, some 330 of them.
+/// One round of random inputs, some 900 of them.
 pub fn round(judge: &mut Judge, builtin: &Grammar, shaders: &[Vec<u8>], seed: u64) {
     let mut grower = Grower::new(builtin, seed);
     let mut grown: Vec<Vec<u8>> = vec![];
@@ -443,6 +462,10 @@ pub fn round(judge: &mut Judge, builtin: &Grammar, shaders: &[Vec<u8>], seed: u6
         random_records(judge, &mut grower.rng, m);
         unnamed_records(judge, &mut grower.rng, m);
         judge.any_numbers("records with any function and block numbers", m, || random_number(&mut grower.rng));
+    }
+    for m in grown.iter().take(12) {
+        judge.there_and_back("books turned and back", m);
+        random_books(judge, &mut grower.rng, m);
     }
 }
 
@@ -767,11 +790,42 @@ fn random_triples(judge: &mut Judge, rng: &mut Rng) {
     }
 }
 
-/// The records of a module, as they are and with one thing changed: a field, a log byte, a string byte, a count, a slice.
+/// The records of a module, as they are and with one thing changed.
 fn random_records(judge: &mut Judge, rng: &mut Rng, module: &[u8]) {
     let load = load_with(module, judge.builtin, enough(module));
     let mut s = Stores::of(&load);
     let ample = 20 + 4 * load.instructions.iter().map(|r| r[7] as usize).sum::<usize>();
+    change(rng, &mut s);
+    let output = match rng.below(5) {
+        0 => rng.below(ample + 1),
+        1 => ample - 1,
+        _ => ample + rng.below(9),
+    };
+    judge.records("random records", load.header, &s, output);
+}
+
+/// The book of a module as it is, with one thing changed, with other function and block numbers in a record, and with both.
+fn random_books(judge: &mut Judge, rng: &mut Rng, module: &[u8]) {
+    let load = load_with(module, judge.builtin, enough(module));
+    let mut s = Stores::of(&load);
+    if rng.chance(40) {
+        change(rng, &mut s);
+    }
+    let records = s.instructions.len() / RECORD;
+    if records > 0 && rng.chance(50) {
+        let at = RECORD * rng.below(records) + 8 + rng.below(2);
+        s.instructions[at] = random_number(rng);
+    }
+    if rng.chance(30) {
+        s.instructions.extend((0..rng.below(2 * RECORD)).map(|n| n as u32));
+        s.log.extend([33, 1, 2]);
+        s.strings.extend(b"x");
+    }
+    books("random books", judge, &s);
+}
+
+/// One thing changed in records: a field, a log byte, a string byte, a count, a slice; or nothing.
+fn change(rng: &mut Rng, s: &mut Stores) {
     match rng.below(7) {
         0 | 1 if !s.instructions.is_empty() => {
             let at = rng.below(s.instructions.len());
@@ -814,12 +868,6 @@ fn random_records(judge: &mut Judge, rng: &mut Rng, module: &[u8]) {
         },
         _ => (),
     }
-    let output = match rng.below(5) {
-        0 => rng.below(ample + 1),
-        1 => ample - 1,
-        _ => ample + rng.below(9),
-    };
-    judge.records("random records", load.header, &s, output);
 }
 
 /// The records of a module with other values in operands, and with other opcodes in blocks: their layout is good, and names are missing.

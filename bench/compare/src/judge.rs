@@ -1,6 +1,7 @@
 //! Each input is put to the library and to its judges, and what happened is counted.
 
 use crate::library::{self, byte_before, word_before, Form, Loaded};
+use compare::books::{self, old_of, Turn};
 use compare::grow::enough;
 use compare::joining;
 use compare::krate;
@@ -34,6 +35,8 @@ pub struct Tally {
     pub but_for: [u64; 4],
     /// records that show each of `NUMBERED`
     pub numbered: [u64; 4],
+    /// books turned into new ones and into old ones, by the numbers of `TURNED`
+    pub turned: [[u64; 4]; 2],
 }
 
 impl Default for Tally {
@@ -53,6 +56,7 @@ impl Default for Tally {
             standing: 0,
             but_for: [0; 4],
             numbered: [0; 4],
+            turned: [[0; 4]; 2],
         }
     }
 }
@@ -80,6 +84,7 @@ impl Tally {
         self.standing += other.standing;
         self.but_for.iter_mut().zip(other.but_for).for_each(|(a, b)| *a += b);
         self.numbered.iter_mut().zip(other.numbered).for_each(|(a, b)| *a += b);
+        self.turned.iter_mut().flatten().zip(other.turned.iter().flatten()).for_each(|(a, b)| *a += b);
     }
 }
 
@@ -123,6 +128,9 @@ pub const KIND_NAMES: [&str; 19] = [
 /// What function and block numbers can show beside the layout cells.
 pub const NUMBERED: [&str; 4] =
     ["a second function", "a second block", "a block number that starts again", "a block that goes on after a parameter"];
+
+/// The numbers that a turn can give; 33 that into an old book alone.
+pub const TURNED: [u32; 4] = [0, 25, 30, 33];
 
 pub struct Judge<'a> {
     /// The built-in grammar as the separate reading has it.
@@ -437,6 +445,62 @@ impl Judge<'_> {
         Ok(parse)
     }
 
+    /// A book turned into an output of this many words: the reading judges.
+    pub fn turn(&mut self, group: &'static str, turn: Turn, stores: &Stores, output: usize) {
+        self.turn_to(group, turn, stores, output, &books::turn(turn, stores, output));
+    }
+
+    /// A book turned, with what is to come of it.
+    pub fn turn_to(&mut self, group: &'static str, turn: Turn, stores: &Stores, output: usize, wanted: &books::Turned) {
+        let turned = library::turn(turn, stores, output);
+        self.number(turned.returned);
+        self.count(group, turned.returned == 0);
+        if let Some(n) = TURNED.iter().position(|number| *number == turned.returned) {
+            self.tally.turned[turn as usize][n] += 1;
+        }
+        if let Err(what) = same_turned(&turned, wanted) {
+            self.differs(group, &what, || {
+                format!(
+                    "{turn:?}, output {output}, counts {:?}\n  instructions {:?}\n  log {}\n  strings {}",
+                    stores.counts,
+                    stores.instructions,
+                    hex(&stores.log),
+                    hex(&stores.strings)
+                )
+            });
+        }
+    }
+
+    /// The book of a module, accepted or not, into an old one and back: the same words, of which everything is written as before.
+    pub fn there_and_back(&mut self, group: &'static str, module: &[u8]) {
+        let loaded = library::load(module, None, enough(module));
+        self.count(group, loaded.number() == 0);
+        if let Err(what) = self.same_again(module, &loaded) {
+            self.differs(group, &what, || format!("module {}", hex(module)));
+        }
+    }
+
+    fn same_again(&mut self, module: &[u8], loaded: &Loaded) -> Result<(), Difference> {
+        let (header, new) = (loaded.header(), stores_of(loaded));
+        let [count, ..] = new.counts;
+        let old = library::turn(Turn::Old, &new, books::OLD_RECORD * count);
+        differ("the old book's answer", (old.returned, old.answer), (0, [0, 0, count as u32, 0]))?;
+        let old = Stores { instructions: old.out, ..new.clone() };
+        differ("the old book", &old.instructions[..], &old_of(&new).instructions[..books::OLD_RECORD * count])?;
+        let back = library::turn(Turn::New, &old, RECORD * count);
+        differ("the new book's answer", (back.returned, back.answer), (0, [0, 0, count as u32, 0]))?;
+        differ("old and new again", &back.out[..], &new.instructions[..RECORD * count])?;
+        let back = Stores { instructions: back.out, ..new.clone() };
+        let again = library::turn(Turn::Old, &back, books::OLD_RECORD * count);
+        differ("new and old again", &again.out, &old.instructions)?;
+        let ample = module.len().max(text::disassemble(header, &new, usize::MAX).bytes.len());
+        for form in [Form::Parse, Form::Module, Form::Text] {
+            let [one, two] = [&new, &back].map(|stores| library::write(form, header, stores, ample));
+            differ(&format!("{form:?} of the turned book"), two, one)?;
+        }
+        differ("standing of the turned book", library::standing(&back), library::standing(&new))
+    }
+
     /// Two grammars joined into an output of this length, as the reading has it: the number.
     pub fn join(&mut self, group: &'static str, first: &[u8], second: &[u8], output: usize) -> u32 {
         let joined = library::join(first, second, output);
@@ -505,6 +569,13 @@ fn same_load(module: &[u8], loaded: &Loaded, by_reading: &Load) -> Result<(), Di
     store("log", &loaded.log, &by_reading.log, byte_before)?;
     store("strings", &loaded.strings, &by_reading.strings, byte_before)?;
     store("types", &loaded.types, &by_reading.types.concat(), word_before)
+}
+
+fn same_turned(turned: &library::Turned, wanted: &books::Turned) -> Result<(), Difference> {
+    let answer = [wanted.number, wanted.index as u32, wanted.records as u32, 0];
+    differ("the turn's answer (number, index, records, 0)", turned.answer, answer)?;
+    differ("the number returned", turned.returned, wanted.number)?;
+    store("the turned records", &turned.out, &wanted.words, word_before)
 }
 
 fn same_joined(joined: &library::Written, by_reading: &joining::Joined) -> Result<(), Difference> {

@@ -16,6 +16,9 @@ pub mod text;
 /// A separate reading of two grammars joined.
 pub mod joining;
 
+/// A separate reading of last season's books.
+pub mod books;
+
 /// Seeded inputs: modules grown from a grammar, damaged copies.
 pub mod grow;
 

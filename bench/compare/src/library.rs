@@ -1,12 +1,13 @@
 //! The library's functions. Every lent store is filled with a pattern first, so that what a call leaves alone can be seen.
 
+use compare::books::Turn;
 use compare::reading::Stores;
 
 #[path = "../../../bindings/rust/src/c.rs"]
 mod c;
 
-// The reading's length of a record is the header's.
-const _: () = assert!(c::RECORD == compare::reading::RECORD);
+// The reading's lengths of a record are the header's.
+const _: () = assert!(c::RECORD == compare::reading::RECORD && c::OLD_RECORD == compare::books::OLD_RECORD);
 
 /// What a word or byte of a lent store holds before the call.
 pub fn word_before(n: usize) -> u32 {
@@ -147,6 +148,42 @@ pub fn join(first: &[u8], second: &[u8], output: usize) -> Written {
     let returned =
         unsafe { c::kollafrin_join(first.as_ptr(), first.len(), second.as_ptr(), second.len(), out.as_mut_ptr(), out.len(), &mut answer) };
     Written { returned, answer, out }
+}
+
+/// A turn's answer and the whole lent output after it.
+#[derive(Clone, Debug, PartialEq, Eq)]
+pub struct Turned {
+    pub returned: u32,
+    pub answer: [u32; 4],
+    pub out: Vec<u32>,
+}
+
+/// A book turned.
+pub fn turn(turn: Turn, s: &Stores, output: usize) -> Turned {
+    let call = match turn {
+        Turn::New => c::kollafrin_new_book,
+        Turn::Old => c::kollafrin_old_book,
+    };
+    let mut out = words(output);
+    let mut answer = [ANSWER_BEFORE; 4];
+    let [records, log, strings] = s.counts;
+    let returned = unsafe {
+        call(
+            s.instructions.as_ptr(),
+            s.instructions.len(),
+            s.log.as_ptr(),
+            s.log.len(),
+            s.strings.as_ptr(),
+            s.strings.len(),
+            records,
+            log,
+            strings,
+            out.as_mut_ptr(),
+            out.len(),
+            &mut answer,
+        )
+    };
+    Turned { returned, answer, out }
 }
 
 pub fn standing(s: &Stores) -> Written {

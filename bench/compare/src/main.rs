@@ -8,7 +8,7 @@ mod library;
 
 use compare::reading::{is_mask, Grammar, BROKEN, STANDING};
 use compare::{krate, GRAMMAR};
-use judge::{Judge, Tally, KIND_NAMES, NUMBERED};
+use judge::{Judge, Tally, KIND_NAMES, NUMBERED, TURNED};
 use std::path::Path;
 use std::sync::atomic::{AtomicU64, Ordering};
 use std::time::{Duration, Instant};
@@ -119,19 +119,21 @@ fn print(tally: &Tally) {
     println!("standing but for one rule: {}", but_for.join(", "));
     let numbered: Vec<String> = NUMBERED.iter().zip(tally.numbered).map(|(what, times)| format!("{what} {times}")).collect();
     println!("function and block numbers: {}", numbered.join(", "));
+    for (into, times) in ["new", "old"].iter().zip(&tally.turned) {
+        let numbers: Vec<String> = TURNED.iter().zip(times).map(|(number, times)| format!("{number}:{times}")).collect();
+        println!("turned into {into} books: {}", numbers.join(" "));
+    }
     for (rule, times) in &tally.let_through {
         println!("let through: {rule}: {times}");
     }
 }
 
-/// No call gives this number.
-const NOT_GIVEN: usize = 33;
-
 /// What a run must show: every number, every layout cell, every log kind, plain form broken in every way, each rule of standing broken
-/// alone, function and block numbers past the first and from 1 again, a third of the random modules accepted.
+/// alone, function and block numbers past the first and from 1 again, every number of both turns of a book, a third of the random modules
+/// accepted.
 fn missing(tally: &Tally) -> Vec<String> {
     let mut all = vec![];
-    all.extend(tally.numbers.iter().enumerate().filter(|(n, times)| **times == 0 && *n != NOT_GIVEN).map(|(n, _)| format!("number {n}")));
+    all.extend(tally.numbers.iter().enumerate().filter(|(_, times)| **times == 0).map(|(n, _)| format!("number {n}")));
     for (name, cells) in KIND_NAMES.iter().zip(&tally.cells) {
         let states = ["outside", "function", "block"];
         all.extend(cells.iter().zip(states).filter(|(times, _)| **times == 0).map(|(_, state)| format!("layout cell {name}, {state}")));
@@ -140,6 +142,10 @@ fn missing(tally: &Tally) -> Vec<String> {
     all.extend(BROKEN.iter().zip(&tally.broken[1..]).filter(|(_, times)| **times == 0).map(|(what, _)| format!("not plain: {what}")));
     all.extend(STANDING.iter().zip(tally.but_for).filter(|(_, times)| *times == 0).map(|(rule, _)| format!("standing but for: {rule}")));
     all.extend(NUMBERED.iter().zip(tally.numbered).filter(|(_, times)| *times == 0).map(|(what, _)| format!("numbers: {what}")));
+    for (into, times) in ["new", "old"].iter().zip(&tally.turned) {
+        let none = TURNED.iter().zip(times).filter(|(number, times)| **times == 0 && (*into, **number) != ("new", 33));
+        all.extend(none.map(|(number, _)| format!("turned into {into} books: {number}")));
+    }
     let random = tally.groups.get("random modules").copied().unwrap_or_default();
     if 3 * random.accepted < random.inputs {
         all.push(format!("a third of the random modules accepted: {} of {}", random.accepted, random.inputs));

@@ -803,11 +803,16 @@ struct Reach {
 /// The check of records (30): the pieces, or the index of the first bad record, or count + 1 for
 /// leftover log or string bytes and, where records must not end inside a function, an open end.
 pub fn check_records(stores: &Stores, must_close: bool) -> Result<Vec<Piece>, usize> {
+    check_records_of(RECORD, stores, must_close)
+}
+
+/// The same over records of so many words, eight or more.
+pub fn check_records_of(length: usize, stores: &Stores, must_close: bool) -> Result<Vec<Piece>, usize> {
     let [count, log_count, string_count] = stores.counts;
     let mut reach = Reach { offset: 20, log: 0, strings: 0, state: State::Outside };
     let mut pieces = vec![];
     for n in 0..count {
-        let good = stores.instructions.get(RECORD * n..RECORD * n + RECORD).and_then(|record| check_record(stores, record, &mut reach));
+        let good = stores.instructions.get(length * n..length * n + length).and_then(|record| check_record(stores, record, &mut reach));
         pieces.push(good.ok_or(n + 1)?);
     }
     let leftover = reach.log != log_count || reach.strings != string_count;
@@ -820,7 +825,7 @@ pub fn check_records(stores: &Stores, must_close: bool) -> Result<Vec<Piece>, us
 
 /// One record after those in `reach`; none when it is bad. "The writers do not read the two numbers."
 fn check_record(stores: &Stores, record: &[u32], reach: &mut Reach) -> Option<Piece> {
-    let [head, tag, offset, result_type, result_id, start, operands, words, _, _]: [u32; RECORD] = record.try_into().unwrap();
+    let [head, tag, offset, result_type, result_id, start, operands, words]: [u32; 8] = record[..8].try_into().unwrap();
     let (opcode, presence) = (head as u16, head >> 16);
     let (has_type, has_id) = (presence & 1 != 0, presence & 2 != 0);
     let (given, next) = layout(layout_kind(opcode), reach.state).ok()?;
