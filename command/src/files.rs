@@ -23,6 +23,33 @@ fn at_most(path: &Path, bytes: &mut Vec<u8>, most: u64) -> io::Result<()> {
     file.take(most).read_to_end(bytes).map(drop)
 }
 
+/// A book as it was read, and how long it is: of one that is longer than any book with its counts no more is read than that tells, and how
+/// long it is is not known where it is no file.
+pub struct Book {
+    pub bytes: Vec<u8>,
+    pub length: Option<u64>,
+}
+
+/// Reads a book: the bytes before its records, and as many more as these say that a book has at most.
+pub fn read_book(path: &Path, head: usize, most: impl Fn(&[u8]) -> u64) -> Result<Book, Stop> {
+    let failed = |fault: io::Error| Stop::Failed(unread(path, &fault));
+    let (mut from, whole): (Box<dyn Read>, _) = if path.as_os_str() == "-" {
+        (Box::new(io::stdin().lock()), None)
+    } else {
+        let file = File::open(path).map_err(failed)?;
+        let whole = file.metadata().ok().filter(|about| about.is_file()).map(|about| about.len());
+        (Box::new(file), whole)
+    };
+    let mut bytes = Vec::new();
+    from.by_ref().take(head as u64).read_to_end(&mut bytes).map_err(failed)?;
+    let most = most(&bytes);
+    let expected = whole.map_or(0, |length| length.min(most) as usize);
+    bytes.try_reserve(expected).map_err(|_| failed(io::ErrorKind::OutOfMemory.into()))?;
+    from.take((most + 1).saturating_sub(bytes.len() as u64)).read_to_end(&mut bytes).map_err(failed)?;
+    let read = bytes.len() as u64;
+    Ok(Book { length: if read > most { whole } else { Some(read) }, bytes })
+}
+
 /// Reads the one file of a call.
 pub fn read_one(path: &Path) -> Result<Vec<u8>, Stop> {
     let mut bytes = Vec::new();

@@ -465,6 +465,171 @@ fn grammars_that_are_not_joined() {
     nothing_beside(&at);
 }
 
+/// The words of a book's records, changed by `change`, in the bytes of a book.
+fn with_records(book: &[u8], change: impl Fn(&mut [u8])) -> Vec<u8> {
+    let mut other = book.to_vec();
+    change(&mut other[36..]);
+    other
+}
+
+/// Loaded, turned into an old book and back, each module under samples: byte for byte.
+#[test]
+fn books_are_loaded_and_turned() {
+    let at = folder("books");
+    for (sample, listing) in samples() {
+        let [new, old, back] = ["new", "old", "back"].map(|name| path(&at, &format!("{}-{name}", sample.replace('/', "-"))));
+        let (status, said, err) = run(&["book", "load", &sample, "-o", &new]);
+        let Some(count) = listing.lines().last().unwrap().strip_prefix("accepted ") else {
+            assert_eq!((status, said.as_str()), (1, ""), "{sample}");
+            assert!(err.starts_with(&format!("kollafrin: {sample}: ")) && fs::symlink_metadata(&new).is_err(), "{err}");
+            continue;
+        };
+        let book = fs::read(&new).unwrap();
+        assert_eq!((status, said, err.as_str()), (0, format!("{new}: {} bytes, {sample} as a new book\n", book.len()), ""));
+        assert_eq!(u32::from_le_bytes(book[..4].try_into().unwrap()).to_string(), count);
+        assert_eq!(book[16..36], fs::read(format!("{ROOT}/{sample}")).unwrap()[..20]);
+        let shorter = book.len() - 8 * count.parse::<usize>().unwrap();
+        let said_old = format!("{old}: {shorter} bytes, {new} as an old book\n");
+        assert_eq!(run(&["book", "old", &new, "-o", &old]), (0, said_old, String::new()));
+        let said_new = format!("{back}: {} bytes, {old} as a new book\n", book.len());
+        assert_eq!(run(&["book", "new", &old, "-o", &back]), (0, said_new, String::new()));
+        assert!(fs::read(&back).unwrap() == book, "{sample}");
+        // all but the records is the same
+        let (records, turned) = (36 + 40 * (book.len() - shorter) / 8, fs::read(&old).unwrap());
+        let old_records = 36 + 32 * (book.len() - shorter) / 8;
+        assert!(turned[..36] == book[..36] && turned[old_records..] == book[records..], "{sample}");
+        for (eight, ten) in turned[36..old_records].chunks(32).zip(book[36..records].chunks(40)) {
+            assert_eq!(eight, &ten[..32]);
+        }
+    }
+    // the books that are kept beside the samples
+    for (call, from, kept) in [
+        ("load", "samples/function.spv", "samples/function.new.book"),
+        ("old", "samples/function.new.book", "samples/function.old.book"),
+        ("new", "samples/function.old.book", "samples/function.new.book"),
+    ] {
+        let output = command(&["book", call, from, "-o", "-"]).output().unwrap();
+        assert!(output.stdout == fs::read(format!("{ROOT}/{kept}")).unwrap(), "{call} {from}");
+    }
+    nothing_beside(&at);
+}
+
+/// From standard input and to standard output, by force and not, by a lent grammar, as objects.
+#[test]
+fn books_as_any_other_file() {
+    let at = folder("book-files");
+    let [new, old, out, grammar, house] = ["new", "old", "out", "grammar", "house.spv"].map(|name| path(&at, name));
+    assert_eq!(run(&["book", "load", "samples/colour.spv", "-o", &new]).0, 0);
+    assert_eq!(run(&["book", "old", &new, "-o", &old]).0, 0);
+    let [of_new, of_old] = [&new, &old].map(|path| fs::read(path).unwrap());
+    let colour = fs::read(format!("{ROOT}/samples/colour.spv")).unwrap();
+    for (call, input, output) in [("load", &colour, &of_new), ("old", &of_new, &of_old), ("new", &of_old, &of_new)] {
+        let told = run_with_input(&["book", call, "-", "-o", "-"], input);
+        assert_eq!(told.status.code(), Some(0), "{call}");
+        assert!(&told.stdout == output, "{call}");
+        fs::write(&out, "mine").unwrap();
+        let from = if call == "load" { "samples/colour.spv" } else { [&new, &old][usize::from(call == "new")] };
+        let there = format!("kollafrin: {out}: is there already; --force writes over it\n");
+        assert_eq!(run(&["book", call, from, "-o", &out]), (2, String::new(), there));
+        assert_eq!(fs::read(&out).unwrap(), b"mine");
+        let (status, object, err) = run(&["book", call, "--json", "--force", from, "-o", &out]);
+        let kind = if call == "old" { "old" } else { "new" };
+        let wanted = format!(
+            "{{\"file\":\"{from}\",\"accepted\":true,\"out\":\"{out}\",\"bytes\":{},\"book\":\"{kind}\",\"instructions\":31}}\n",
+            output.len()
+        );
+        assert_eq!((status, object, err.as_str()), (0, wanted, ""));
+        assert!(&fs::read(&out).unwrap() == output, "{call}");
+        // nothing is there, or nowhere to put it
+        let (status, _, err) = run(&["book", call, &path(&at, "none"), "-o", &out]);
+        assert!(status == 2 && err.contains("/none: cannot be read: "), "{err}");
+        let (status, _, err) = run(&["book", call, from, "-o", &path(&at, "none/out")]);
+        assert!(status == 2 && err.contains("/none/out: cannot be written: "), "{err}");
+    }
+    // a house row: its module loads by the lent grammar alone, and its book needs none
+    fs::write(&grammar, [1, 54, 0, 1, 56, 0, 1, 248, 0, 1, 253, 0, 1, 0x00, 0xF0, 2, 33, 0]).unwrap();
+    fs::write(&house, module(&[0x0001_0036, 0x0001_00F8, 0x0002_F000, 7, 0x0001_00FD, 0x0001_0038])).unwrap();
+    assert_eq!(run(&["book", "load", "--force", &house, "-o", &new]).0, 1);
+    assert_eq!(run(&["book", "load", "--force", "--grammar", &grammar, &house, "-o", &new]).0, 0);
+    assert_eq!(run(&["book", "old", "--force", &new, "-o", &old]).0, 0);
+    fs::write(&grammar, [5]).unwrap();
+    let refused = (1, String::new(), format!("kollafrin: {grammar}: 24: the grammar is not well-formed\n"));
+    assert_eq!(run(&["book", "load", "--grammar", &grammar, &house, "-o", &out]), refused);
+    nothing_beside(&at);
+}
+
+/// Books that are refused, 30 and 33, and files that are no book of the kind asked for: each is said, and what is there stays.
+#[test]
+fn books_that_are_not_turned() {
+    let at = folder("unturned");
+    let [from, out] = ["from", "out"].map(|name| path(&at, name));
+    fs::write(&out, "mine").unwrap();
+    let [new, old] = ["new", "old"].map(|kind| fs::read(format!("{ROOT}/samples/function.{kind}.book")).unwrap());
+    let refused = |call: &str, bytes: &[u8], words: &str, object: &str| {
+        fs::write(&from, bytes).unwrap();
+        let err = format!("kollafrin: {from}: {words}\n");
+        assert_eq!(run(&["book", call, "--force", &from, "-o", &out]), (1, String::new(), err.clone()));
+        let said = words.split_once(": ").filter(|(head, _)| head.starts_with('3')).map_or(words, |(_, said)| said);
+        let object = format!("{{\"file\":\"{from}\",\"accepted\":false,{object},\"words\":\"{said}\"}}\n");
+        assert_eq!(run(&["book", call, "--force", "--json", &from, "-o", &out]), (1, object, err));
+        assert_eq!(fs::read(&out).unwrap(), b"mine");
+    };
+    let bad = |index: u32| {
+        let words = format!("30 at record {index}: a record breaks the layout of the stores, or has no name in a listing");
+        (words, format!("\"number\":30,\"offset\":0,\"index\":{index},\"value\":0"))
+    };
+    // the tag of the second record; a log byte more than the operands have, which is taken from the strings or types
+    let (words, object) = bad(2);
+    refused("old", &with_records(&new, |records| records[44] = 15), &words, &object);
+    refused("new", &with_records(&old, |records| records[36] = 15), &words, &object);
+    let (words, object) = bad(9);
+    for (call, book) in [("old", &new), ("new", &old)] {
+        let mut longer = [&book[..], &[33]].concat();
+        longer[4] += 1;
+        refused(call, &longer, &words, &object);
+    }
+    // the block number of the label, and behind it a record that is bad
+    let wrong = with_records(&new, |records| records[5 * 40 + 36] = 2);
+    let words = "33 at record 6: the function or block number is not the one that the tags call for";
+    refused("old", &wrong, words, "\"number\":33,\"offset\":0,\"index\":6,\"value\":0");
+    let (words, object) = bad(8);
+    refused("old", &with_records(&wrong, |records| records[7 * 40 + 4] = 1), &words, &object);
+    // one kind for the other, a byte more or less, less than counts and header
+    let unlike = |call: &str, bytes: &[u8], why: &str, asked: Option<usize>| {
+        let kind = if call == "old" { "new" } else { "old" };
+        let asked = asked.map_or(String::new(), |asked| format!(",\"asked\":{asked}"));
+        refused(call, bytes, &format!("this is no {kind} book: {why}"), &format!("\"bytes\":{}{asked}", bytes.len()));
+    };
+    unlike("old", &old, "it has 322 bytes and its counts ask for 386: it is as long as an old book", Some(386));
+    unlike("new", &new, "it has 386 bytes and its counts ask for 322: it is as long as a new book", Some(322));
+    unlike("old", &new[..385], "it has 385 bytes, and its counts ask for 386", Some(386));
+    unlike("old", &[&new[..], &[0]].concat(), "it has 387 bytes, and its counts ask for 386", Some(386));
+    unlike("new", &old[..321], "it has 321 bytes, and its counts ask for 322", Some(322));
+    unlike("new", &[&old[..], &[0]].concat(), "it has 323 bytes, and its counts ask for 322", Some(322));
+    unlike("new", &[&new[..], &[0; 1000]].concat(), "it has 1386 bytes, and its counts ask for 322", Some(322));
+    for call in ["old", "new"] {
+        unlike(call, &[], "it has 0 bytes, and counts and header words alone are 36", None);
+        unlike(call, &old[..35], "it has 35 bytes, and counts and header words alone are 36", None);
+    }
+    // counts as large as there are, and a stream that does not end
+    unlike("old", &[0xFF; 36], "it has 36 bytes, and its counts ask for 231928233966", Some(231_928_233_966));
+    let endless = "kollafrin: /dev/zero: this is no new book: it has more than 36 bytes, and its counts ask for 36\n";
+    assert_eq!(run(&["book", "old", "/dev/zero", "-o", &out]), (1, String::new(), endless.into()));
+    let (status, _, err) = said(run_with_input(&["book", "new", "-", "-o", "-"], &new));
+    assert_eq!(
+        (status, err.as_str()),
+        (1, "kollafrin: -: this is no old book: it has 386 bytes and its counts ask for 322: it is as long as a new book\n")
+    );
+    // a book without instructions is both
+    let empty = [&[0; 16][..], &module(&[])].concat();
+    fs::write(&from, &empty).unwrap();
+    for call in ["old", "new"] {
+        assert_eq!(run(&["book", call, "--force", &from, "-o", &out]).0, 0);
+        assert_eq!(fs::read(&out).unwrap(), empty);
+    }
+    nothing_beside(&at);
+}
+
 #[test]
 fn objects_for_machines() {
     let at = folder("objects");
@@ -493,7 +658,7 @@ fn objects_for_machines() {
     assert_eq!(out.matches("\"function\":1,\"block\":1}\n").count(), 2);
     assert_eq!(out.matches("\"function\":1,\"block\":0}\n").count(), 2);
     assert_eq!(out.matches("\"function\":0,\"block\":0}\n").count(), 4);
-    let restored = path(&at, "restored.spv");
+    let [restored, book] = ["restored.spv", "book"].map(|name| path(&at, name));
     for call in [
         &["list", "--json", "samples/colour.spv"][..],
         &["text", "--json", "samples/colour.spv"],
@@ -501,6 +666,10 @@ fn objects_for_machines() {
         &["restore", "--json", "samples/colour.spv", "-o", &restored],
         &["restore", "--json", "--force", "--module-order", "samples/colour.spv", "-o", &restored],
         &["grammar", "--json"],
+        &["book", "load", "--json", "samples/colour.spv", "-o", &book],
+        &["book", "load", "--json", "samples/swapped.spv", "-o", &book],
+        &["book", "old", "--json", "--force", "samples/function.new.book", "-o", &book],
+        &["book", "new", "--json", "samples/function.new.book", "-o", &book],
     ] {
         let (_, out, _) = run(call);
         assert!(!out.is_empty() && out.ends_with("}\n"), "{call:?}");
@@ -523,6 +692,14 @@ fn wrong_calls() {
         &["check", "samples", "--grammar"],
         &["restore", "samples/colour.spv"],
         &["grammar", "samples/colour.spv"],
+        &["book", "-o", "out"],
+        &["book", "old", "-o", "out"],
+        &["book", "samples/function.new.book", "-o", "out"],
+        &["book", "older", "samples/function.new.book", "-o", "out"],
+        &["book", "old", "samples/function.new.book"],
+        &["book", "old", "a", "b", "-o", "out"],
+        &["book", "old", "--grammar", "a", "samples/function.new.book", "-o", "out"],
+        &["book", "load", "--plain", "samples/function.spv", "-o", "out"],
         &["join", "-o", "out"],
         &["join", "a", "-o", "out"],
         &["join", "a", "b", "c", "-o", "out"],
@@ -552,7 +729,7 @@ fn wrong_calls() {
 fn help_and_version() {
     let (status, help, err) = run(&["--help"]);
     assert_eq!((status, err.as_str()), (0, ""));
-    for call in ["check", "text", "list", "restore", "grammar", "join"] {
+    for call in ["check", "text", "list", "restore", "book", "grammar", "join"] {
         assert!(help.contains(&format!("kollafrin {call} ")), "{call}");
         let (status, own, _) = run(&[call, "--help"]);
         assert_eq!(status, 0);
@@ -569,7 +746,7 @@ fn a_closed_pipe() {
     // a listing that no pipe holds
     let long = path(&at, "long.spv");
     fs::write(&long, module(&vec![0x0001_013D; 200_000])).unwrap();
-    for call in [&["list", &long][..], &["text", &long], &["restore", &long, "-o", "-"]] {
+    for call in [&["list", &long][..], &["text", &long], &["restore", &long, "-o", "-"], &["book", "load", &long, "-o", "-"]] {
         let mut child = command(call).stdout(Stdio::piped()).stderr(Stdio::piped()).spawn().unwrap();
         let mut first = [0; 10];
         let mut from = child.stdout.take().unwrap();
