@@ -91,7 +91,7 @@ impl Call {
         let first = args.next().ok_or_else(|| Stop::Wrong("a command is missing".into()))?;
         let command = match first.to_str() {
             Some("--help" | "-h" | "help") => return Err(Stop::Told(help(commands))),
-            Some("--version") => return Err(Stop::Told(format!("kollafrin {}\n", env!("CARGO_PKG_VERSION")))),
+            Some("--version") => return Err(version()),
             name => *commands
                 .iter()
                 .find(|command| Some(command.name) == name)
@@ -114,6 +114,7 @@ impl Call {
             match name.as_str() {
                 "--" => only_paths = true,
                 "--help" | "-h" => return Err(Stop::Told(help(&[command]))),
+                "--version" => return Err(version()),
                 "--json" => call.json = true,
                 name if !command.options.contains(&name) => return Err(wrong(command, name, "is no option of it")),
                 "--grammar" => call.grammar = Some(value()?),
@@ -150,6 +151,10 @@ fn after_sign(arg: &OsStr) -> OsString {
     }
     #[cfg(not(unix))]
     arg.to_string_lossy().split_once('=').map_or(OsString::new(), |(_, value)| value.into())
+}
+
+fn version() -> Stop {
+    Stop::Told(format!("kollafrin {}\n", env!("CARGO_PKG_VERSION")))
 }
 
 fn help(commands: &[&Command]) -> String {

@@ -735,7 +735,9 @@ fn help_and_version() {
         assert_eq!(status, 0);
         assert!(own.starts_with(&format!("kollafrin {call} ")));
     }
-    assert_eq!(run(&["--version"]), (0, format!("kollafrin {}\n", env!("CARGO_PKG_VERSION")), String::new()));
+    for call in [&["--version"][..], &["check", "--version"], &["restore", "samples/colour.spv", "--version"]] {
+        assert_eq!(run(call), (0, format!("kollafrin {}\n", env!("CARGO_PKG_VERSION")), String::new()), "{call:?}");
+    }
     assert_eq!(env!("CARGO_PKG_VERSION_MAJOR"), kollafrin::VERSION.to_string());
 }
 
