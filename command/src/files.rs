@@ -19,7 +19,7 @@ fn at_most(path: &Path, bytes: &mut Vec<u8>, most: u64) -> io::Result<()> {
     }
     let file = File::open(path)?;
     let expected = file.metadata().map_or(0, |about| about.len()).min(most);
-    bytes.try_reserve(expected as usize + 1).map_err(|_| io::Error::from(io::ErrorKind::OutOfMemory))?;
+    kollafrin::reserve(bytes, expected as usize + 1).map_err(|_| io::Error::from(io::ErrorKind::OutOfMemory))?;
     file.take(most).read_to_end(bytes).map(drop)
 }
 
@@ -44,7 +44,7 @@ pub fn read_book(path: &Path, head: usize, most: impl Fn(&[u8]) -> u64) -> Resul
     from.by_ref().take(head as u64).read_to_end(&mut bytes).map_err(failed)?;
     let most = most(&bytes);
     let expected = whole.map_or(0, |length| length.min(most) as usize);
-    bytes.try_reserve(expected).map_err(|_| failed(io::ErrorKind::OutOfMemory.into()))?;
+    kollafrin::reserve(&mut bytes, expected).map_err(|_| failed(io::ErrorKind::OutOfMemory.into()))?;
     from.take((most + 1).saturating_sub(bytes.len() as u64)).read_to_end(&mut bytes).map_err(failed)?;
     let read = bytes.len() as u64;
     Ok(Book { length: if read > most { whole } else { Some(read) }, bytes })

@@ -1,6 +1,6 @@
-//! All that is unsafe in this crate: the functions of the library, on slices, and memory of zeros. A slice passes as its pointer and its
-//! length, a reference to an array as its pointer. No function is called of a library with another version than the declarations here:
-//! each asks for the version first, which costs less than to remember it.
+//! All that is unsafe in this crate: the functions of the library, on slices, memory of zeros, and advice on memory. A slice passes as its
+//! pointer and its length, a reference to an array as its pointer. No function is called of a library with another version than the
+//! declarations here: each asks for the version first, which costs less than to remember it.
 
 use crate::books::Book;
 use crate::{c, Error, Records};
@@ -19,15 +19,39 @@ pub fn zeros<T: Element>(count: usize) -> Result<Vec<T>, Error> {
     }
     // Safety: the layout has a size over 0. It is that of a vector with room for `count` elements, of the allocator that vectors use, and
     // zero bytes are so many elements, since an element is a u8 or a u32.
-    unsafe {
+    let mut store = unsafe {
         let start = alloc_zeroed(layout).cast::<T>();
         if start.is_null() {
-            Err(Error::NoMemory)
-        } else {
-            Ok(Vec::from_raw_parts(start, count, count))
+            return Err(Error::NoMemory);
         }
+        Vec::from_raw_parts(start, count, count)
+    };
+    in_large_pages(&mut store);
+    Ok(store)
+}
+
+/// Asks for large pages for much memory, where the system has them: it is filled from its start on, and of the time that a large file takes
+/// beside the load most would go into memory that is given 4 KiB at a time. Less is left alone, since a large page is taken up whole.
+#[cfg(target_os = "linux")]
+pub fn in_large_pages<T>(memory: &mut [T]) {
+    use std::ffi::{c_int, c_void};
+    extern "C" {
+        // of the C library that Rust's own rests on
+        fn madvise(start: *mut c_void, length: usize, advice: c_int) -> c_int;
+    }
+    const MADV_HUGEPAGE: c_int = 14;
+    const PAGE: usize = 1 << 21;
+    let range = memory.as_mut_ptr_range();
+    let (first, end) = ((range.start as usize + PAGE - 1) / PAGE * PAGE, range.end as usize / PAGE * PAGE);
+    if end >= first + 4 * PAGE {
+        // Safety: these pages lie in a live slice that is borrowed to be written, and the advice changes nothing that stands in them. Where it
+        // is not taken nothing is different, so that the answer is of no use.
+        unsafe { madvise(first as *mut c_void, end - first, MADV_HUGEPAGE) };
     }
 }
+
+#[cfg(not(target_os = "linux"))]
+pub fn in_large_pages<T>(_: &mut [T]) {}
 
 /// An error where a library has another version than the declarations.
 fn fits(version: u32) -> Result<(), Error> {

@@ -57,6 +57,7 @@ pub use error::Error;
 pub use kinds::{kind, presence, tag};
 pub use records::{Instruction, Instructions, Operand, Operands, Value};
 pub use refusal::{sentence, Refusal, Unjoined, MISSING};
+pub use room::reserve;
 pub use stores::{Records, Stores};
 pub use told::{opcode_name, Told, BUILTIN};
 

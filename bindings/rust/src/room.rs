@@ -1,7 +1,7 @@
 //! Memory for stores and outputs. Where there is none, that is an error: the program goes on.
 
 pub use crate::door::zeros;
-use crate::door::Element;
+use crate::door::{in_large_pages, Element};
 use crate::Error;
 
 /// A store of so many elements or more: the one that is there where it suffices, with what it holds, else a new one of zeros.
@@ -10,6 +10,21 @@ pub fn grow<T: Element>(store: &mut Vec<T>, count: usize) -> Result<(), Error> {
         *store = Vec::new();
         *store = zeros(count)?;
     }
+    Ok(())
+}
+
+/// Room for so many bytes more, as for those of a file that is to be loaded: where there is no memory, that is an error; where they are many,
+/// in large pages, so that reading them takes less time.
+///
+/// ```
+/// let mut bytes = Vec::new();
+/// kollafrin::reserve(&mut bytes, 20)?;
+/// assert!(bytes.is_empty() && bytes.capacity() >= 20);
+/// # Ok::<(), kollafrin::Error>(())
+/// ```
+pub fn reserve(bytes: &mut Vec<u8>, more: usize) -> Result<(), Error> {
+    bytes.try_reserve(more).map_err(|_| Error::NoMemory)?;
+    in_large_pages(bytes.spare_capacity_mut());
     Ok(())
 }
 
