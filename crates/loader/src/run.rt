@@ -59,8 +59,8 @@ fn load_from(
     strings: &mut [u8],
     types: &mut [u32],
     hints: &mut [u16],
-    scratch: &mut [u8],
-    spare: &mut [u8],
+    scratch: &mut [u8; SCRATCH],
+    spare: &mut [u8; SPARE],
 ) -> Ended
     requires { ⌜ Indexed (now g) (now index) ⌝ }
     requires { ⌜ (20 ≤ length (now s)) × (length (now s) ≤ 67108864) ⌝ }
@@ -134,8 +134,8 @@ fn load_with(
     strings: &mut [u8],
     types: &mut [u32],
     hints: &mut [u16],
-    scratch: &mut [u8],
-    spare: &mut [u8],
+    scratch: &mut [u8; SCRATCH],
+    spare: &mut [u8; SPARE],
 ) -> Loaded
     requires { ⌜ Indexed (now g) (now index) ⌝ }
     requires { ⌜ (now table ≡ layoutTable) × (now kinds ≡ kindTable) ⌝ }

@@ -32,7 +32,7 @@ use Rattle.used.specs.declared.used.Parsed.the-variants.{Got, Refused}
 use Rattle.parser.specs.declared.inst.InstRead.{InstRead}
 use Rattle.parser.specs.declared.inst.InstRead.the-variants.{Got as Inst, Refused as NoInst}
 use Rattle.used.specs.declared.used.Frame.{Frame}
-use Rattle.used.specs.Parse.{Notes, firstOf, secondOf, notesOf, noteAs, note, notes, noNotes, leftOf, slotsAt, RowRead, Walks}
+use Rattle.used.specs.Parse.{wordIs, Notes, firstOf, secondOf, notesOf, noteAs, note, notes, noNotes, leftOf, slotsAt, RowRead, Walks}
 use Rattle.parser.specs.Inst.{Ended, Decodes, DecodesOver, ShapeIs, RowIs}
 use Rattle.untyped.specs.Body.{Framed, startOf, rowRead, bodyRead}
 use Rattle.untyped.proofs.Carried.{row-good}
@@ -138,8 +138,8 @@ module _ (g : List ℕ) (types : List Entry) (s : List ℕ) (f : Frame) where
             words = sym (k .words);
             moves = omega (arith, h, k .words);
             opcode = sym (k .opcode);
-            rtype = sym (k .rtype ∙ d .walked .rtype);
-            rid = sym (k .rid ∙ d .walked .rid);
+            rtype = sym (ap wordIs (k .rtype) ∙ d .walked .rtype);
+            rid = sym (ap wordIs (k .rid) ∙ d .walked .rid);
             operands = used-count n _ (d .walked .noted) ∙ sym (k .operands);
             few = omega (arith, to, d .few .operands, k .operands);
             literals = rw (k .first, k .second) (used-literals n _ (d .walked .noted));

@@ -13,7 +13,7 @@ use Rattle.operand.specs.Log.{Laid}
 use Rattle.grammar.specs.Find.{rowGood}
 use Rattle.decoder.specs.declared.Decoder.{Decoder}
 use Rattle.decoder.specs.Answer.{limitReached}
-use Rattle.tracker.specs.Track.{idIs, FirstFit, literalOf, Literals}
+use Rattle.tracker.specs.Track.{FirstFit, literalOf, Literals}
 use Rattle.used.specs.Parse.{wordIs, firstOf, secondOf, slotsAt}
 use Rattle.untyped.specs.Body.{bodyRead}
 use Rattle.used.specs.declared.used.Used.{Used}
@@ -32,8 +32,8 @@ pub record Handed (s : List ℕ) (at : ℕ) (x : Read Instr) (log₀ strs₀ log
   pub words : instr .words ≡ r .words
   pub moves : 1 ≤ r .words
   pub opcode : instr .opcode ≡ r .opcode
-  pub rtype : instr .resultType ≡ idIs (r .rtype)
-  pub rid : instr .resultId ≡ idIs (r .rid)
+  pub rtype : instr .resultType ≡ wordIs (r .rtype)
+  pub rid : instr .resultId ≡ wordIs (r .rid)
   pub operands : length (instr .operands) ≡ r .operands
   pub few : 4 * r .operands ≤ at + 4 * r .words
   pub literals : Literals (instr .operands) (literalOf (r .first)) (literalOf (r .second))
@@ -51,8 +51,8 @@ pub record Ends (f : Frame) (n : Used) (r : Decoded) : Type 0 where
   pub words : r .words ≡ f .words
   pub opcode : r .opcode ≡ f .opcode
   pub place-is : r .place ≡ f .place
-  pub rtype : idIs (r .rtype) ≡ wordIs (n .rtype)
-  pub rid : idIs (r .rid) ≡ wordIs (n .rid)
+  pub rtype : r .rtype ≡ n .rtype
+  pub rid : r .rid ≡ n .rid
   pub operands : r .operands ≡ n .operands
   pub first : r .first ≡ firstOf n
   pub second : r .second ≡ secondOf n

@@ -23,21 +23,19 @@ use spec::Found;
 use spec::Limit;
 use spec::Refusal;
 use spec::refusals;
-use tracker::Id;
 use tracker::TypeTracker;
 use used::Frame;
 use used::Parsed;
 use used::Used;
-use used::id_of;
 
-// An instruction that was read: its opcode, results and word count, where its row's operands start, how many operands, the first two,
-// where log and strings go on after its records, and the lowest offset that breaks it, or 0.
+// An instruction that was read: its opcode and word count, where its row's operands start, its results as `Used` has them, how many
+// operands, the first two, where log and strings go on after its records, and the lowest offset that breaks it, or 0.
 pub struct Decoded {
     pub opcode: u16,
     pub words: u16,
     pub place: usize,
-    pub rtype: Id,
-    pub rid: Id,
+    pub rtype: u64,
+    pub rid: u64,
     pub operands: usize,
     pub first: Parts,
     pub second: Parts,
@@ -71,8 +69,8 @@ fn finished(frame: Frame, e: Decoder, u: Used) -> InstRead
     let opcode = frame.opcode;
     let words = frame.words;
     let place = frame.place;
-    let rtype = id_of(u.rtype);
-    let rid = id_of(u.rid);
+    let rtype = u.rtype;
+    let rid = u.rid;
     let operands = u.operands;
     let first = Parts {
         kind: u.kind1,

@@ -2,14 +2,17 @@
 use Prim.Native.Nat.{ℕ, _+_, _*_, _-_, _≤_}
 use mathlib.Core.Path.{_≡_, sym, _∙_}
 use mathlib.Core.Bool.{Bool, true, false}
-use mathlib.Core.List.{List}
+use mathlib.Core.List.{List, _∷_}
 use mathlib.Core.Option.{some}
 use native.Mathlib.Omega.{arith}
+use lib.Dec.{eqb}
 use lib.ListN.{length}
+use Rattle.spec.specs.Base.{if_then_else_}
 use Rattle.spec.specs.Kinds.{isResult}
+use Rattle.spec.proofs.Choice.{fails, either, in-range}
 use Rattle.spec.specs.Records.{Operand, Entry}
 use Rattle.spec.specs.Reader.{Read}
-use Rattle.spec.specs.Grammar.{Grammar}
+use Rattle.spec.specs.Grammar.{Grammar, slot}
 use Rattle.spec.specs.Match.{readSlot}
 use Rattle.decoder.specs.declared.Decoder.{Decoder}
 use Rattle.decoder.specs.declared.WordRead.the-variants.{Got as Word}
@@ -18,7 +21,7 @@ use Rattle.used.specs.declared.used.Used.{Used}
 use Rattle.used.specs.declared.used.Frame.{Frame}
 use Rattle.simple.specs.declared.Simple.{Simple}
 use Rattle.simple.specs.declared.Simple.the-variants.{Got as Taken}
-use Rattle.used.specs.Parse.{wordIs, leftOf, Went, Few, Parses, kindIs, literalFor, kindAlone, SlotWalks}
+use Rattle.used.specs.Parse.{wordIs, leftOf, Went, Few, Parses, kindIs, literalFor, kindAlone, slotsAt, SlotWalks}
 use Rattle.used.specs.Fresh.{withResult}
 use Rattle.untyped.specs.Body.{Framed, startOf}
 use Rattle.simple.specs.Simple.{There, IfTaken}
@@ -27,6 +30,10 @@ use Rattle.untyped.proofs.RowLaws.{left-some}
 use Rattle.simple.proofs.SimpleLaws.{take, take-so}
 
 -- OPERANDS
+
+-- a kind that is neither of the two is no result
+pub no-result : (k : ℕ) → (k ≡ 46 → ⊥) → (k ≡ 47 → ⊥) → isResult k ≡ false
+no-result k x y = fails (isResult k) (λ e. omega (arith, in-range 46 k 47 e, x, y))
 
 module _ (s : List ℕ) (g : Grammar) (j l : ℕ) (d : Decoder) (log strs : List ℕ) (u : Used) (t : Bool) (p : t ≡ isResult j) (types : List Entry)
     (f : kindIs l ≡ literalFor types u j) where
@@ -53,3 +60,8 @@ pub row-there : (s : List ℕ) (d₀ d : Decoder) (u : Used) → Few s d u → W
     → d₀ .offset + 4 * leftOf (d₀ .limit) ≤ length s → There s d
 unfolding limitReached
 row-there s d₀ d u f w t p h i = record { left = left-some (d .limit) (f .left) (f .limited) (sym p ∙ h); inside = omega (arith, w .pace, i) }
+
+-- the place after an operand that ends inside the grammar lies inside too
+pub next-in : (g : List ℕ) (p j q n : ℕ) → slotsAt g p ≡ slot j q ∷ slotsAt g (p + 3) → n ≡ (if eqb q 2 then p else p + 3) → p + 3 ≤ length g
+    → n ≤ length g
+next-in g p j q n at e h = rw e (either (λ k. k ≤ length g) (eqb q 2) p (p + 3) (λ x. omega (arith, h)) (λ x. h))

@@ -5,7 +5,8 @@ ghost use mathlib.Core.Bool.{true};
 ghost use mathlib.Core.List.{List, _∷_, []};
 ghost use Prim.Native.Nat.{ℕ, _*_, _≤_};
 ghost use lib.ListN.{length};
-ghost use Rattle.spec.specs.Kinds.{isEnum};
+ghost use Rattle.spec.specs.Kinds.{isEnum, isResult};
+ghost use Rattle.spec.specs.Records.{Entry};
 ghost use Rattle.spec.specs.Grammar.{Grammar, grammarOf};
 ghost use Rattle.spec.specs.Match.{readEach, readOperand, readSlot};
 ghost use Rattle.decoder.specs.declared.WordRead.the-variants.{Got};
@@ -96,6 +97,17 @@ fn taken(r: Parsed, breaks: usize) -> Simple
     Simple::Got(after, n)
 }
 
+// A result type or a result id.
+fn simple_result(d: Decoder, s: &[u8], kind: u8, u: Used) -> Simple
+    requires { ⌜ Few (now s) d u × (isResult kind ≡ true) ⌝ }
+    requires { ⌜ There (now s) d ⌝ }
+    ensures { λ r. ⌜ ((g : Grammar) (types : List Entry) (l t : List ℕ) → IfTaken (SlotWalks (now (s .entry)) d kind (λ x. readSlot g types x kind (readerOf (now (s .entry)) d)) l t l t u) r) ⌝ }
+{
+    let x = next_word(d, s);
+    let e = x.after;
+    Simple::Got(e, with_result(u, kind, there(x.word)))
+}
+
 // One record of a word.
 fn simple_word(d: Decoder, s: &[u8], kind: u8, log: &mut [u8], u: Used) -> Simple
     requires { ⌜ Few (now s) d u × (isWord kind ≡ true) ⌝ }
@@ -174,7 +186,8 @@ fn simple_value(
     )
 }
 
-// An operand of a row. Types, hints and tracker are handed down to its last line, so that only a literal asks for the kind that it is of.
+// An operand of a row. Types, hints and tracker are handed down to its last line, so that only a literal asks for the kind that it is of;
+// and the two results have a branch each, so that each is put in its place, where one branch for both has to choose and put both.
 fn simple_slot(
     d: Decoder,
     s: &[u8],
@@ -195,10 +208,11 @@ fn simple_slot(
     requires { ⌜ Hinted tracker (now types) (now hints) ⌝ }
     ensures { λ r. ⌜ IfTaken (SlotWalks (now (s .entry)) d kind (λ x. readSlot (grammarOf (now (g .entry))) (entriesOf (tracker .count) (now (types .entry))) x kind (readerOf (now (s .entry)) d)) (now (log .entry)) (now (strings .entry)) (now (log .exit)) (now (strings .exit)) u) r ⌝ }
 {
-    if grammar::is_result(kind) {
-        let x = next_word(d, s);
-        let e = x.after;
-        return Simple::Got(e, with_result(u, kind, there(x.word)));
+    if kind == kinds::RESULT_TYPE {
+        return simple_result(d, s, kind, u);
+    }
+    if kind == kinds::RESULT_ID {
+        return simple_result(d, s, kind, u);
     }
     if (31 <= kind) & (kind <= 35) {
         return simple_word(d, s, kind, log, u);
@@ -245,7 +259,8 @@ pub fn simple_operands(
     }
     let mut u = used;
     let mut p = frame.place;
-    while p < g.len() {
+    // An operand has three bytes.
+    while p + 3 <= g.len() {
         let x = grammar::slot_at(g, p);
         let SlotAt::Slot(k, q) = x else {
             return Simple::Got(d, u);

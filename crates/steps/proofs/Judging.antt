@@ -27,22 +27,24 @@ use Rattle.demands.proofs.Cells.{layout-refuses}
 use Rattle.demands.proofs.Formed.{GrammarGood, well-formed-good}
 use Rattle.demands.proofs.Instructions.{Frames, instr-read}
 use Rattle.grammar.specs.Index.{Indexed}
+use Rattle.tracker.specs.declared.Id.{Id}
 use Rattle.tracker.specs.Entries.{entriesOf}
 use Rattle.tracker.specs.Track.{idIs, toldOf, toldWith}
 use Rattle.tracker.proofs.Laws.{length-entries}
-use Rattle.tracker.proofs.Growth.{told-grows}
+use Rattle.tracker.proofs.Growth.{Grown, track-grows}
 use Rattle.tracker.proofs.Instruction.{track-as}
 use Rattle.parser.specs.declared.inst.Decoded.{Decoded}
 use Rattle.parser.specs.declared.inst.InstRead.{InstRead}
 use Rattle.parser.specs.declared.inst.InstRead.the-variants as inst
 use Rattle.used.specs.declared.used.Used.{Used}
 use Rattle.parser.specs.Inst.{Decodes, DecodesOver, RowIs}
+use Rattle.used.specs.Parse.{wordIs}
 use Rattle.used.specs.Fresh.{unused}
 use Rattle.steps.specs.declared.parts.Progress.{Progress}
 use Rattle.steps.specs.declared.parts.Taken.{Taken}
 use Rattle.steps.specs.declared.step.Judged.{Judged}
 use Rattle.steps.specs.declared.step.Judged.the-variants.{Got, Refused}
-use Rattle.steps.specs.Steps.{usedBy, readAt, Moderate, Fair, toldBy, tracked, needOf, fieldsBy, Shown, Shows, taken, judgedBy, judged}
+use Rattle.steps.specs.Steps.{usedBy, readAt, Moderate, Fair, tracked, Tells, needOf, fieldsBy, Shown, Shows, taken, judgedBy, judged}
 
 -- an instruction with its tag
 abbrev pub placedAs : Instr → ℕ → Placed
@@ -79,7 +81,7 @@ module _ {s g types scratch spare : List ℕ} {p : Progress} {d : Decoded} (show
 
   -- the entries after it are those after the instruction
   pub tracked-is : (es : List Entry) → tracked d es ≡ track (shown .handed .instr) es
-  unfolding tracked toldOf toldWith
+  unfolding tracked
   tracked-is es =
       let h = shown .handed in
       rw (← h .opcode, ← h .rtype, ← h .rid) (track-as (h .instr) (d .operands) _ _ es (h .operands) (h .literals))
@@ -163,29 +165,35 @@ module _ (room : Counts) (p : Progress) (d : Decoded) where
   unfolding needOf roomFault tracked
   room-spare l n e k =
       let es = entriesOf (p .tracker .count) l in
-      let grown = told-grows (toldBy d) es in
+      let grown : Grown es (tracked d es) = track-grows _ _ _ _ _ _ es in
       rw (
         le-ltb (room .types) n (omega (arith, e, k)),
         le-ltb (room .types) (length (tracked d es)) (omega (arith, grown .most, length-entries (p .tracker .count) l)),
       )
 
--- the fields of its record, by their words
-pub fields-by : (p : Progress) (d : Decoded) (tag bits a b : ℕ) → bits ≡ presence (idIs (d .rtype)) (idIs (d .rid))
-    → a ≡ orZero (idIs (d .rtype)) → b ≡ orZero (idIs (d .rid))
+-- what is told of it, by its results
+pub tells : (d : Decoded) (a b : Id) → Moderate d → idIs a ≡ wordIs (d .rtype) → idIs b ≡ wordIs (d .rid)
+    → Tells d (record { opcode = d .opcode; rtype = a; rid = b; operands = d .operands; first = d .first; second = d .second })
+unfolding tracked toldOf toldWith
+tells d a b m e f = record { tracks = λ es. rw (e, f); fits = m .fits }
+
+-- the fields of its record, by its results
+pub fields-by : (p : Progress) (d : Decoded) (tag bits t i : ℕ) (a b : Id) → idIs a ≡ wordIs (d .rtype) → idIs b ≡ wordIs (d .rid)
+    → bits ≡ presence (idIs a) (idIs b) → t ≡ orZero (idIs a) → i ≡ orZero (idIs b)
     → _≡_ {A = Fields}
     (record {
       head = d .opcode + 65536 * bits;
       tag = tag;
       offset = p .at;
-      rtype = a;
-      rid = b;
+      rtype = t;
+      rid = i;
       start = p .log;
       count = d .operands;
       words = d .words;
     })
     (fieldsBy p d tag)
 unfolding fieldsBy
-fields-by p d tag bits a b e f g = rw (e, f, g)
+fields-by p d tag bits t i a b e f g h k = rw (g, h, k, e, f)
 
 -- THE VERDICT
 

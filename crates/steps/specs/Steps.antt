@@ -25,11 +25,12 @@ use Rattle.numbers.specs.Counting.{stepOf}
 use Rattle.tracker.specs.Entries.{entriesOf, stored}
 use Rattle.tracker.specs.Hints.{Hinted}
 use Rattle.tracker.specs.declared.Told.{Told}
-use Rattle.tracker.specs.Track.{idIs, toldOf, FirstFit}
+use Rattle.tracker.specs.Track.{literalOf, trackOf, toldOf, FirstFit}
 use Rattle.parser.specs.declared.inst.Decoded.{Decoded}
 use Rattle.parser.specs.declared.inst.InstRead.{InstRead}
 use Rattle.parser.specs.declared.inst.InstRead.the-variants as inst
 use Rattle.parser.specs.Inst.{Handed, Declined, ByRow}
+use Rattle.used.specs.Parse.{wordIs}
 use Rattle.used.specs.Fresh.{unused}
 use Rattle.steps.specs.declared.parts.Progress.{Progress}
 use Rattle.steps.specs.declared.parts.Taken.{Taken}
@@ -90,21 +91,14 @@ unfoldable pub Fair : InstRead → Type 0
 Fair (inst.Got d) = Moderate d
 Fair (inst.Refused y) = Unit
 
--- what type tracking is told of it
-abbrev pub toldBy : Decoded → Told
-toldBy d =
-    record {
-      opcode = d .opcode;
-      rtype = d .rtype;
-      rid = d .rid;
-      operands = d .operands;
-      first = d .first;
-      second = d .second;
-    }
-
 -- the entries after it
 unfoldable pub tracked : Decoded → List Entry → List Entry
-tracked d es = toldOf (toldBy d) es
+tracked d es = trackOf (d .opcode) (wordIs (d .rtype)) (wordIs (d .rid)) (d .operands) (literalOf (d .first)) (literalOf (d .second)) es
+
+-- what type tracking is told of it: by that the entries are the same
+pub record Tells (d : Decoded) (t : Told) : Type 0 where
+  pub tracks : (es : List Entry) → toldOf t es ≡ tracked d es
+  pub fits : FirstFit (t .operands) (t .first) (t .second)
 
 -- what is taken with it
 unfoldable pub needOf : Progress → Decoded → List Entry → Counts
@@ -114,11 +108,11 @@ needOf p d es = counts (p .instructions + 1) (p .log + d .log) (p .strings + d .
 unfoldable pub fieldsBy : Progress → Decoded → ℕ → Fields
 fieldsBy p d tag =
     record {
-      head = d .opcode + 65536 * presence (idIs (d .rtype)) (idIs (d .rid));
+      head = d .opcode + 65536 * presence (wordIs (d .rtype)) (wordIs (d .rid));
       tag = tag;
       offset = p .at;
-      rtype = orZero (idIs (d .rtype));
-      rid = orZero (idIs (d .rid));
+      rtype = orZero (wordIs (d .rtype));
+      rid = orZero (wordIs (d .rid));
       start = p .log;
       count = d .operands;
       words = d .words;

@@ -19,6 +19,7 @@ use spec::State;
 use spec::refusals;
 use tracker::Id;
 use tracker::TypeTracker;
+use used::id_of;
 
 // Where a load stands: the place of the next instruction, what is kept so far, the functions and blocks that have begun, the state of the
 // layout, and the first offset that breaks what is kept, or 0.
@@ -162,8 +163,8 @@ pub fn fields_of(p: Progress, d: Decoded, tag: u8) -> Fields
     requires { ⌜ Bounded p × Moderate d ⌝ }
     ensures { λ r. ⌜ r ≡ fieldsBy p d tag ⌝ }
 {
-    let rtype = d.rtype;
-    let rid = d.rid;
+    let rtype = id_of(d.rtype);
+    let rid = id_of(d.rid);
     let bits = presence_of(rtype, rid);
     let rtype_word = id_word(rtype);
     let rid_word = id_word(rid);

@@ -9,7 +9,7 @@ ghost use Rattle.spec.specs.Load.{roomFault};
 ghost use Rattle.reflect.specs.Column.{layoutTable, kindTable};
 ghost use Rattle.grammar.specs.Index.{Indexed};
 ghost use Rattle.tracker.specs.Entries.{entriesOf};
-ghost use Rattle.steps.specs.Steps.{Bounded, Typed, Moderate, Fair, needOf, judged, tracked, Shown, Shows, Stored, Recorded};
+ghost use Rattle.steps.specs.Steps.{Bounded, Typed, Moderate, Fair, Tells, needOf, judged, tracked, Shown, Shows, Stored, Recorded};
 use crate::parts::Progress;
 use crate::parts::Taken;
 use crate::parts::fields_of;
@@ -26,6 +26,7 @@ use spec::State;
 use spec::refusals;
 use tracker::Told;
 use used::Frame;
+use used::id_of;
 use used::unused;
 
 // What becomes of an instruction before anything is kept: it goes in, with a tag and the state after it, or is refused.
@@ -61,6 +62,25 @@ pub fn decode(
 
 // LAYOUT, THEN ROOM
 
+// What type tracking is told of a decoded instruction.
+fn told_of(d: Decoded) -> Told
+    requires { ⌜ Moderate d ⌝ }
+    ensures { λ r. ⌜ Tells d r ⌝ }
+{
+    let rtype = id_of(d.rtype);
+    let rid = id_of(d.rid);
+    let first = d.first;
+    let second = d.second;
+    Told {
+        opcode: d.opcode,
+        rtype,
+        rid,
+        operands: d.operands,
+        first,
+        second,
+    }
+}
+
 // What is taken with a decoded instruction more. It adds an entry at most: where there is room for one, no more is asked.
 fn need_after(types: &[u32], hints: &[u16], room: Counts, p: Progress, d: Decoded) -> Counts
     requires { ⌜ Bounded p × Typed (now types) (now hints) p ⌝ }
@@ -70,18 +90,7 @@ fn need_after(types: &[u32], hints: &[u16], room: Counts, p: Progress, d: Decode
     let mut entries = p.tracker.count + 1;
     if room.types < entries {
         let tracker = p.tracker;
-        let rtype = d.rtype;
-        let rid = d.rid;
-        let first = d.first;
-        let second = d.second;
-        let told = Told {
-            opcode: d.opcode,
-            rtype,
-            rid,
-            operands: d.operands,
-            first,
-            second,
-        };
+        let told = told_of(d);
         entries = tracker.after(types, hints, told);
     }
     Counts {
@@ -239,18 +248,7 @@ pub fn keep_record(
     let own = counted.own;
     records::put_record(instructions, RECORD * p.instructions, fields, own);
     let tracker = p.tracker;
-    let rtype = d.rtype;
-    let rid = d.rid;
-    let first = d.first;
-    let second = d.second;
-    let told = Told {
-        opcode: d.opcode,
-        rtype,
-        rid,
-        operands: d.operands,
-        first,
-        second,
-    };
+    let told = told_of(d);
     let tracked = tracker.track(types, hints, told);
     let numbers = counted.begun;
     let state = t.state;

@@ -78,7 +78,7 @@ track-grows op t (some i) count a b es =
     grown-if es (typeOf op i count a b es) (trackValue i t es) (isType op) (grown-type op i count a b es) (grown-value i t es)
 
 -- so it does by what is told of an instruction
-pub told-grows : (t : Told) (es : List Entry) → Grown es (toldOf t es)
+told-grows : (t : Told) (es : List Entry) → Grown es (toldOf t es)
 unfolding toldOf toldWith
 told-grows t es = track-grows _ _ _ _ _ _ es
 

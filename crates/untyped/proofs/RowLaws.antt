@@ -1,21 +1,21 @@
 -- Laws of the walk over a row's operands.
 use Prim.Native.Nat.{ℕ, zero, suc, _+_, _*_, _-_, _<_, _≤_}
 use mathlib.Core.Path.{_≡_, refl, ap, sym, subst, _∙_}
-use mathlib.Core.Bool.{Bool, true, false, _&&_, true≢false}
+use mathlib.Core.Bool.{Bool, true, false, not, _&&_, true≢false}
 use mathlib.Core.List.{List, [], _∷_}
 use native.Mathlib.Omega.{arith}
-use borrow.Author.Tests.{eq-eqb, ne-eqb, eqb-false}
+use borrow.Author.Tests.{eq-eqb, ne-eqb, eqb-true, eqb-false}
 use lib.Dec.{eqb}
-use lib.ListN.{length, drop, drop-of-length-le}
+use lib.ListN.{length, drop, length-drop}
 use Rattle.spec.specs.declared.Limit.{Limit}
 use Rattle.spec.specs.declared.Limit.the-variants.{Words}
 use Rattle.spec.specs.declared.Refusal.{Refusal}
-use Rattle.spec.specs.Base.{if_then_else_}
-use Rattle.spec.proofs.Choice.{cases}
+use Rattle.spec.specs.Base.{if_then_else_, has}
+use Rattle.spec.proofs.Choice.{cases, either}
 use Rattle.spec.specs.Kinds.{mayBeOperand}
 use Rattle.spec.specs.Records.{operandsLog, operandsStrings, Entry}
 use Rattle.spec.specs.Reader.{Read, got, after, refusal, reached, readerAt}
-use Rattle.spec.specs.Grammar.{Grammar, Slot, slot, isSlot, grammarOf, items, itemsFrom, slotsOf}
+use Rattle.spec.specs.Grammar.{Grammar, Item, broken, Slot, slot, isSlot, bodyLength, itemOf, grammarOf, items, itemsFrom, slotsOf}
 use Rattle.spec.specs.Match.{Seen, nothingSeen, noneLeft, slotsAfter, readSlot, readRow}
 use Rattle.demands.proofs.Formed.{RowFrom}
 use Rattle.demands.proofs.Rows.{asOperands, Free, free-none, row-after}
@@ -285,7 +285,33 @@ pub three-told : (n : ℕ) (v : SlotAt) (k q : ℕ) → slotBytes v ≤ n → v 
 unfolding slotBytes
 three-told n v k q h e = rw e at h
 
+-- an item of another kind is no operand
+other-kind : (b : ℕ) (l : List ℕ) (xs : List Item) → eqb b 2 ≡ false → slotsOf (itemOf b l ∷ xs) ≡ []
+unfolding slotsOf
+other-kind b l xs h =
+    let bare : Item → Type 0 = λ x. slotsOf (x ∷ xs) ≡ [] in
+    let known = either bare (eqb b 3) _ _ (λ e. refl) (λ e. either bare (eqb b 4) _ broken (λ f. refl) (λ f. refl)) in
+    rw h (either bare (not (has (bodyLength b) l)) broken _ (λ e. refl) (λ e. either bare (eqb b 1) _ _ (λ f. refl) (λ f. known)))
+
+-- an operand cut short is none
+cut-short : (l : List ℕ) (xs : List Item) → length l ≤ 1 → slotsOf (itemOf 2 l ∷ xs) ≡ []
+unfolding slotsOf
+cut-short [] xs h = refl
+cut-short (x ∷ []) xs h = refl
+cut-short (x ∷ y ∷ l) xs h = absurd (omega (arith, h))
+
+-- fewer bytes than an operand has say none
+few-slots : (l : List ℕ) → length l ≤ 2 → slotsOf (items l) ≡ []
+unfolding slotsOf items itemsFrom
+few-slots [] h = refl
+few-slots (b ∷ l) h =
+    cases (eqb b 2) (λ e. rw (eqb-true b 2 e) (cut-short l (itemsFrom 2 l) (omega (arith, h)))) (other-kind b l (itemsFrom (bodyLength b) l))
+
+-- where fewer bytes are left than an operand has, there is none
+pub end-short : (g : List ℕ) (p : ℕ) → length g ≤ p + 2 → slotsAt g p ≡ []
+unfolding slotsAt
+end-short g p h = few-slots (drop p g) (simp length-drop (omega (arith, h)))
+
 -- past the end there is none
 pub end-past : (g : List ℕ) (p : ℕ) → length g ≤ p → slotsAt g p ≡ []
-unfolding slotsAt slotsOf items itemsFrom
-end-past g p h = ap (λ (l : List ℕ). slotsOf (items l)) (drop-of-length-le g {i = p} h)
+end-past g p h = end-short g p (omega (arith, h))

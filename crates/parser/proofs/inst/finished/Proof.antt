@@ -15,8 +15,6 @@ finished-spec =
     tie.close
     (tie.spec
     (λ c κs. search needs)
-    (λ c κs. search needs)
-    (λ c κs. search needs)
     returns
     (λ c κs. search needs)
     (λ c. let at-limit-reached = c .before .before in ended-left _ _ _ _ _ (at-limit-reached .limit-reached .ensures) (c .before .if1 .left) (c .no-inst .ensures)))
