@@ -58,7 +58,7 @@ simple-operands-spec =
     (λ c. pass _)
     (λ c κs. let at-loop-test = c .before .before .before .before .before .before .before .before .before .before .before .before .before .before .before .before in let at-start = at-loop-test .before .before .before .before .before .before .before .before .before .before .before .before .before .before in omega (arith, at-loop-test .loop-test .taken, indexed-short _ _ (at-start .pre .0)))
     (λ c. let at-r = c .before .before in let at-simple-slot = at-r .before .before .before .before .before .before in let at-if2 = at-simple-slot .before .before .before in let at-limit-reached = at-if2 .before in let at-x = at-limit-reached .before .before in let at-slot-at = at-x .before .before in let at-loop = at-slot-at .before .before in row-less (at-loop .loop .inv .0) _ _ _ (slot-told _ _ _ (at-slot-at .slot-at .ensures .0) _ _ (at-x .x .given .1)) _ (at-limit-reached .limit-reached .ensures) (at-if2 .if2 .left) _ _ _ (took _ _ _ _ (at-simple-slot .simple-slot .ensures) (at-r .r .given .1)) _ _ refl)
-    (λ c. let at-r = c .before .before in let at-simple-slot = at-r .before .before .before .before .before .before in let at-if2 = at-simple-slot .before .before .before in let at-limit-reached = at-if2 .before in let at-x = at-limit-reached .before .before in let at-slot-at = at-x .before .before in let at-loop = at-slot-at .before .before in (row-turn (at-loop .loop .inv .0) _ _ _ (slot-told _ _ _ (at-slot-at .slot-at .ensures .0) _ _ (at-x .x .given .1)) _ (at-limit-reached .limit-reached .ensures) (at-if2 .if2 .left) _ _ _ (took _ _ _ _ (at-simple-slot .simple-slot .ensures) (at-r .r .given .1)) _ _ refl _ (slots-next _ _ _ _ _ (slot-told _ _ _ (at-slot-at .slot-at .ensures .0) _ _ (at-x .x .given .1)) (c .next-place .ensures)), next-in _ _ _ _ _ (slot-told _ _ _ (at-slot-at .slot-at .ensures .0) _ _ (at-x .x .given .1)) (c .next-place .ensures) (at-slot-at .before .loop-test .taken)))
+    (λ c. let at-r = c .before .before in let at-simple-slot = at-r .before .before .before .before .before .before in let at-if2 = at-simple-slot .before .before .before in let at-limit-reached = at-if2 .before in let at-x = at-limit-reached .before .before in let at-slot-at = at-x .before .before in let at-loop = at-slot-at .before .before in (row-turn (at-loop .loop .inv .0) _ _ _ (slot-told _ _ _ (at-slot-at .slot-at .ensures .0) _ _ (at-x .x .given .1)) _ (at-limit-reached .limit-reached .ensures) (at-if2 .if2 .left) _ _ _ (took _ _ _ _ (at-simple-slot .simple-slot .ensures) (at-r .r .given .1)) _ _ refl _ (slots-next _ _ _ _ _ (slot-told _ _ _ (at-slot-at .slot-at .ensures .0) _ _ (at-x .x .given .1)) (c .next-place .ensures)), next-in _ _ _ _ _ (slot-told _ _ _ (at-slot-at .slot-at .ensures .0) _ _ (at-x .x .given .1)) (c .next-place .ensures) (omega (arith, at-slot-at .before .loop-test .taken))))
     (λ c. row-log (c .before .loop .inv .0))
     (λ c. row-strings (c .before .loop .inv .0))
     (λ c. take _ _ _ (row-ends (c .before .loop .inv .0) (end-short _ _ (omega (arith, c .loop-test .left))))))
