@@ -95,7 +95,7 @@ Fair (inst.Refused y) = Unit
 unfoldable pub tracked : Decoded → List Entry → List Entry
 tracked d es = trackOf (d .opcode) (wordIs (d .rtype)) (wordIs (d .rid)) (d .operands) (literalOf (d .first)) (literalOf (d .second)) es
 
--- what type tracking is told of it: by that the entries are the same
+-- what type tracking is told of it: the entries after that are the same
 pub record Tells (d : Decoded) (t : Told) : Type 0 where
   pub tracks : (es : List Entry) → toldOf t es ≡ tracked d es
   pub fits : FirstFit (t .operands) (t .first) (t .second)

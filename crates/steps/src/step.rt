@@ -60,8 +60,6 @@ pub fn decode(
     parse_inst(s, at, g, index, types, hints, tracker, scratch, spare, used)
 }
 
-// LAYOUT, THEN ROOM
-
 // What type tracking is told of a decoded instruction.
 fn told_of(d: Decoded) -> Told
     requires { ⌜ Moderate d ⌝ }
@@ -80,6 +78,8 @@ fn told_of(d: Decoded) -> Told
         second,
     }
 }
+
+// LAYOUT, THEN ROOM
 
 // What is taken with a decoded instruction more. It adds an entry at most: where there is room for one, no more is asked.
 fn need_after(types: &[u32], hints: &[u16], room: Counts, p: Progress, d: Decoded) -> Counts
