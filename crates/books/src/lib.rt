@@ -1,5 +1,7 @@
 // Last season's books: records of eight words turned into records of ten, with the numbers that their tags call for, and back. First all
 // refusals, then one pass that writes.
+#![tactic(auto)]
+
 ghost use Rattle.std.specs.Prelude.{◌≡◌, ◌&&◌, ◌+◌, ◌*◌, ◌/◌, ◌<◌, ◌≤◌, ltb, eqb, length};
 ghost use Rattle.std.proofs.Math.Option.{none, some};
 ghost use Rattle.spec.specs.Base.{if◌then◌else◌, joined};

@@ -1,4 +1,6 @@
 // The decoder: a position and a limit over bytes that are lent, as a value whose calls hand it back; and the header.
+#![tactic(auto)]
+
 ghost use Rattle.std.specs.Prelude.{◌≡◌, false, [], ◌∷◌, ◌+◌, ◌*◌, ◌<◌, ◌≤◌, ltb, length, take, drop};
 ghost use Rattle.std.proofs.Math.Seq.{slice};
 ghost use Rattle.spec.specs.Text.{text_words, text_break};

@@ -1,5 +1,7 @@
 // The decoder's doc example, and its words, 64-bit literals, strings, limits and header at their edges. A line for each call: the
 // bytes, the position and the limit; then what came, a value or a refusal's number, place and value, and the position and limit after.
+#![tactic(auto)]
+
 use decoder::{Decoder, LongRead, TextGiven, TextRead, WordGiven, WordRead};
 use libc::STDOUT_FILENO;
 use spec::{Limit, Refusal};

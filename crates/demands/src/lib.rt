@@ -1,1 +1,2 @@
 // The three demands as theorems, in proofs/.
+#![tactic(auto)]

@@ -1,4 +1,6 @@
 // The listing for the cutters: the instructions of checked records as text, in module order.
+#![tactic(auto)]
+
 mod named;
 mod order;
 mod write;

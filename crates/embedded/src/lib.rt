@@ -1,4 +1,6 @@
 // Embedded operations: the row of an operation inside OpSpecConstantOp, each operand once.
+#![tactic(auto)]
+
 ghost use Rattle.std.specs.Prelude.{◌≡◌, true, ◌%◌, ◌≤◌, ltb, length};
 ghost use Rattle.spec.specs.Base.{if◌then◌else◌, every};
 ghost use Rattle.spec.specs.Plain.{first_break};

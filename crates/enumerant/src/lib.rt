@@ -1,4 +1,6 @@
 // An enumerant's word, read with a decoder and any grammar.
+#![tactic(auto)]
+
 ghost use Rattle.std.specs.Prelude.{◌≡◌};
 ghost use Rattle.spec.specs.Reader.{refusal};
 ghost use Rattle.enumerant.specs.Read.{enumerant_from};

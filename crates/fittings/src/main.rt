@@ -1,6 +1,8 @@
 // Runs the table of fittings through both loads. Each module comes on standard input as a byte that is its length, then its bytes. A
 // line for each: its number in the table; number, offset, index and value; the header words; the counts; the four stores up to their
 // counts. Where the two loads differ, the line says so.
+#![tactic(auto)]
+
 ghost use Rattle.std.specs.Prelude.{◌+◌, ◌≤◌, length};
 ghost use Rattle.spec.specs.Load.{lent, room_in, Covers};
 ghost use Rattle.spec.specs.Fittings.{fittings, room_for};

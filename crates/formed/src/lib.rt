@@ -1,4 +1,6 @@
 // One pass over a grammar that checks it and fills its index: row by row with its operands, enumerant by enumerant with its parameters.
+#![tactic(auto)]
+
 ghost use Rattle.std.specs.Prelude.{◌≡◌, true, false, List, ◌≤◌, ◌<◌, length, replicate};
 ghost use Rattle.spec.specs.Grammar.{Slot, row_end, well_formed};
 ghost use Rattle.grammar.specs.Items.{item_is, item_at};

@@ -1,4 +1,6 @@
 // A grammar as bytes: its items, the tests on operand kinds, its index, and the lookups.
+#![tactic(auto)]
+
 mod find;
 mod index;
 mod items;

@@ -1,6 +1,8 @@
 // Puts the rules of a well-formed grammar to the check, each with a smallest grammar that breaks only it and one that just meets it, and
 // writes a line for each: the rule's case in words, and yes or no. The cases are read from standard input, a line each: the words, a
 // colon, and the grammar's bytes, each as a space and three decimal digits. The two grammars of the rule on the length are made here.
+#![tactic(auto)]
+
 ghost use Rattle.std.specs.Prelude.{◌≡◌, ◌+◌, ◌*◌, ◌≤◌, length};
 
 use libc::{STDIN_FILENO, STDOUT_FILENO};

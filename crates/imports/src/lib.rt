@@ -1,4 +1,6 @@
 // Extended instruction sets: the last import of an id that is recognised.
+#![tactic(auto)]
+
 ghost use Rattle.std.specs.Prelude.{◌≡◌, ◌*◌, ◌≤◌, length};
 ghost use Rattle.spec.specs.Base.{or_zero, same as sameAs};
 ghost use Rattle.spec.specs.Records.{record_size};

@@ -1,4 +1,6 @@
 // Two grammars joined into one: a walk over both, lowest row or enumerant first, which measures the union and then writes it.
+#![tactic(auto)]
+
 ghost use Rattle.std.specs.Prelude.{◌≡◌, true, ◌||◌, ◌+◌, ◌-◌, ◌≤◌, ◌<◌, ltb, length};
 ghost use Rattle.std.proofs.Math.Option.{none};
 ghost use Rattle.spec.specs.Words.{AllBytes};

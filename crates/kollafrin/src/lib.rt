@@ -5,6 +5,8 @@
 // most 67,108,864 bytes. So does the index of a bad record, for stores and counts of any size: the offset of a good record is a word
 // of 32 bits and each good record moves it by four bytes or more, so that no more than 2^30 records are good.
 // The bytes written may be more, and take two words; the records that a book is turned into are good ones, and few.
+#![tactic(auto)]
+
 ghost use Rattle.std.specs.Prelude.{◌≡◌, ◌<◌, length};
 ghost use Rattle.spec.specs.Base.{if◌then◌else◌};
 ghost use Rattle.spec.specs.Builtin.{builtin};

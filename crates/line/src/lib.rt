@@ -1,4 +1,6 @@
 // The line of an instruction.
+#![tactic(auto)]
+
 ghost use Rattle.std.specs.Prelude.{◌≡◌, ◌++◌, ◌≤◌, length};
 ghost use Rattle.spec.specs.Base.{ascii};
 ghost use Rattle.spec.specs.Check.{field_in};

@@ -1,4 +1,6 @@
 // The listing of a module: a line for its version and bound, one for each instruction kept, and how the load ended.
+#![tactic(auto)]
+
 ghost use Rattle.std.specs.Prelude.{◌≡◌, ◌++◌, ◌+◌, ◌*◌, ◌≤◌, length, eqb};
 ghost use Rattle.spec.specs.Base.{every};
 ghost use Rattle.spec.specs.Records.{record_size};

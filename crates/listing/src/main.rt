@@ -1,4 +1,6 @@
 // Lists the module on standard input, of which it reads 4,097 bytes at most: more than 4,096 are too long.
+#![tactic(auto)]
+
 use libc::{STDIN_FILENO, STDOUT_FILENO};
 
 fn main() {

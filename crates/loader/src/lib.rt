@@ -1,4 +1,6 @@
 // Loading: a module's instructions into lent stores, each decoded, placed in the layout and given room, or the first fault.
+#![tactic(auto)]
+
 ghost use Rattle.spec.specs.Builtin.{builtin};
 ghost use Rattle.spec.specs.Load.{lent};
 ghost use Rattle.loader.specs.Loading.{Loads};

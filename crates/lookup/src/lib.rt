@@ -1,4 +1,6 @@
 // The look-up of a name, of opcodes, enumerants, mask bits and extended instructions, in one run of bytes with an index.
+#![tactic(auto)]
+
 ghost use Rattle.std.specs.Prelude.{◌≡◌, ◌<◌, length};
 ghost use Rattle.spec.specs.Names.{name_of};
 ghost use Rattle.lookup.specs.Run.{place_in, Indexed};

@@ -1,4 +1,6 @@
 // Which function, which block: the numbers of records, one after the other, by their tags.
+#![tactic(auto)]
+
 ghost use Rattle.std.specs.Prelude.{◌≡◌, ◌<◌};
 ghost use Rattle.spec.specs.Numbers.{in_function, onward as onwardBy, numbers_of};
 ghost use Rattle.numbers.specs.Counting.{step_of};

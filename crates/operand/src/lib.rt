@@ -1,4 +1,6 @@
 // An operand: the arms of the crate's `Operand`, in the order of binary/assemble.rs, and its record in the log.
+#![tactic(auto)]
+
 ghost use Rattle.std.specs.Prelude.{◌≡◌, ◌+◌, ◌*◌, ◌≤◌, leb, length};
 ghost use Rattle.std.proofs.lemmas.List.Edits.{sets};
 ghost use Rattle.operand.specs.Parts.{parts, parts_of, is_two, Fits};

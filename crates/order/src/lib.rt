@@ -1,4 +1,6 @@
 // The instructions of good stores: as read, each at its offset; or in module order, each section from the range that its tag stands in.
+#![tactic(auto)]
+
 ghost use Rattle.std.specs.Prelude.{◌≡◌, ◌++◌, ◌+◌, ◌<◌, ◌≤◌, length, drop};
 ghost use Rattle.std.proofs.lemmas.List.Edits.{sets};
 ghost use Rattle.spec.specs.Write.{bytes_of_all, section_of, sections, parameters_in, functions, module_order};

@@ -1,4 +1,6 @@
 // The parser: an instruction's operands matched against the row of its opcode, in one walk that keeps their records where they fit.
+#![tactic(auto)]
+
 mod inst;
 mod literals;
 mod rows;

@@ -1,4 +1,6 @@
 // Pieces of text in an output, kept or only measured: bytes, numbers, ids, names and operands.
+#![tactic(auto)]
+
 mod operands;
 mod pieces;
 

@@ -1,5 +1,7 @@
 // Records in lent stores: the getters and the setters of an instruction record, the check behind refusal 30, and the operands of checked
 // records.
+#![tactic(auto)]
+
 ghost use Rattle.std.specs.Prelude.{◌≡◌, true, ◌+◌, ◌*◌, ◌≤◌, length, drop};
 ghost use Rattle.std.proofs.lemmas.List.Edits.{sets};
 ghost use Rattle.spec.specs.Records.{field_size, field_words, fields_at, record_size, record_words};

@@ -1,4 +1,6 @@
 // Opcode kinds, as reflect.rs and loader.rs tell them, and the layout: where an instruction goes, or why it is refused.
+#![tactic(auto)]
+
 ghost use Rattle.std.specs.Prelude.{◌≡◌, ◌≤◌, ◌<◌};
 ghost use Rattle.reflect.specs.Column.{code_of, column_of, layout_table, kind_table};
 ghost use Rattle.spec.specs.Layout.{opcode_kind, layout_at, layout_of};

@@ -1,5 +1,7 @@
 // Replays the sample (data/README.md): loads each of its modules by the built-in grammar, writes an accepted one in module order and as
 // text, and compares all with the answers kept there. Writes a line for each module that differs, then how many there were of both.
+#![tactic(auto)]
+
 ghost use Rattle.std.specs.Prelude.{◌+◌, ◌≤◌, length};
 ghost use Rattle.replay.specs.Entries.{Follows};
 

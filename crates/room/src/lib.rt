@@ -1,4 +1,6 @@
 // Room: what lent stores have room for, and the first of them that lacks it.
+#![tactic(auto)]
+
 ghost use Rattle.std.specs.Prelude.{◌≡◌};
 ghost use Rattle.spec.specs.Load.{room_of, room_fault};
 

@@ -1,4 +1,6 @@
 // From a module to records and back.
+#![tactic(auto)]
+
 ghost use Rattle.std.specs.Prelude.{◌≡◌, ◌&&◌, eqb};
 ghost use Rattle.spec.specs.Load.{lent};
 ghost use Rattle.round_trip.specs.Trip.{RoundTrip};

@@ -1,5 +1,7 @@
 // Sends the samples and some smaller rooms through the round trip by the built-in grammar, and writes a line for each: the case in
 // words, and yes or no.
+#![tactic(auto)]
+
 ghost use Rattle.std.specs.Prelude.{◌≤◌};
 
 use libc::STDOUT_FILENO;

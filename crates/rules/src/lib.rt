@@ -1,4 +1,6 @@
 // The rules that make a grammar well-formed: on operands, enumerants and parameters, on their order, and on kinds that are noted.
+#![tactic(auto)]
+
 mod noted;
 mod rules;
 

@@ -1,5 +1,7 @@
 // Rows of simple operands, which most instructions have: results, ids and numbers, values with their parameters, strings, and literals of
 // one word. They are read in one short loop; an instruction with any other operand, or with a fault, is passed over.
+#![tactic(auto)]
+
 ghost use Rattle.std.specs.Prelude.{◌≡◌, true, List, ◌∷◌, [], ℕ, ◌*◌, ◌≤◌, length};
 ghost use Rattle.spec.specs.Kinds.{is_enum, is_result};
 ghost use Rattle.spec.specs.Records.{Entry};

@@ -1,4 +1,6 @@
 // The answers that several crates share, and the names of kinds, opcodes, tags and refusals. Declarations alone: what they mean is said in specs/.
+#![tactic(auto)]
+
 pub mod kinds;
 pub mod opcodes;
 pub mod refusals;

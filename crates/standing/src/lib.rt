@@ -1,5 +1,7 @@
 // Whether a module is standing: tags 1 to 11 come first and never fall, no parameter follows a label in its function, tag 4 occurs
 // exactly once, and no function without a body comes after one with a body.
+#![tactic(auto)]
+
 ghost use Rattle.std.specs.Prelude.{◌≡◌};
 ghost use Rattle.spec.specs.Write.{standing as standingOf};
 ghost use Rattle.records.specs.Steps.{given};

@@ -1,5 +1,7 @@
 // Modules that stand and modules that do not. A line for each: its name, whether it stands, and whether the two writers agree after
 // the header. The modules are their bytes, the header's twenty in the first line of each.
+#![tactic(auto)]
+
 use libc::STDOUT_FILENO;
 use spec::{Loaded, refusals};
 

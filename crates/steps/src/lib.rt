@@ -1,4 +1,6 @@
 // A load by steps: where it stands, the next instruction decoded, placed in the layout, given room and kept, and what it answers.
+#![tactic(auto)]
+
 mod parts;
 mod step;
 

@@ -1,4 +1,6 @@
 // Strings in bytes: where one ends, whether its bytes are ASCII text, and whether they are UTF-8.
+#![tactic(auto)]
+
 ghost use Rattle.std.specs.Prelude.{◌≡◌};
 ghost use Rattle.spec.specs.Text.{is_utf8};
 ghost use Rattle.text.specs.Zero.{zero_in};

@@ -1,4 +1,6 @@
 // Texts in a lent buffer: a byte, decimal and hexadecimal digits. Each is put from a place on, and the answer is where it ends.
+#![tactic(auto)]
+
 ghost use Rattle.std.specs.Prelude.{◌≡◌, ◌∷◌, [], ◌+◌, ◌≤◌, ◌<◌, length};
 ghost use Rattle.spec.specs.Digits.{decimal as decimalOf, hex_digit as hexDigitOf, hex_digits};
 ghost use Rattle.texts.specs.Wrote.{Wrote};

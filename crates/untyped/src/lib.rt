@@ -1,4 +1,6 @@
 // Operands: one record of a kind, enumerants with their parameters, and pairs.
+#![tactic(auto)]
+
 ghost use Rattle.std.specs.Prelude.{◌≡◌, true, false, List, ◌∷◌, [], ℕ, ◌≤◌, ◌+◌, ◌*◌, eqb, length};
 ghost use Rattle.spec.specs.Base.{every, if◌then◌else◌};
 ghost use Rattle.spec.specs.Kinds.{is_mask};

@@ -1,4 +1,6 @@
 // What an instruction has come to: its frame, the results and operands in use, one record more, and of which kind a literal by type is.
+#![tactic(auto)]
+
 mod literals;
 mod used;
 

@@ -1,4 +1,6 @@
 // Words and bytes in slices: a word read at a place, a word or bytes stored at one.
+#![tactic(auto)]
+
 ghost use Rattle.std.specs.Prelude.{◌≡◌, ◌+◌, ◌≤◌, length};
 ghost use Rattle.std.proofs.lemmas.List.Edits.{sets};
 ghost use Rattle.spec.specs.Words.{four, four_at, bytes_of};

@@ -6,18 +6,18 @@ use Rattle.text.proofs.Steps.{Walked, walk_starts, walk_finds, walk_goes_on, wal
 use Rattle.text.proofs.first.Statement.{statement}
 use Rattle.text.proofs.first.Tie as tie
 
-abbrev invariant-loop : tie.invariant-loop
-invariant-loop rows b i₀ i = Walked b i
+abbrev invariant-loop-i : tie.invariant-loop-i
+invariant-loop-i rows b i₀ i = Walked b i
 
-abbrev decreases-loop : tie.decreases-loop
-decreases-loop rows b i₀ i = 9 - i
+abbrev decreases-loop-i : tie.decreases-loop-i
+decreases-loop-i rows b i₀ i = 9 - i
 
 pub first_spec : {M : Type 1} → statement M
 first_spec =
     tie.close
     (tie.spec
-    invariant-loop
-    decreases-loop
+    invariant-loop-i
+    decreases-loop-i
     (λ c. walk_starts _)
     (λ c. search rules)
     (λ c. search rules)
@@ -26,8 +26,8 @@ first_spec =
     (λ c. search rules)
     (λ c. search rules)
     (λ c. search rules)
-    (λ c. let at-loop-test = c.before.before in let at-loop = at-loop-test.before in walk_finds at-loop.loop.invariant _ at-loop.before.requires at-loop-test.loop-test.true c.if1.true)
+    (λ c. let at-loop-test = c.before.before in let at-loop = at-loop-test.before in walk_finds at-loop.loop-i.invariant _ at-loop.before.requires at-loop-test.loop-i-test.true c.if-row-b.true)
     (λ c. omega arith)
     (λ c. omega arith)
-    (λ c. let at-loop-test = c.before.before in let at-loop = at-loop-test.before in walk_goes_on at-loop.loop.invariant _ at-loop.before.requires at-loop-test.loop-test.true c.if1.false)
-    (λ c. walk_ends c.before.loop.invariant c.loop-test.false))
+    (λ c. let at-loop-test = c.before.before in let at-loop = at-loop-test.before in walk_goes_on at-loop.loop-i.invariant _ at-loop.before.requires at-loop-test.loop-i-test.true c.if-row-b.false)
+    (λ c. walk_ends c.before.loop-i.invariant c.loop-i-test.false))

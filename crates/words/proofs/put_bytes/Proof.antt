@@ -6,24 +6,24 @@ use Rattle.words.proofs.Copying.{Copied, copy_start, copy_length, copy_turn, cop
 use Rattle.words.proofs.put_bytes.Statement.{statement}
 use Rattle.words.proofs.put_bytes.Tie as tie
 
-abbrev invariant-loop : tie.invariant-loop
-invariant-loop out₀ at bytes i₀ out i = Copied out₀ out bytes at i
+abbrev invariant-loop-i : tie.invariant-loop-i
+invariant-loop-i out₀ at bytes i₀ out i = Copied out₀ out bytes at i
 
-abbrev decreases-loop : tie.decreases-loop
-decreases-loop out₀ at bytes i₀ out i = length bytes - i
+abbrev decreases-loop-i : tie.decreases-loop-i
+decreases-loop-i out₀ at bytes i₀ out i = length bytes - i
 
 pub put_bytes_spec : {M : Type 1} → statement M
 put_bytes_spec =
     tie.close
     (tie.spec
-    invariant-loop
-    decreases-loop
+    invariant-loop-i
+    decreases-loop-i
     (λ c. copy_start _ _ _)
     (λ c. omega arith)
     (λ c. omega arith)
-    (λ c. let at-loop = c.before.before in omega (arith, copy_length at-loop.loop.invariant))
+    (λ c. let at-loop = c.before.before in omega (arith, copy_length at-loop.loop-i.invariant))
     (λ c. omega arith)
     (λ c. omega arith)
-    (λ c. let at-loop = c.before.before in copy_turn at-loop.loop.invariant c.before.loop-test.true)
-    (λ c. copy_length c.before.loop.invariant)
-    (λ c. copy_end c.before.loop.invariant c.loop-test.false))
+    (λ c. let at-loop = c.before.before in copy_turn at-loop.loop-i.invariant c.before.loop-i-test.true)
+    (λ c. copy_length c.before.loop-i.invariant)
+    (λ c. copy_end c.before.loop-i.invariant c.loop-i-test.false))
