@@ -7,28 +7,28 @@ use crate::{Decoder, LongRead, Text, TextRead, WordRead};
 use spec::{Limit, Refusal};
 
 // A word, or a refusal.
-#[derive(Drop)]
+#[derive(Clone, Copy)]
 pub enum WordGiven {
     Got(u32),
     Refused(Refusal),
 }
 
 // A 64-bit literal, or a refusal.
-#[derive(Drop)]
+#[derive(Clone, Copy)]
 pub enum LongGiven {
     Got(u64),
     Refused(Refusal),
 }
 
 // Where a string's bytes start, how many there are, and where the first byte is that is not zero after them, or 0; or a refusal.
-#[derive(Drop)]
+#[derive(Clone, Copy)]
 pub enum TextGiven {
     Got(usize, usize, usize),
     Refused(Refusal),
 }
 
 // What came of a word and of the string after it, and the place after both.
-#[derive(Drop)]
+#[derive(Clone, Copy)]
 pub struct Pair {
     pub word: WordGiven,
     pub text: TextGiven,

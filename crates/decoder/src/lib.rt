@@ -19,21 +19,21 @@ use spec::{Found, HeaderRead, Limit, Refusal, refusals};
 use words::word_at;
 
 // A position in some bytes, and how many words may still be read.
-#[derive(Drop)]
+#[derive(Clone, Copy)]
 pub struct Decoder {
     pub offset: usize,
     pub limit: Limit,
 }
 
 // A word, or a refusal; each with the decoder after it.
-#[derive(Drop)]
+#[derive(Clone, Copy)]
 pub enum WordRead {
     Got(u32, Decoder),
     Refused(Refusal, Decoder),
 }
 
 // A 64-bit literal, or a refusal; each with the decoder after it.
-#[derive(Drop)]
+#[derive(Clone, Copy)]
 pub enum LongRead {
     Got(u64, Decoder),
     Refused(Refusal, Decoder),
@@ -41,7 +41,7 @@ pub enum LongRead {
 
 // A string: where its bytes start, how many there are, where the first byte is that is not zero from its zero to the end of its last
 // word, or 0, and the decoder after it.
-#[derive(Drop)]
+#[derive(Clone, Copy)]
 pub struct Text {
     pub start: usize,
     pub length: usize,
@@ -50,7 +50,7 @@ pub struct Text {
 }
 
 // A string, or a refusal with the decoder after it.
-#[derive(Drop)]
+#[derive(Clone, Copy)]
 pub enum TextRead {
     Got(Text),
     Refused(Refusal, Decoder),
@@ -124,7 +124,7 @@ pub fn header(s: &[u8]) -> HeaderRead
 }
 
 // How a string at the start of some bytes ends: after so many bytes, at no zero byte, or after bytes that are not UTF-8.
-#[derive(Drop)]
+#[derive(Clone, Copy)]
 enum End {
     After(usize),
     NoZero,

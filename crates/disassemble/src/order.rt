@@ -11,7 +11,7 @@ use spec::tags;
 
 // Where module order is: in a section, from an index on; in the functions, from an index on (tag 12); or in the parameters of one, from
 // an index on (tag 13), whose definition goes on at another.
-#[derive(Drop)]
+#[derive(Clone, Copy)]
 pub struct Cursor {
     pub tag: u32,
     pub at: usize,
@@ -19,7 +19,7 @@ pub struct Cursor {
 }
 
 // The next index in module order, and where it is after it; or the end.
-#[derive(Drop)]
+#[derive(Clone, Copy)]
 pub enum Next {
     At(usize, Cursor),
     End,

@@ -180,12 +180,12 @@ pub told : {g : List ℕ} {at : ℕ} {xs : List Item} → Stands g at xs → (i 
 unfolding marks_from mark_at
 told {xs = []} s i h = absurd (omega arith)
 told {at = at} {xs = row o ∷ xs} s zero h = let f = first s in record { inside = omega (arith, f.room); item = ap (λ (x : Item). mark_of x at) f.item }
-told {xs = row o ∷ xs} s (suc i) h = told (first s).more i (omega arith)
-told {xs = operand k q ∷ xs} s i h = told (first s).more i h
+told {at = at} {xs = row o ∷ xs} s (suc i) h = told {at = at + size_of (row o)} {xs = xs} (first s).more i (omega arith)
+told {at = at} {xs = operand k q ∷ xs} s i h = told {at = at + size_of (operand k q)} {xs = xs} (first s).more i h
 told {at = at} {xs = enumerant k v ∷ xs} s zero h = let f = first s in record { inside = omega (arith, f.room); item = ap (λ (x : Item). mark_of x at) f.item }
-told {xs = enumerant k v ∷ xs} s (suc i) h = told (first s).more i (omega arith)
-told {xs = parameter k ∷ xs} s i h = told (first s).more i h
-told {xs = broken ∷ xs} s i h = told (first s).more i h
+told {at = at} {xs = enumerant k v ∷ xs} s (suc i) h = told {at = at + size_of (enumerant k v)} {xs = xs} (first s).more i (omega arith)
+told {at = at} {xs = parameter k ∷ xs} s i h = told {at = at + size_of (parameter k)} {xs = xs} (first s).more i h
+told {at = at} {xs = broken ∷ xs} s i h = told {at = at + size_of broken} {xs = xs} (first s).more i h
 
 -- THE MARKS RISE
 
@@ -264,29 +264,29 @@ row_found_lem {xs = []} op s = (refl, omega arith)
 row_found_lem {g} {at} {xs = row o ∷ xs} op s =
     let f = first s in
     pick_by g at 3 (found 0 op (marks_from (at + 3) xs)) (row_found g) (slots_of xs) (row_of op (rows_of xs)) (eqb o op)
-    (ap (λ (ys : List Item). some (slots_of ys)) f.more.here) f.room (row_found_lem op f.more)
-row_found_lem {xs = operand k q ∷ xs} op s = row_found_lem op (first s).more
-row_found_lem {xs = enumerant k v ∷ xs} op s =
+    (ap (λ (ys : List Item). some (slots_of ys)) f.more.here) f.room (row_found_lem {at = at + size_of (row o)} {xs = xs} op f.more)
+row_found_lem {at = at} {xs = operand k q ∷ xs} op s = row_found_lem {at = at + size_of (operand k q)} {xs = xs} op (first s).more
+row_found_lem {at = at} {xs = enumerant k v ∷ xs} op s =
     let f = first s in
     let h = enum_least k f.fine in
-    simp (ne_eqb k 0 (λ (e : k ≡ 0). omega arith)) (row_found_lem op f.more)
-row_found_lem {xs = parameter k ∷ xs} op s = row_found_lem op (first s).more
-row_found_lem {xs = broken ∷ xs} op s = row_found_lem op (first s).more
+    simp (ne_eqb k 0 (λ (e : k ≡ 0). omega arith)) (row_found_lem {at = at + size_of (enumerant k v)} {xs = xs} op f.more)
+row_found_lem {at = at} {xs = parameter k ∷ xs} op s = row_found_lem {at = at + size_of (parameter k)} {xs = xs} op (first s).more
+row_found_lem {at = at} {xs = broken ∷ xs} op s = row_found_lem {at = at + size_of broken} {xs = xs} op (first s).more
 
 -- the first mark of a kind that is not 0 and a value is that of the enumerant
 pub enumerant_found : {g : List ℕ} {at : ℕ} {xs : List Item} (k v : ℕ) → 1 ≤ k → Stands g at xs
     → (parameters_found g (past 6 (found k v (marks_from at xs))) ≡ listed k v (enumerants_of xs)) × (place_found (past 6 (found k v (marks_from at xs))) ≤ length g)
 unfolding marks_from found listed enumerants_of parameters_found place_found
 enumerant_found {xs = []} k v h s = (refl, omega arith)
-enumerant_found {xs = row o ∷ xs} k v h s =
-    simp (ne_eqb 0 k (λ (e : 0 ≡ k). omega arith)) (enumerant_found k v h (first s).more)
-enumerant_found {xs = operand j q ∷ xs} k v h s = enumerant_found k v h (first s).more
+enumerant_found {at = at} {xs = row o ∷ xs} k v h s =
+    simp (ne_eqb 0 k (λ (e : 0 ≡ k). omega arith)) (enumerant_found {at = at + size_of (row o)} {xs = xs} k v h (first s).more)
+enumerant_found {at = at} {xs = operand j q ∷ xs} k v h s = enumerant_found {at = at + size_of (operand j q)} {xs = xs} k v h (first s).more
 enumerant_found {g} {at} {xs = enumerant j u ∷ xs} k v h s =
     let f = first s in
     pick_by g at 6 (found k v (marks_from (at + 6) xs)) (parameters_found g) (parameters_of xs) (listed k v (enumerants_of xs)) (eqb j k && eqb u v)
-    (ap (λ (ys : List Item). some (parameters_of ys)) f.more.here) f.room (enumerant_found k v h f.more)
-enumerant_found {xs = parameter j ∷ xs} k v h s = enumerant_found k v h (first s).more
-enumerant_found {xs = broken ∷ xs} k v h s = enumerant_found k v h (first s).more
+    (ap (λ (ys : List Item). some (parameters_of ys)) f.more.here) f.room (enumerant_found {at = at + size_of (enumerant j u)} {xs = xs} k v h f.more)
+enumerant_found {at = at} {xs = parameter j ∷ xs} k v h s = enumerant_found {at = at + size_of (parameter j)} {xs = xs} k v h (first s).more
+enumerant_found {at = at} {xs = broken ∷ xs} k v h s = enumerant_found {at = at + size_of broken} {xs = xs} k v h (first s).more
 
 -- no enumerant is of kind 0
 pub none_listed : (v : ℕ) (xs : List Item) → every is_fine xs ≡ true → listed 0 v (enumerants_of xs) ≡ none

@@ -11,14 +11,14 @@ use crate::kinds::is_mask;
 use spec::Found;
 
 // An operand of a row: its kind and quantifier; or the end of the row.
-#[derive(Drop)]
+#[derive(Clone, Copy)]
 pub enum SlotAt {
     Slot(u8, u8),
     End,
 }
 
 // A parameter of an enumerant: its kind; or the end of the enumerant.
-#[derive(Drop)]
+#[derive(Clone, Copy)]
 pub enum ParameterAt {
     Parameter(u8),
     End,

@@ -16,7 +16,7 @@ const PLACES: usize = 1537;
 pub const SIZE: usize = 23382;
 
 // A row (kind 0, its opcode as value) or an enumerant, and the place of its item.
-#[derive(Drop)]
+#[derive(Clone, Copy)]
 pub struct Mark {
     pub kind: u8,
     pub value: u32,

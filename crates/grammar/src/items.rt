@@ -5,7 +5,7 @@ ghost use Rattle.grammar.specs.Items.{item_at, length_at};
 
 // An item: a row (its opcode), an operand (kind, quantifier), an enumerant (kind, value), a parameter (kind); or broken: no item, or one
 // cut short.
-#[derive(Drop)]
+#[derive(Clone, Copy)]
 pub enum Item {
     Row(u16),
     Operand(u8, u8),

@@ -17,14 +17,14 @@ use spec::{Joined, refusals};
 const KIND: u64 = 4294967296;
 
 // Where a step goes in both grammars, or the key of two pieces that differ.
-#[derive(Drop)]
+#[derive(Clone, Copy)]
 enum Step {
     On(usize, usize),
     Differs(u64),
 }
 
 // The lowest key that clashes, or how many bytes the union has.
-#[derive(Drop)]
+#[derive(Clone, Copy)]
 enum Merged {
     Clash(u64),
     Bytes(usize),

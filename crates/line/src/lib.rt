@@ -19,7 +19,7 @@ use pieces::{put_byte, put_bytes, put_id, put_name, put_operands};
 use spec::{Fields, kinds, opcodes, tags};
 
 // What is asked for: how many records there are, where the imports among them end, and whether the text is kept.
-#[derive(Drop)]
+#[derive(Clone, Copy)]
 pub struct Asked {
     pub count: usize,
     pub imports: usize,

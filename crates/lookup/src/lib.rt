@@ -14,7 +14,7 @@ pub const GLSL: u8 = 46;
 pub const OPENCL: u8 = 47;
 
 // Where in the run a text starts and where it ends; or no name.
-#[derive(Drop)]
+#[derive(Clone, Copy)]
 pub enum Named {
     At(usize, usize),
     Nothing,

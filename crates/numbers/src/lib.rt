@@ -8,7 +8,7 @@ ghost use Rattle.numbers.specs.Counting.{step_of};
 use spec::{Numbers, tags};
 
 // A record counted: what has begun with it, and its own numbers.
-#[derive(Drop)]
+#[derive(Clone, Copy)]
 pub struct Step {
     pub begun: Numbers,
     pub own: Numbers,

@@ -10,7 +10,7 @@ use spec::kinds;
 
 // What an instruction holds after its results: enumerants, ids and literals by their value, floats by their bits, a string by where it
 // starts in the string bytes and how long it is.
-#[derive(Drop)]
+#[derive(Clone, Copy)]
 pub enum Operand {
     ImageOperands(u32),
     FPFastMathMode(u32),
@@ -60,7 +60,7 @@ pub enum Operand {
 }
 
 // An operand's kind, and its value: two words for kinds 36, 38 and 40, the first in the low half.
-#[derive(Drop)]
+#[derive(Clone, Copy)]
 pub struct Parts {
     pub kind: u8,
     pub value: u64,

@@ -22,7 +22,7 @@ use used::{Frame, Parsed, Used};
 
 // An instruction that was read: its opcode and word count, where its row's operands start, its results as `Used` has them, how many
 // operands, the first two, where log and strings go on after its records, and the lowest offset that breaks it, or 0.
-#[derive(Drop)]
+#[derive(Clone, Copy)]
 pub struct Decoded {
     pub opcode: u16,
     pub words: u16,
@@ -38,7 +38,7 @@ pub struct Decoded {
 }
 
 // An instruction, or the first refusal in it.
-#[derive(Drop)]
+#[derive(Clone, Copy)]
 pub enum InstRead {
     Got(Decoded),
     Refused(Refusal),

@@ -84,7 +84,7 @@ pub fn put_record(instructions: &mut [u32], at: usize, f: Fields, n: Numbers)
 // THE CHECK
 
 // What the check comes to: good records, or the index of the first that is bad (count + 1 for the end).
-#[derive(Drop)]
+#[derive(Clone, Copy)]
 pub enum Checked {
     Good,
     Bad(usize),
@@ -93,7 +93,7 @@ pub enum Checked {
 // 1. FIELDS AND OFFSETS
 
 // A record's fields are bad, or the offset after it.
-#[derive(Drop)]
+#[derive(Clone, Copy)]
 enum Offset {
     Refused,
     Got(usize),
@@ -126,7 +126,7 @@ fn offset_after(at: usize, f: Fields) -> Offset
 // 2. LOG AND STRINGS
 
 // Operands are bad; or where log and strings go on after them, and how many words they take.
-#[derive(Drop)]
+#[derive(Clone, Copy)]
 enum Passed {
     Refused,
     Got(usize, usize, usize),
@@ -289,7 +289,7 @@ fn operands_after(
 // 3. TAGS
 
 // A record's tag is bad, or the state after it.
-#[derive(Drop)]
+#[derive(Clone, Copy)]
 enum Tagging {
     Refused,
     Got(State),
@@ -335,7 +335,7 @@ fn at_end(good: bool, index: usize) -> Checked
 
 // What is asked for: whether the records are to end outside functions, how many words a record has, how many records, log bytes and
 // string bytes there are.
-#[derive(Drop)]
+#[derive(Clone, Copy)]
 struct Asked {
     whole: bool,
     size: usize,

@@ -15,7 +15,7 @@ use parts::{HEAD, ends_of, head_at, wide};
 use words::word_at;
 
 // What an entry comes to: the sample ends before it does, or where it ends and how many modules differ, which is 1 or 0.
-#[derive(Drop)]
+#[derive(Clone, Copy)]
 enum Turn {
     Cut,
     Next(usize, usize),

@@ -13,7 +13,7 @@ const RECORD: usize = 4 * records::RECORD;
 const ENTRY: usize = 12;
 
 // Where the parts after the words end, counted from the end of the words.
-#[derive(Drop)]
+#[derive(Clone, Copy)]
 pub struct Ends {
     pub module: usize,
     pub instructions: usize,

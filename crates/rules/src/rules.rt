@@ -20,7 +20,7 @@ const OTHER_LEAD: u8 = 2;
 
 // What the check keeps of a row's operands so far: how many (4: four or more), whether the first is 46 and One, and what the first is that
 // is no result.
-#[derive(Drop)]
+#[derive(Clone, Copy)]
 pub struct Passed {
     pub count: u8,
     pub typed: bool,

@@ -25,14 +25,14 @@ use untyped::{next_place, parse_parameters};
 use used::{Frame, Parsed, Used, id_of, literal_kind, push, push_text, there, with_result};
 
 // Operands that were read, with the decoder after them; or passed over.
-#[derive(Drop)]
+#[derive(Clone, Copy)]
 pub enum Simple {
     Got(Decoder, Used),
     Pass,
 }
 
 // A word, and the decoder after it.
-#[derive(Drop)]
+#[derive(Clone, Copy)]
 pub struct Next {
     pub word: u32,
     pub after: Decoder,

@@ -7,14 +7,14 @@ pub mod refusals;
 pub mod tags;
 
 // How many words may still be read: any number, or so many.
-#[derive(Drop)]
+#[derive(Clone, Copy)]
 pub enum Limit {
     Unlimited,
     Words(usize),
 }
 
 // A refusal: its number in the table of refusals (0 for none), its place and its value.
-#[derive(Drop)]
+#[derive(Clone, Copy)]
 pub struct Refusal {
     pub number: u32,
     pub place: usize,
@@ -22,21 +22,21 @@ pub struct Refusal {
 }
 
 // Where a byte was found, or nowhere.
-#[derive(Drop)]
+#[derive(Clone, Copy)]
 pub enum Found {
     At(usize),
     Nothing,
 }
 
 // The five header words, and a refusal's number and place; the words are 0 where the number is not.
-#[derive(Drop)]
+#[derive(Clone, Copy)]
 pub struct HeaderRead {
     pub refusal: Refusal,
     pub words: [u32; 5],
 }
 
 // Outside functions; in a function, outside its blocks; in a block.
-#[derive(Drop)]
+#[derive(Clone, Copy)]
 pub enum State {
     Outside,
     Function,
@@ -44,14 +44,14 @@ pub enum State {
 }
 
 // A cell of the layout table: the tag and the state after it, or the number of a refusal.
-#[derive(Drop)]
+#[derive(Clone, Copy)]
 pub enum Cell {
     Tagged(u8, State),
     Refuses(u8),
 }
 
 // The fields of an instruction record: its first eight words.
-#[derive(Drop)]
+#[derive(Clone, Copy)]
 pub struct Fields {
     pub head: u32,
     pub tag: u32,
@@ -64,14 +64,14 @@ pub struct Fields {
 }
 
 // The numbers of an instruction record, its last two words: its function, and its block in that; both from 1, 0 for none.
-#[derive(Drop)]
+#[derive(Clone, Copy)]
 pub struct Numbers {
     pub function: u32,
     pub block: u32,
 }
 
 // How many instruction records, log bytes, string bytes and type entries: those kept, or those that there is room for.
-#[derive(Drop)]
+#[derive(Clone, Copy)]
 pub struct Counts {
     pub instructions: usize,
     pub log: usize,
@@ -81,7 +81,7 @@ pub struct Counts {
 
 // What a load answers: the number (0 accepted), its byte offset, its instruction index, its value; the header words; the counts; whether
 // the module is plain, and the lowest byte offset that breaks it, or 0.
-#[derive(Drop)]
+#[derive(Clone, Copy)]
 pub struct Loaded {
     pub number: u32,
     pub offset: usize,
@@ -94,7 +94,7 @@ pub struct Loaded {
 }
 
 // What a writer answers: the number (0 written), the index of the first bad record or 0, the bytes written.
-#[derive(Drop)]
+#[derive(Clone, Copy)]
 pub struct Written {
     pub number: u32,
     pub index: usize,
@@ -102,7 +102,7 @@ pub struct Written {
 }
 
 // What turning a book answers: the number (0 turned), the index of the first record that is at fault or 0, the records written.
-#[derive(Drop)]
+#[derive(Clone, Copy)]
 pub struct Turned {
     pub number: u32,
     pub index: usize,
@@ -110,7 +110,7 @@ pub struct Turned {
 }
 
 // Whether a module is standing: the number (0 or 30), the index of the first bad record or 0, yes or no.
-#[derive(Drop)]
+#[derive(Clone, Copy)]
 pub struct Stands {
     pub number: u32,
     pub index: usize,
@@ -118,7 +118,7 @@ pub struct Stands {
 }
 
 // What joining two grammars answers: the number (0 joined), its place and value, the bytes written.
-#[derive(Drop)]
+#[derive(Clone, Copy)]
 pub struct Joined {
     pub number: u32,
     pub place: u32,

@@ -61,7 +61,7 @@ fn has_two(kind: u8) -> bool
 }
 
 // The places that are reached in the log and in the output.
-#[derive(Drop)]
+#[derive(Clone, Copy)]
 struct Reached {
     log: usize,
     out: usize,

@@ -12,7 +12,7 @@ use spec::{Stands, refusals, tags};
 
 // Where a pass over the tags is: the tag before, 12 after the first instruction of a function; whether a label came in the
 // function; whether a MemoryModel came; whether a function with a body came.
-#[derive(Drop)]
+#[derive(Clone, Copy)]
 struct Order {
     before: u32,
     label: bool,

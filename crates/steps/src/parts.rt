@@ -15,7 +15,7 @@ use used::id_of;
 
 // Where a load stands: the place of the next instruction, what is kept so far, the functions and blocks that have begun, the state of the
 // layout, and the first offset that breaks what is kept, or 0.
-#[derive(Drop)]
+#[derive(Clone, Copy)]
 pub struct Progress {
     pub at: usize,
     pub instructions: usize,
@@ -28,7 +28,7 @@ pub struct Progress {
 }
 
 // An instruction that goes in: where the load stood before it, what was read, its tag, and the state after it.
-#[derive(Drop)]
+#[derive(Clone, Copy)]
 pub struct Taken {
     pub from: Progress,
     pub read: Decoded,
@@ -38,7 +38,7 @@ pub struct Taken {
 
 // Where a load stopped, and why: at the end the number is 0, 16 or 21. What breaks the instructions kept is said at the end alone, so that
 // the loop need not hold it beside that of the instruction in hand.
-#[derive(Drop)]
+#[derive(Clone, Copy)]
 pub struct Ended {
     pub progress: Progress,
     pub refusal: Refusal,

@@ -18,7 +18,7 @@ use tracker::Told;
 use used::{Frame, id_of, unused};
 
 // What becomes of an instruction before anything is kept: it goes in, with a tag and the state after it, or is refused.
-#[derive(Drop)]
+#[derive(Clone, Copy)]
 pub enum Judged {
     Got(Decoded, u8, State),
     Refused(Refusal),

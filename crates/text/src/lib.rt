@@ -60,7 +60,7 @@ fn rows() -> [[u8; 5]; 9]
 }
 
 // What is due: so many bytes of a character, the first of them from low to high.
-#[derive(Drop)]
+#[derive(Clone, Copy)]
 struct Pending {
     left: u8,
     low: u8,
@@ -68,7 +68,7 @@ struct Pending {
 }
 
 // What the first byte of a character leads to: it may not stand there, or more is due.
-#[derive(Drop)]
+#[derive(Clone, Copy)]
 enum Step {
     Bad,
     More(Pending),

@@ -18,21 +18,21 @@ use operand::{Operand, Parts, operand_of};
 use spec::{Found, opcodes};
 
 // An id that is there or not: a result type or a result id.
-#[derive(Drop)]
+#[derive(Clone, Copy)]
 pub enum Id {
     Absent,
     Is(u32),
 }
 
 // What is known of an id: its width, and its sort: 1 unsigned, 2 signed, 3 float.
-#[derive(Drop)]
+#[derive(Clone, Copy)]
 pub enum Resolved {
     Type { width: u32, sort: u32 },
     Unknown,
 }
 
 // What type tracking is told of an instruction: its opcode, its results, how many operands, and kind and value of the first two.
-#[derive(Drop)]
+#[derive(Clone, Copy)]
 pub struct Told {
     pub opcode: u16,
     pub rtype: Id,
@@ -44,7 +44,7 @@ pub struct Told {
 
 // How many entries there are in the store, which is lent to each call; an id above which none has an entry; and how many of the hints,
 // which are lent too, are marks.
-#[derive(Drop)]
+#[derive(Clone, Copy)]
 pub struct TypeTracker {
     pub count: usize,
     pub greatest: u32,

@@ -19,7 +19,7 @@ use spec::{Found, Refusal, kinds, refusals};
 use used::{Parsed, Used, push, push_text};
 
 // A value that is known, and where its parameters start unless it is a mask, or a refusal; each with the decoder after it.
-#[derive(Drop)]
+#[derive(Clone, Copy)]
 pub enum EnumRead {
     Got(u32, usize, Decoder),
     Refused(Refusal, Decoder),

@@ -16,7 +16,7 @@ use spec::{Refusal, kinds};
 use tracker::Id;
 
 // An instruction: where it begins, its words, its opcode, and where its row's operands start in the grammar.
-#[derive(Drop)]
+#[derive(Clone, Copy)]
 pub struct Frame {
     pub at: usize,
     pub words: u16,
@@ -28,7 +28,7 @@ pub struct Frame {
 // the operand log and of the string bytes is in use, how many string bytes there are before those of the store, and the first offset
 // that breaks an operand, or 0. A result that may be missing is 2^32 and a word where it is there, else 0; an operand that is missing is
 // of kind 0.
-#[derive(Drop)]
+#[derive(Clone, Copy)]
 pub struct Used {
     pub rtype: u64,
     pub rid: u64,
@@ -44,7 +44,7 @@ pub struct Used {
 }
 
 // Operands that were read, or a refusal; each with the decoder after it.
-#[derive(Drop)]
+#[derive(Clone, Copy)]
 pub enum Parsed {
     Got(Decoder, Used),
     Refused(Refusal, Decoder),

@@ -12,4 +12,4 @@ count_spec =
     (tie.spec
     (λ c κs. search rules)
     (λ c κs. search rules)
-    (λ c. rw (c.Numbers-of.ensures, c.before.onward.ensures)))
+    (λ c. rw (c.numbers_of-own.ensures, c.before.onward-begun.ensures)))

@@ -9,8 +9,8 @@ pub numbers_of_spec : {M : Type 1} → statement M
 numbers_of_spec =
     tie.close
     (tie.spec
-    (λ c. in_block _ _ c.if1.true)
+    (λ c. in_block _ _ c.if-tag.true)
     (λ c κs. search rules)
-    (λ c. in_no_block _ _ c.before.before.if1.false c.before.if2.true _ c.in-function.ensures)
+    (λ c. in_no_block _ _ c.before.before.if-tag.false c.before.if-tag-2.true _ c.in_function.ensures)
     (λ c κs. search rules)
-    (λ c. in_no_function _ _ c.before.before.if1.false c.before.if2.false _ c.in-function2.ensures))
+    (λ c. in_no_function _ _ c.before.before.if-tag.false c.before.if-tag-2.false _ c.in_function-2.ensures))

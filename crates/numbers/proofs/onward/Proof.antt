@@ -10,7 +10,7 @@ onward_spec =
     tie.close
     (tie.spec
     (λ c. search rules)
-    (λ c. begins_function _ _ c.before.if1.true)
+    (λ c. begins_function _ _ c.before.if-tag-eq-FUNCTION.true)
     (λ c. search rules)
-    (λ c. begins_block _ _ c.before.before.if1.false c.before.if2.true)
-    (λ c. begins_nothing _ _ c.before.if1.false c.if2.false))
+    (λ c. begins_block _ _ c.before.before.if-tag-eq-FUNCTION.false c.before.if-tag-eq-LABEL.true)
+    (λ c. begins_nothing _ _ c.before.if-tag-eq-FUNCTION.false c.if-tag-eq-LABEL.false))

@@ -12,5 +12,5 @@ keep_bytes_spec =
     (λ c. search rules)
     (λ c κs. search rules)
     (λ c. search rules)
-    (λ c. let at-put-bytes = c.before.before in let at-if1 = at-put-bytes.before.before in let at-start = at-if1.before.before.before in kept_fits at-start.args.out.now _ at-start.args.at (length at-start.args.bytes.now) at-start.args.bytes.now at-if1.if1.true at-put-bytes.put_bytes.ensures)
-    (λ c. kept_full _ _ _ _ c.if1.false))
+    (λ c. let at-put-bytes = c.before.before in let at-if1 = at-put-bytes.before.before in let at-start = at-if1.before.before.before in kept_fits at-start.args.out.now _ at-start.args.at (length at-start.args.bytes.now) at-start.args.bytes.now at-if1.if-at-bytes.true at-put-bytes.put_bytes.ensures)
+    (λ c. kept_full _ _ _ _ c.if-at-bytes.false))

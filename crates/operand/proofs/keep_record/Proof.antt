@@ -13,8 +13,8 @@ keep_record_spec =
     tie.close
     (tie.spec
     (λ c κs. search rules)
-    (λ c. let at-start = c.before.before in omega (arith, c.record_length_lem.ensures, length_range at-start.args.p))
+    (λ c. let at-start = c.before.before in omega (arith, c.record_length.ensures, length_range at-start.args.p))
     (λ c κs. search rules)
     (λ c. search rules)
-    (λ c. let at-put-record = c.before.before in let at-if1 = at-put-record.before.before in let at-start = at-if1.before.before.before in let e = c.before.before.before.before.before.record_length_lem.ensures in (ap (λ (n : ℕ). at-start.args.at + n) e, kept_fits at-start.args.log.now _ at-start.args.at (record_length at-start.args.p) (record_of at-start.args.p) (omega (arith, e, at-if1.if1.true)) at-put-record.put_record.ensures))
-    (λ c. let at-start = c.before.before.before in let e = c.before.record_length_lem.ensures in (ap (λ (n : ℕ). at-start.args.at + n) e, kept_full at-start.args.log.now at-start.args.at (record_length at-start.args.p) (record_of at-start.args.p) (omega (arith, e, c.if1.false)))))
+    (λ c. let at-put-record = c.before.before in let at-if1 = at-put-record.before.before in let at-start = at-if1.before.before.before in let e = c.before.before.before.before.before.record_length.ensures in (ap (λ (n : ℕ). at-start.args.at + n) e, kept_fits at-start.args.log.now _ at-start.args.at (record_length at-start.args.p) (record_of at-start.args.p) (omega (arith, e, at-if1.if-next-log.true)) at-put-record.put_record.ensures))
+    (λ c. let at-start = c.before.before.before in let e = c.before.record_length.ensures in (ap (λ (n : ℕ). at-start.args.at + n) e, kept_full at-start.args.log.now at-start.args.at (record_length at-start.args.p) (record_of at-start.args.p) (omega (arith, e, c.if-next-log.false)))))

@@ -10,5 +10,5 @@ record_length_spec =
     tie.close
     (tie.spec
     (λ c κs. search rules)
-    (λ c. length_two _ (sym c.before.is_two_lem.ensures ∙ c.if1.true))
-    (λ c. length_one _ (sym c.before.is_two_lem.ensures ∙ c.if1.false)))
+    (λ c. length_two _ (sym c.before.is_two.ensures ∙ c.if-is_two.true))
+    (λ c. length_one _ (sym c.before.is_two.ensures ∙ c.if-is_two.false)))

@@ -6,4 +6,4 @@ use Rattle.reflect.proofs.kind_by.Statement.{statement}
 use Rattle.reflect.proofs.kind_by.Tie as tie
 
 pub kind_by_spec : {M : Type 1} → statement M
-kind_by_spec = tie.close (tie.spec (λ c. search rules) (λ c. kind_listed _ _ c.before.before.requires c.before.if1.true) (λ c κs. search rules) (λ c. search rules))
+kind_by_spec = tie.close (tie.spec (λ c. search rules) (λ c. kind_listed _ _ c.before.before.before.requires c.before.before.if-opcode-lt256.true) (λ c κs. search rules) (λ c. search rules))

@@ -10,7 +10,7 @@ returns : tie.Need-returns
 returns c =
     let at-column = c.before.before in
     let at-start = at-column.before in
-    place_is _ _ _ _ _ _ at-start.requires.0 at-start.requires.1 at-column.column.ensures.0 refl c.cell.ensures
+    place_is _ _ _ _ _ _ at-start.requires.0 at-start.requires.1 at-column.column-c.ensures.0 refl c.cell.ensures
 
 pub place_of_spec : {M : Type 1} → statement M
 place_of_spec =

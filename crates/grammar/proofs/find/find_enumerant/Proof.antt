@@ -6,29 +6,29 @@ use borrow.Author.Rules.{rules}
 use Rattle.grammar.proofs.find.find_enumerant.Statement.{statement}
 use Rattle.grammar.proofs.find.find_enumerant.Tie as tie
 
-returns : tie.Need-returns
-returns c = let at-start = c.before.before.before in no_enumerant _ _ _ _ at-start.requires c.if1.true
+returns : tie.Need-returns-then-kind-eq0
+returns c = let at-start = c.before.before.before in no_enumerant _ _ _ _ at-start.requires c.if-kind-eq0.true
 
-add_parameters : tie.Need-overflow-add-parameters
+add_parameters : tie.Need-overflow_add-parameters
 add_parameters c =
-    let at-look = c.before.before.before in
+    let at-look = c.before in
     let at-if1 = at-look.before in
     let at-start = at-if1.before.before.before in
-    omega (arith, enumerant_near _ _ _ _ _ at-start.requires at-if1.if1.false (sym c.before.enumerant.given.1 ∙ at-look.look.ensures))
+    omega (arith, enumerant_near _ _ _ _ _ at-start.requires at-if1.if-kind-eq0.false (sym c.in-At.is ∙ at-look.look-enumerant.ensures))
 
-returns-2 : tie.Need-returns-2
+returns-2 : tie.Need-returns-in-At
 returns-2 c =
-    let at-look = c.before.before.before in
+    let at-look = c.before in
     let at-if1 = at-look.before in
     let at-start = at-if1.before.before.before in
-    enumerant_at _ _ _ _ _ at-start.requires at-if1.if1.false (sym c.before.enumerant.given.1 ∙ at-look.look.ensures)
+    enumerant_at _ _ _ _ _ at-start.requires at-if1.if-kind-eq0.false (sym c.in-At.is ∙ at-look.look-enumerant.ensures)
 
-returns-3 : tie.Need-returns-3
+returns-3 : tie.Need-returns-in-Nothing
 returns-3 c =
-    let at-look = c.before.before in
+    let at-look = c.before in
     let at-if1 = at-look.before in
     let at-start = at-if1.before.before.before in
-    enumerant_at _ _ _ _ _ at-start.requires at-if1.if1.false (sym c.enum_told.given.1 ∙ at-look.look.ensures)
+    enumerant_at _ _ _ _ _ at-start.requires at-if1.if-kind-eq0.false (sym c.in-Nothing.is ∙ at-look.look-enumerant.ensures)
 
 pub find_enumerant_spec : {M : Type 1} → statement M
 find_enumerant_spec =

@@ -6,23 +6,23 @@ use borrow.Author.Rules.{rules}
 use Rattle.grammar.proofs.find.find_row.Statement.{statement}
 use Rattle.grammar.proofs.find.find_row.Tie as tie
 
-add_operands : tie.Need-overflow-add-operands
+add_operands : tie.Need-overflow_add-operands
 add_operands c =
-    let at-look = c.before.before.before in
+    let at-look = c.before in
     let at-start = at-look.before.before.before in
-    omega (arith, row_near _ _ _ _ at-start.requires (sym c.before.row.given.1 ∙ at-look.look.ensures))
+    omega (arith, row_near _ _ _ _ at-start.requires (sym c.in-At.is ∙ at-look.look-row.ensures))
 
-returns : tie.Need-returns
+returns : tie.Need-returns-in-At
 returns c =
-    let at-look = c.before.before.before in
+    let at-look = c.before in
     let at-start = at-look.before.before.before in
-    row_at _ _ _ _ at-start.requires (sym c.before.row.given.1 ∙ at-look.look.ensures)
+    row_at _ _ _ _ at-start.requires (sym c.in-At.is ∙ at-look.look-row.ensures)
 
-returns-2 : tie.Need-returns-2
+returns-2 : tie.Need-returns-in-Nothing
 returns-2 c =
-    let at-look = c.before.before in
+    let at-look = c.before in
     let at-start = at-look.before.before.before in
-    row_at _ _ _ _ at-start.requires (sym c.enum_told.given.1 ∙ at-look.look.ensures)
+    row_at _ _ _ _ at-start.requires (sym c.in-Nothing.is ∙ at-look.look-row.ensures)
 
 pub find_row_spec : {M : Type 1} → statement M
 find_row_spec =

@@ -5,24 +5,24 @@ use borrow.Author.Rules.{rules}
 use Rattle.grammar.proofs.find.guess_enumerant.Statement.{statement}
 use Rattle.grammar.proofs.find.guess_enumerant.Tie as tie
 
-returns : tie.Need-returns
+returns : tie.Need-returns-then-kind-eq0
 returns c = guess_nothing _
 
-add_parameters : tie.Need-overflow-add-parameters
+add_parameters : tie.Need-overflow_add-parameters
 add_parameters c =
-    let at-guessed = c.before.before.before in
+    let at-guessed = c.before in
     let at-if1 = at-guessed.before in
     let at-start = at-if1.before.before.before in
-    omega (arith, enumerant_near _ _ _ _ _ at-start.requires at-if1.if1.false (guess_right _ _ _ c.before.enumerant.given.1 at-guessed.guessed.ensures))
+    omega (arith, enumerant_near _ _ _ _ _ at-start.requires at-if1.if-kind-eq0.false (guess_right _ _ _ c.in-At.is at-guessed.guessed-enumerant.ensures))
 
-returns-2 : tie.Need-returns-2
+returns-2 : tie.Need-returns-in-At
 returns-2 c =
-    let at-guessed = c.before.before.before in
+    let at-guessed = c.before in
     let at-if1 = at-guessed.before in
     let at-start = at-if1.before.before.before in
-    let t = enumerant_at _ _ _ _ _ at-start.requires at-if1.if1.false (guess_right _ _ _ c.before.enumerant.given.1 at-guessed.guessed.ensures) in (λ s. t.0, t.1)
+    let t = enumerant_at _ _ _ _ _ at-start.requires at-if1.if-kind-eq0.false (guess_right _ _ _ c.in-At.is at-guessed.guessed-enumerant.ensures) in (λ s. t.0, t.1)
 
-returns-3 : tie.Need-returns-3
+returns-3 : tie.Need-returns-in-Nothing
 returns-3 c = guess_nothing _
 
 pub guess_enumerant_spec : {M : Type 1} → statement M

@@ -5,19 +5,19 @@ use borrow.Author.Rules.{rules}
 use Rattle.grammar.proofs.find.guess_row.Statement.{statement}
 use Rattle.grammar.proofs.find.guess_row.Tie as tie
 
-add_operands : tie.Need-overflow-add-operands
+add_operands : tie.Need-overflow_add-operands
 add_operands c =
-    let at-guessed = c.before.before.before in
+    let at-guessed = c.before in
     let at-start = at-guessed.before.before.before in
-    omega (arith, row_near _ _ _ _ at-start.requires (guess_right _ _ _ c.before.row.given.1 at-guessed.guessed.ensures))
+    omega (arith, row_near _ _ _ _ at-start.requires (guess_right _ _ _ c.in-At.is at-guessed.guessed-row.ensures))
 
-returns : tie.Need-returns
+returns : tie.Need-returns-in-At
 returns c =
-    let at-guessed = c.before.before.before in
+    let at-guessed = c.before in
     let at-start = at-guessed.before.before.before in
-    let t = row_at _ _ _ _ at-start.requires (guess_right _ _ _ c.before.row.given.1 at-guessed.guessed.ensures) in (λ s. t.0, t.1)
+    let t = row_at _ _ _ _ at-start.requires (guess_right _ _ _ c.in-At.is at-guessed.guessed-row.ensures) in (λ s. t.0, t.1)
 
-returns-2 : tie.Need-returns-2
+returns-2 : tie.Need-returns-in-Nothing
 returns-2 c = guess_nothing _
 
 pub guess_row_spec : {M : Type 1} → statement M

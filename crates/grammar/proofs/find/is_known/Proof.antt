@@ -5,15 +5,15 @@ use borrow.Author.Rules.{rules}
 use Rattle.grammar.proofs.find.is_known.Statement.{statement}
 use Rattle.grammar.proofs.find.is_known.Tie as tie
 
-returns : tie.Need-returns
+returns : tie.Need-returns-then-is_mask
 returns c =
     let at-is-mask = c.before.before in
-    known_mask _ _ _ _ (sym at-is-mask.is_mask_lem.ensures ∙ c.before.if1.true) c.bits-listed.ensures
+    known_mask _ _ _ _ (sym at-is-mask.is_mask.ensures ∙ c.before.if-is_mask.true) c.bits_listed.ensures
 
-returns-2 : tie.Need-returns-2
+returns-2 : tie.Need-returns
 returns-2 c =
     let at-is-mask = c.before.before in
-    known_value _ _ _ _ (sym at-is-mask.is_mask_lem.ensures ∙ c.before.if1.false) c.is-listed.ensures
+    known_value _ _ _ _ (sym at-is-mask.is_mask.ensures ∙ c.before.if-is_mask.false) c.is_listed.ensures
 
 pub is_known_spec : {M : Type 1} → statement M
 is_known_spec =

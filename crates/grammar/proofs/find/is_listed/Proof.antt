@@ -5,15 +5,15 @@ use borrow.Author.Rules.{rules}
 use Rattle.grammar.proofs.find.is_listed.Statement.{statement}
 use Rattle.grammar.proofs.find.is_listed.Tie as tie
 
-returns : tie.Need-returns
+returns : tie.Need-returns-in-At
 returns c =
-    let at-find-enumerant = c.before.before in
-    ap is_found (sym c.enum_told.given.1) ∙ found_listed _ _ _ at-find-enumerant.find-enumerant.ensures.0
+    let at-find-enumerant = c.before in
+    ap is_found (sym c.in-At.is) ∙ found_listed _ _ _ at-find-enumerant.find_enumerant-found.ensures.0
 
-returns-2 : tie.Need-returns-2
+returns-2 : tie.Need-returns-in-Nothing
 returns-2 c =
-    let at-find-enumerant = c.before.before in
-    ap is_found (sym c.enum-told2.given.1) ∙ found_listed _ _ _ at-find-enumerant.find-enumerant.ensures.0
+    let at-find-enumerant = c.before in
+    ap is_found (sym c.in-Nothing.is) ∙ found_listed _ _ _ at-find-enumerant.find_enumerant-found.ensures.0
 
 pub is_listed_spec : {M : Type 1} → statement M
 is_listed_spec =

@@ -9,69 +9,69 @@ use Prim.Native.Nat.{◌-◌}
 use Rattle.grammar.proofs.find.search.Statement.{statement}
 use Rattle.grammar.proofs.find.search.Tie as tie
 
-abbrev invariant-loop : tie.invariant-loop
-invariant-loop g index kind value low₀ high₀ low high = Halving kind value (marks_of g) low high
+abbrev invariant-loop-low : tie.invariant-loop-low
+invariant-loop-low g index kind value low₀ high₀ low high = Halving kind value (marks_of g) low high
 
-abbrev decreases-loop : tie.decreases-loop
-decreases-loop g index kind value low₀ high₀ low high = high - low
+abbrev decreases-loop-low : tie.decreases-loop-low
+decreases-loop-low g index kind value low₀ high₀ low high = high - low
 
-loop-holds : tie.Need-loop-init invariant-loop decreases-loop
-loop-holds c = let at-start = c.before.before.before in halving_start _ _ _ _ (c.mark-count.ensures ∙ at-start.requires.count)
+loop-holds : tie.Need-loop-low-init invariant-loop-low decreases-loop-low
+loop-holds c = let at-start = c.before.before.before in halving_start _ _ _ _ (c.mark_count-high.ensures ∙ at-start.requires.count)
 
-add_middle : tie.Need-overflow-add-middle invariant-loop decreases-loop
+add_middle : tie.Need-overflow_add-middle invariant-loop-low decreases-loop-low
 add_middle c =
     let at-start = c.before.before.before.before.before in
-    omega (arith, c.before.loop.invariant.most, at-start.requires.room)
+    omega (arith, c.before.loop-low.invariant.most, at-start.requires.room)
 
-mark-at-requires : tie.Need-mark-at-requires invariant-loop decreases-loop
+mark-at-requires : tie.Need-mark_at-m-requires invariant-loop-low decreases-loop-low
 mark-at-requires c κs =
     let at-start = c.before.before.before.before.before in
-    (at-start.requires, omega (arith, c.before.loop.invariant.most))
+    (at-start.requires, omega (arith, c.before.loop-low.invariant.most))
 
-add_low : tie.Need-overflow-add-low invariant-loop decreases-loop
+add_low : tie.Need-overflow_add-low invariant-loop-low decreases-loop-low
 add_low c =
     let at-loop = c.before.before.before.before in
     let at-start = at-loop.before.before.before.before in
-    omega (arith, at-loop.loop.invariant.most, at-start.requires.room)
+    omega (arith, at-loop.loop-low.invariant.most, at-start.requires.room)
 
-loop-less : tie.Need-loop-smaller invariant-loop decreases-loop
+loop-less : tie.Need-loop-low-smaller-then-rises_to invariant-loop-low decreases-loop-low
 loop-less c = omega arith
 
-loop-again : tie.Need-loop-preserved invariant-loop decreases-loop
+loop-again : tie.Need-loop-low-preserved-then-rises_to invariant-loop-low decreases-loop-low
 loop-again c =
     let at-mark-at = c.before.before in
     let at-loop = at-mark-at.before.before in
     let at-start = at-loop.before.before.before.before in
-    search_up _ _ _ _ at-start.requires _ _ at-mark-at.mark-at.ensures _ _ at-loop.loop.invariant (omega arith) _ c.before.rises_to.ensures c.if1.true
+    search_up _ _ _ _ at-start.requires _ _ at-mark-at.mark_at-m.ensures _ _ at-loop.loop-low.invariant (omega arith) _ c.before.rises_to.ensures c.if-rises_to.true
 
-loop-less-2 : tie.Need-loop-smaller-2 invariant-loop decreases-loop
+loop-less-2 : tie.Need-loop-low-smaller invariant-loop-low decreases-loop-low
 loop-less-2 c = omega arith
 
-loop-again-2 : tie.Need-loop-preserved-2 invariant-loop decreases-loop
+loop-again-2 : tie.Need-loop-low-preserved invariant-loop-low decreases-loop-low
 loop-again-2 c =
     let at-mark-at = c.before.before.before.before in
     let at-loop = at-mark-at.before.before in
     let at-start = at-loop.before.before.before.before in
-    search_down _ _ _ _ at-start.requires _ _ at-mark-at.mark-at.ensures _ _ at-loop.loop.invariant (omega arith) _ c.before.rises-to2.ensures c.if2.true
+    search_down _ _ _ _ at-start.requires _ _ at-mark-at.mark_at-m.ensures _ _ at-loop.loop-low.invariant (omega arith) _ c.before.rises_to-else-rises_to.ensures c.if-rises_to-2.true
 
-returns : tie.Need-returns invariant-loop decreases-loop
+returns : tie.Need-returns-else-rises_to-2 invariant-loop-low decreases-loop-low
 returns c =
     let at-if1 = c.before.before in
     let at-rises-to = at-if1.before in
     let at-mark-at = at-rises-to.before in
     let at-loop = at-mark-at.before.before in
     let at-start = at-loop.before.before.before.before in
-    search_hit _ _ _ _ at-start.requires _ _ at-mark-at.mark-at.ensures _ _ at-loop.loop.invariant (omega arith) _ _ at-rises-to.rises_to.ensures c.before.rises-to2.ensures at-if1.if1.false c.if2.false
+    search_hit _ _ _ _ at-start.requires _ _ at-mark-at.mark_at-m.ensures _ _ at-loop.loop-low.invariant (omega arith) _ _ at-rises-to.rises_to.ensures c.before.rises_to-else-rises_to.ensures at-if1.if-rises_to.false c.if-rises_to-2.false
 
-returns-2 : tie.Need-returns-2 invariant-loop decreases-loop
-returns-2 c = sym (halving_end _ _ _ _ _ c.before.loop.invariant c.loop-test.false)
+returns-2 : tie.Need-returns invariant-loop-low decreases-loop-low
+returns-2 c = sym (halving_end _ _ _ _ _ c.before.loop-low.invariant c.loop-low-test.false)
 
 pub search_spec : {M : Type 1} → statement M
 search_spec =
     tie.close
     (tie.spec
-    invariant-loop
-    decreases-loop
+    invariant-loop-low
+    decreases-loop-low
     (λ c κs. search rules)
     loop-holds
     (λ c. search rules)

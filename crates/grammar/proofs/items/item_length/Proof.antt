@@ -9,14 +9,14 @@ use borrow.Author.Rules.{rules}
 use Rattle.grammar.proofs.items.item_length.Statement.{statement}
 use Rattle.grammar.proofs.items.item_length.Tie as tie
 
-add_result : tie.Need-overflow-add-result
+add_result : tie.Need-overflow_add-result
 add_result c =
     let at-start = c.before.before.before in
-    omega (arith, body_most (get_or at-start.args.g.now at-start.args.at 0), c.body-length.ensures)
+    omega (arith, body_most (get_or at-start.args.g.now at-start.args.at 0), c.body_length.ensures)
 
 returns : tie.Need-returns
 unfolding length_at
-returns c = ap (λ (n : ℕ). 1 + n) c.body-length.ensures
+returns c = ap (λ (n : ℕ). 1 + n) c.body_length.ensures
 
 pub item_length_spec : {M : Type 1} → statement M
 item_length_spec =
