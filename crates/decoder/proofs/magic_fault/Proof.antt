@@ -8,6 +8,6 @@ pub magic_fault_spec : {M : Type 1} → statement M
 magic_fault_spec =
     tie.close
     (tie.spec
-    (λ c. simp (eq-eqb _ _ c.if1.true))
-    (λ c. simp (ne_eqb _ _ c.before.if1.false, eq-eqb _ _ c.if2.true))
-    (λ c. simp (ne_eqb _ _ c.before.if1.false, ne_eqb _ _ c.if2.false)))
+    (λ c. simp (eq-eqb _ _ c.if-magic-eq119734787.true))
+    (λ c. simp (ne_eqb _ _ c.before.if-magic-eq119734787.false, eq-eqb _ _ c.if-magic-eq50471687.true))
+    (λ c. simp (ne_eqb _ _ c.before.if-magic-eq119734787.false, ne_eqb _ _ c.if-magic-eq50471687.false)))

@@ -9,6 +9,6 @@ pub stream_ends_spec : {M : Type 1} → statement M
 stream_ends_spec =
     tie.close
     (tie.spec
-    (λ c. ends_short _ _ c.if1.true)
+    (λ c. ends_short _ _ c.if-s-lt4.true)
     (λ c. search rules)
-    (λ c. ends_long _ _ c.if1.false))
+    (λ c. ends_long _ _ c.if-s-lt4.false))

@@ -12,5 +12,5 @@ text_end_spec =
     (λ c. search rules)
     (λ c. search rules)
     (λ c. search rules)
-    (λ c. end_before _ _ _ c.before.requires c.if1.true)
-    (λ c. end_there _ _ _ c.before.requires c.if1.false))
+    (λ c. end_before _ _ _ c.before.requires c.if-s-to.true)
+    (λ c. end_there _ _ _ c.before.requires c.if-s-to.false))

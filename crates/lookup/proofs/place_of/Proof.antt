@@ -7,7 +7,7 @@ use Rattle.lookup.proofs.place_of.Tie as tie
 returns : tie.Need-returns
 returns c =
     let at-shift = c.before.before in
-    (place_read _ _ _ _ _ at-shift.wide.ensures.0 c.wide2.ensures.0, c.wide2.ensures.1)
+    (place_read _ _ _ _ _ at-shift.wide-shift.ensures.0 c.wide.ensures.0, c.wide.ensures.1)
 
 pub place_of_spec : {M : Type 1} → statement M
 place_of_spec =

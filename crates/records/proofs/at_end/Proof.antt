@@ -8,4 +8,4 @@ use Rattle.records.proofs.at_end.Tie as tie
 
 pub at_end_spec : {M : Type 1} → statement M
 unfolding end_answer
-at_end_spec = tie.close (tie.spec (λ c. sym (ap (λ (t : Bool). end_answer t c.before.args.index) c.if1.true)) (λ c. sym (ap (λ (t : Bool). end_answer t c.before.args.index) c.if1.false)))
+at_end_spec = tie.close (tie.spec (λ c. sym (ap (λ (t : Bool). end_answer t c.before.args.index) c.if-good.true)) (λ c. sym (ap (λ (t : Bool). end_answer t c.before.args.index) c.if-good.false)))

@@ -7,4 +7,4 @@ use Rattle.records.proofs.at_most.Tie as tie
 
 pub at_most_spec : {M : Type 1} → statement M
 unfolding at_most
-at_most_spec = tie.close (tie.spec (λ c. simp (le-leb _ _ c.if1.true)) (λ c. simp (lt-leb _ _ c.if1.false)))
+at_most_spec = tie.close (tie.spec (λ c. simp (le-leb _ _ c.if-a-b.true)) (λ c. simp (lt-leb _ _ c.if-a-b.false)))

@@ -9,4 +9,4 @@ use Rattle.records.proofs.is_outside.Tie as tie
 pub is_outside_spec : {M : Type 1} → statement M
 unfolding is_outside
 is_outside_spec =
-    tie.close (tie.spec (λ c. search rules) (λ c. search rules) (λ c. search rules) (λ c. sym (ap is_outside c.enum_told.given.1)) (λ c. sym (ap is_outside c.enum-told2.given.1)) (λ c. sym (ap is_outside c.enum-told3.given.1)))
+    tie.close (tie.spec (λ c. search rules) (λ c. search rules) (λ c. search rules) (λ c. sym (ap is_outside c.in-Outside.is)) (λ c. sym (ap is_outside c.in-Function.is)) (λ c. sym (ap is_outside c.in-Block.is)))

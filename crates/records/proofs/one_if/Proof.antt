@@ -7,4 +7,4 @@ use Rattle.records.proofs.one_if.Tie as tie
 
 pub one_if_spec : {M : Type 1} → statement M
 unfolding word_if
-one_if_spec = tie.close (tie.spec (λ c. sym (ap word_if c.if1.true)) (λ c. sym (ap word_if c.if1.false)))
+one_if_spec = tie.close (tie.spec (λ c. sym (ap word_if c.if-there.true)) (λ c. sym (ap word_if c.if-there.false)))

@@ -7,23 +7,23 @@ use borrow.Author.Rules.{rules}
 use Rattle.records.proofs.operand_at.Statement.{statement}
 use Rattle.records.proofs.operand_at.Tie as tie
 
-word_at_requires_2 : tie.Need-word-at-requires-2
+word_at_requires_2 : tie.Need-word_at-high-requires
 word_at_requires_2 c κs =
     let at-start = c.before.before.before.before.before in
-    omega (arith, at-start.requires.nine (sym c.before.is_two_lem.ensures ∙ c.if1.true))
+    omega (arith, at-start.requires.nine (sym c.before.is_two.ensures ∙ c.if-is_two.true))
 
-returns : tie.Need-returns
+returns : tie.Need-returns-then-is_two
 returns c =
     let at-is-two = c.before.before in
     let at-word-at = at-is-two.before in
     let at-start = at-word-at.before.before.before in
-    read_two _ _ at-start.requires _ at-word-at.word_at.ensures (search rules) (sym at-is-two.is_two_lem.ensures ∙ c.before.if1.true) _ c.word-at2.ensures (search rules)
+    read_two _ _ at-start.requires _ at-word-at.word_at-low.ensures (search rules) (sym at-is-two.is_two.ensures ∙ c.before.if-is_two.true) _ c.word_at-high.ensures (search rules)
 
-returns-2 : tie.Need-returns-2
+returns-2 : tie.Need-returns
 returns-2 c =
     let at-word-at = c.before.before in
     let at-start = at-word-at.before.before.before in
-    read_one_lem _ _ at-start.requires _ at-word-at.word_at.ensures (search rules) (sym c.before.is_two_lem.ensures ∙ c.if1.false)
+    read_one_lem _ _ at-start.requires _ at-word-at.word_at-low.ensures (search rules) (sym c.before.is_two.ensures ∙ c.if-is_two.false)
 
 pub operand_at_spec : {M : Type 1} → statement M
 operand_at_spec =

@@ -9,11 +9,11 @@ use borrow.Author.Rules.{rules}
 use Rattle.records.proofs.result_words.Statement.{statement}
 use Rattle.records.proofs.result_words.Tie as tie
 
-add_result : tie.Need-overflow-add-result
+add_result : tie.Need-overflow_add-result
 add_result c =
     let at-start = c.before.before.before in
-    omega (arith, c.one-if2.ensures, c.before.one-if.ensures, word_few (eqb (at-start.args.f.head / 65536 % 2) 1), word_few (leb 2 (at-start.args.f.head / 65536)))
+    omega (arith, c.one_if-2.ensures, c.before.one_if.ensures, word_few (eqb (at-start.args.f.head / 65536 % 2) 1), word_few (leb 2 (at-start.args.f.head / 65536)))
 
 pub result_words_spec : {M : Type 1} → statement M
 unfolding result_words
-result_words_spec = tie.close (tie.spec (λ c κs. search rules) (λ c κs. search rules) add_result (λ c. simp (c.one-if2.ensures, c.before.one-if.ensures)))
+result_words_spec = tie.close (tie.spec (λ c κs. search rules) (λ c κs. search rules) add_result (λ c. simp (c.one_if-2.ensures, c.before.one_if.ensures)))

@@ -5,17 +5,17 @@ use borrow.Author.Rules.{rules}
 use Rattle.records.proofs.tag_after.Statement.{statement}
 use Rattle.records.proofs.tag_after.Tie as tie
 
-returns-2 : tie.Need-returns-2
+returns-2 : tie.Need-returns-then-f-tag
 returns-2 c =
-    let at-cell = c.before.before.before in
-    let at_place = at-cell.before.before in
-    tag_right _ _ _ at_place.place.ensures _ _ at-cell.cell.given.1 c.if1.true
+    let at-cell = c.before.before in
+    let at_place = at-cell.before in
+    tag_right _ _ _ at_place.place-cell.ensures _ _ at-cell.in-Tagged.is c.if-f-tag.true
 
-returns-3 : tie.Need-returns-3
+returns-3 : tie.Need-returns
 returns-3 c =
-    let at-cell = c.before.before.before in
-    let at_place = at-cell.before.before in
-    tag_other _ _ _ at_place.place.ensures _ _ at-cell.cell.given.1 c.if1.false
+    let at-cell = c.before.before in
+    let at_place = at-cell.before in
+    tag_other _ _ _ at_place.place-cell.ensures _ _ at-cell.in-Tagged.is c.if-f-tag.false
 
 pub tag_after_spec : {M : Type 1} → statement M
 tag_after_spec =
@@ -25,7 +25,7 @@ tag_after_spec =
     (λ c κs. search rules)
     (λ c. search rules)
     (λ c. search rules)
-    (λ c. let at_place = c.before.before in tag_refused _ _ _ at_place.place.ensures _ c.enum_told.given.1)
+    (λ c. let at_place = c.before in tag_refused _ _ _ at_place.place-cell.ensures _ c.in_default.is)
     (λ c. search rules)
     returns-2
     returns-3)

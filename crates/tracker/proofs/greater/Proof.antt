@@ -7,5 +7,5 @@ pub greater_spec : {M : Type 1} → statement M
 greater_spec =
     tie.close
     (tie.spec
-    (λ c. second_greater _ _ c.if1.true)
-    (λ c. first_greater _ _ c.if1.false))
+    (λ c. second_greater _ _ c.if-a-b.true)
+    (λ c. first_greater _ _ c.if-a-b.false))

@@ -10,6 +10,6 @@ track_type_spec =
     (tie.spec
     (λ c κs. search rules)
     (λ c κs. search rules)
-    (λ c. type_int _ _ _ _ _ c.before.match.keys1 c.track-int.ensures)
-    (λ c. type_float _ _ _ _ _ c.before.match.keys2 c.track-float.ensures)
-    (λ c. type_other _ _ _ _ c.match.rest.0.1 c.match.rest.1))
+    (λ c. type_int _ _ _ _ _ c.before.in-21.is c.track_int.ensures)
+    (λ c. type_float _ _ _ _ _ c.before.in-22.is c.track_float.ensures)
+    (λ c. type_other _ _ _ _ c.in_default.in_default-own.rest.0.1 c.in_default.in_default-own.rest.1))

@@ -14,7 +14,7 @@ limited_string_spec =
     (tie.spec
     (λ c. search rules)
     (λ c κs. search rules)
-    (λ c. let at-start = c.before.before.before in text_past _ _ _ _ _ at-start.requires.0 at-start.requires.1 c.before.if1.true c.no_text.ensures)
+    (λ c. let at-start = c.before.before.before in text_past _ _ _ _ _ at-start.requires.0 at-start.requires.1 c.before.if-s-at.true c.no_text.ensures)
     (λ c. search rules)
     (λ c. search rules)
     (λ c. search rules)

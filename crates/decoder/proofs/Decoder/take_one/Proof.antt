@@ -11,6 +11,6 @@ take_one_spec =
     (tie.spec
     (λ c. search rules)
     (λ c. search rules)
-    (λ c. none_less _ _ c.enum_told.given.1)
-    (λ c. let at-start = c.before.before.before in one_left _ _ _ c.before.limit.given.1 at-start.requires)
-    (λ c. one_less _ _ _ c.before.limit.given.1))
+    (λ c. none_less _ _ c.in_default.is)
+    (λ c. let at-start = c.before in one_left _ _ _ c.in-Words.is at-start.requires)
+    (λ c. one_less _ _ _ c.in-Words.is))

@@ -12,5 +12,5 @@ long_of_spec =
     (tie.spec
     (λ c. search rules)
     (λ c. search rules)
-    (λ c. rw c.before.g.given.1)
-    (λ c. rw c.before.g2.given.1))
+    (λ c. rw c.in-Got.is)
+    (λ c. rw c.in-Refused.is))

@@ -12,5 +12,5 @@ text_given_spec =
     (tie.spec
     (λ c. search rules)
     (λ c. search rules)
-    (λ c. rw c.before.r.given.1)
-    (λ c. rw c.before.r2.given.1))
+    (λ c. rw c.in-Got.is)
+    (λ c. rw c.in-Refused.is))

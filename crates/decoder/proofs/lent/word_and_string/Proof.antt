@@ -16,4 +16,4 @@ word_and_string_spec =
     (λ c κs. search rules)
     (λ c κs. search rules)
     (λ c κs. search rules)
-    (λ c. let at-text-next = c.before.before in let at-string-lent = at-text-next.before in let at-word-next = at-string-lent.before in let at-word-lent = at-word-next.before in rw (c.before.word-given.ensures, c.text-given.ensures, at-text-next.text-next.ensures, at-string-lent.string_lent.ensures, at-word-next.word_next.ensures, at-word-lent.word_lent.ensures)))
+    (λ c. let at-text-next = c.before.before in let at-string-lent = at-text-next.before in let at-word-next = at-string-lent.before in let at-word-lent = at-word-next.before in rw (c.before.word_given.ensures, c.text_given.ensures, at-text-next.text_next-next.ensures, at-string-lent.string_lent-second.ensures, at-word-next.word_next.ensures, at-word-lent.word_lent-first.ensures)))

@@ -9,44 +9,44 @@ use Rattle.rules.proofs.ApartLaws.{apart_stop, apart_turn, apart_end}
 use Rattle.rules.proofs.noted.are_apart.Statement.{statement}
 use Rattle.rules.proofs.noted.are_apart.Tie as tie
 
-abbrev invariant-loop : tie.invariant-loop
-invariant-loop owners used k₀ k = (k ≤ 256) × (is_apart owners used ≡ is_apart (drop k owners) (drop k used))
+abbrev invariant-loop-k : tie.invariant-loop-k
+invariant-loop-k owners used k₀ k = (k ≤ 256) × (is_apart owners used ≡ is_apart (drop k owners) (drop k used))
 
-abbrev decreases-loop : tie.decreases-loop
-decreases-loop owners used k₀ k = 256 - k
+abbrev decreases-loop-k : tie.decreases-loop-k
+decreases-loop-k owners used k₀ k = 256 - k
 
-loop-holds : tie.Need-loop-init invariant-loop decreases-loop
+loop-holds : tie.Need-loop-k-init invariant-loop-k decreases-loop-k
 loop-holds c = (omega arith, refl)
 
-returns : tie.Need-returns invariant-loop decreases-loop
+returns : tie.Need-returns-then-owners-k invariant-loop-k decreases-loop-k
 returns c =
-    let at-loop = c.before.before.before.before in
+    let at-loop = c.before.before.before.before.before.before in
     let at-start = at-loop.before in
-    sym (at-loop.loop.invariant.1 ∙ apart_stop at-start.args.owners.now at-start.args.used.now at-loop.loop.k (omega arith) (omega arith) c.if1.true)
+    sym (at-loop.loop-k.invariant.1 ∙ apart_stop at-start.args.owners.now at-start.args.used.now at-loop.loop-k.k (omega arith) (omega arith) c.if-owners-k.true)
 
-add_k : tie.Need-overflow-add-k invariant-loop decreases-loop
+add_k : tie.Need-overflow_add-k invariant-loop-k decreases-loop-k
 add_k c = omega arith
 
-loop-less : tie.Need-loop-smaller invariant-loop decreases-loop
+loop-less : tie.Need-loop-k-smaller invariant-loop-k decreases-loop-k
 loop-less c = omega arith
 
-loop-again : tie.Need-loop-preserved invariant-loop decreases-loop
+loop-again : tie.Need-loop-k-preserved invariant-loop-k decreases-loop-k
 loop-again c =
-    let at-loop = c.before.before.before.before in
+    let at-loop = c.before.before.before.before.before.before in
     let at-start = at-loop.before in
-    (omega arith, at-loop.loop.invariant.1 ∙ apart_turn at-start.args.owners.now at-start.args.used.now at-loop.loop.k (omega arith) (omega arith) c.if1.false)
+    (omega arith, at-loop.loop-k.invariant.1 ∙ apart_turn at-start.args.owners.now at-start.args.used.now at-loop.loop-k.k (omega arith) (omega arith) c.if-owners-k.false)
 
-returns-2 : tie.Need-returns-2 invariant-loop decreases-loop
+returns-2 : tie.Need-returns invariant-loop-k decreases-loop-k
 returns-2 c =
     let at-start = c.before.before in
-    sym (c.before.loop.invariant.1 ∙ apart_end at-start.args.owners.now at-start.args.used.now c.before.loop.k (omega arith))
+    sym (c.before.loop-k.invariant.1 ∙ apart_end at-start.args.owners.now at-start.args.used.now c.before.loop-k.k (omega arith))
 
 pub are_apart_spec : {M : Type 1} → statement M
 are_apart_spec =
     tie.close
     (tie.spec
-    invariant-loop
-    decreases-loop
+    invariant-loop-k
+    decreases-loop-k
     loop-holds
     (λ c. search rules)
     (λ c. search rules)

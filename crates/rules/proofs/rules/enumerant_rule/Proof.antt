@@ -8,7 +8,7 @@ use Rattle.rules.proofs.rules.enumerant_rule.Tie as tie
 returns : tie.Need-returns
 returns c =
     let at-start = c.before.before in
-    rw (c.is_mask_lem.ensures, c.before.is_enum_lem.ensures, bits_counted at-start.args.v (omega arith))
+    rw (c.is_mask.ensures, c.before.is_enum.ensures, bits_counted at-start.args.v (omega arith))
 
 pub enumerant_rule_spec : {M : Type 1} → statement M
 enumerant_rule_spec = tie.close (tie.spec (λ c κs. search rules) (λ c κs. search rules) returns)

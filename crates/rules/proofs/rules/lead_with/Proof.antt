@@ -4,17 +4,17 @@ use Rattle.rules.specs.Rules.{lead_with}
 use Rattle.rules.proofs.rules.lead_with.Statement.{statement}
 use Rattle.rules.proofs.rules.lead_with.Tie as tie
 
-returns : tie.Need-returns
+returns : tie.Need-returns-then-lead-ne-NO_LEAD
 unfolding lead_with
-returns c = simp (ne_eqb _ _ c.if1.true)
+returns c = simp (ne_eqb _ _ c.if-lead-ne-NO_LEAD.true)
 
-returns-2 : tie.Need-returns-2
+returns-2 : tie.Need-returns-then-k-q
 unfolding lead_with
-returns-2 c = simp (eq-eqb _ _ c.before.if1.false, c.if2.true)
+returns-2 c = simp (eq-eqb _ _ c.before.if-lead-ne-NO_LEAD.false, c.if-k-q.true)
 
-returns-3 : tie.Need-returns-3
+returns-3 : tie.Need-returns-else-k-q
 unfolding lead_with
-returns-3 c = simp (eq-eqb _ _ c.before.if1.false, c.if2.false)
+returns-3 c = simp (eq-eqb _ _ c.before.if-lead-ne-NO_LEAD.false, c.if-k-q.false)
 
 pub lead_with_spec : {M : Type 1} → statement M
 lead_with_spec = tie.close (tie.spec returns returns-2 returns-3)

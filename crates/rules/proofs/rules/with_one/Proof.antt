@@ -6,22 +6,22 @@ use borrow.Author.Rules.{rules}
 use Rattle.rules.proofs.rules.with_one.Statement.{statement}
 use Rattle.rules.proofs.rules.with_one.Tie as tie
 
-returns : tie.Need-returns
+returns : tie.Need-returns-then-is_result
 unfolding passed_of
 returns c before e =
     let at-if1 = c.before.before in
     let at-is-result = at-if1.before in
     let at-one-more = at-is-result.before in
     let at-start = at-one-more.before in
-    rw (at-one-more.one_more.ensures, e) (with_result_lem at-start.args.k at-start.args.q (sym at-is-result.is_result_lem.ensures ∙ at-if1.if1.true) before)
+    rw (at-one-more.one_more-count.ensures, e) (with_result_lem at-start.args.k at-start.args.q (sym at-is-result.is_result.ensures ∙ at-if1.if-is_result.true) before)
 
-returns-2 : tie.Need-returns-2
+returns-2 : tie.Need-returns
 unfolding passed_of
 returns-2 c before e =
     let at-is-result = c.before.before in
     let at-one-more = at-is-result.before in
     let at-start = at-one-more.before in
-    rw (at-one-more.one_more.ensures, c.lead-with.ensures, e) (with_other at-start.args.k at-start.args.q (sym at-is-result.is_result_lem.ensures ∙ c.before.if1.false) before)
+    rw (at-one-more.one_more-count.ensures, c.lead_with.ensures, e) (with_other at-start.args.k at-start.args.q (sym at-is-result.is_result.ensures ∙ c.before.if-is_result.false) before)
 
 pub with_one_spec : {M : Type 1} → statement M
 with_one_spec =

@@ -10,4 +10,4 @@ new_spec =
     tie.close
     (tie.spec
     (λ c κs. c.requires)
-    (λ c. ap (λ (m : ℕ). record { count = 0; greatest = 0; marks = m }) c.marks-for.ensures))
+    (λ c. ap (λ (m : ℕ). record { count = 0; greatest = 0; marks = m }) c.marks_for.ensures))

@@ -11,6 +11,6 @@ guess_for_spec =
     (tie.spec
     (λ c. search rules)
     (λ c. search rules)
-    (λ c. guess_soon _ c.if1.true)
+    (λ c. guess_soon _ c.if-index-lt-LAST.true)
     (λ c. search rules)
-    (λ c. guess_late _ c.if1.false))
+    (λ c. guess_late _ c.if-index-lt-LAST.false))

@@ -12,5 +12,5 @@ is_own_spec =
     (λ c. omega arith)
     (λ c. omega arith)
     (λ c. omega arith)
-    (λ c. let at-if1 = c.before in own_in _ _ _ _ at-if1.if1.true)
-    (λ c. own_past _ _ _ _ c.if1.false))
+    (λ c. let at-if1 = c.before in own_in _ _ _ _ at-if1.if-guess-count.true)
+    (λ c. own_past _ _ _ _ c.if-guess-count.false))

@@ -8,6 +8,6 @@ pub marks_for_spec : {M : Type 1} → statement M
 marks_for_spec =
     tie.close
     (tie.spec
-    (λ c. marks_none _ _ c.if1.true)
+    (λ c. marks_none _ _ c.if-bound-hints.true)
     (λ c. let at-start = c.before in omega (arith, at-start.requires))
-    (λ c. marks_many _ _ c.if1.false))
+    (λ c. marks_many _ _ c.if-bound-hints.false))

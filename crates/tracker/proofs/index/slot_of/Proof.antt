@@ -11,6 +11,6 @@ slot_of_spec =
     (λ c. omega (arith, c.requires))
     (λ c. omega (arith, c.requires))
     (λ c. let at-start = c.before in omega (arith, at-start.requires))
-    (λ c. let at-start = c.before in (slot_own _ _ _ (omega (arith, at-start.requires, c.if1.true)), omega (arith, at-start.requires, c.if1.true)))
+    (λ c. let at-start = c.before in (slot_own _ _ _ (omega (arith, at-start.requires, c.if-id-shared.true)), omega (arith, at-start.requires, c.if-id-shared.true)))
     (λ c. let at-start = c.before in omega (arith, at-start.requires))
-    (λ c. let at-start = c.before in (slot_shared _ _ _ (omega (arith, at-start.requires, c.if1.false)), omega (arith, at-start.requires))))
+    (λ c. let at-start = c.before in (slot_shared _ _ _ (omega (arith, at-start.requires, c.if-id-shared.false)), omega (arith, at-start.requires))))
