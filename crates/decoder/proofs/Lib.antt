@@ -1,6 +1,4 @@
 pub mod Laws
 pub mod Steps
 pub mod Heading
-pub mod Loans
-pub mod Lending
-pub mod Readings
+pub mod Whole

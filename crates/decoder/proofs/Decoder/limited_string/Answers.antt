@@ -1,0 +1,45 @@
+-- `Decoder::limited_string` meets its contract: a limit past the bytes, and by where the string ends; it ends within the limit, so its words can be taken.
+-- Assumes nothing.
+use mathlib.Core.Path.{sym, ◌∙◌}
+use native.Mathlib.Omega.{arith}
+use Rattle.decoder.proofs.Steps.{end_answer, sought_words, with_breaks, text_by, text_inside, text_past}
+use Rattle.decoder.proofs.Decoder.limited_string.Goals as goal
+
+pub returns-then-s-at : goal.returns-then-s-at
+unfolding end_answer
+returns-then-s-at c = text_past _ _ _ _ _ c.requires.0 c.requires.1 c.if-s-at.true c.no_text.ensures
+
+pub text_break-breaks-requires : goal.text_break-breaks-requires
+unfolding end_answer
+text_break-breaks-requires c = let r = sought_words c.args.s.now _ _ _ c.requires.0 c.requires.1 c.if-s-at.false in
+    omega (arith, text_inside r _ (sym c.in-After.is ∙ c.string_end-end.ensures))
+
+pub overflow_mul-self : goal.overflow_mul-self
+unfolding end_answer
+overflow_mul-self c = let r = sought_words c.args.s.now _ _ _ c.requires.0 c.requires.1 c.if-s-at.false in
+    omega (arith, text_inside r _ (sym c.in-After.is ∙ c.string_end-end.ensures))
+
+pub overflow_add-self : goal.overflow_add-self
+unfolding end_answer
+overflow_add-self c = let r = sought_words c.args.s.now _ _ _ c.requires.0 c.requires.1 c.if-s-at.false in
+    omega (arith, text_inside r _ (sym c.in-After.is ∙ c.string_end-end.ensures))
+
+pub overflow_sub-self : goal.overflow_sub-self
+unfolding end_answer
+overflow_sub-self c = let r = sought_words c.args.s.now _ _ _ c.requires.0 c.requires.1 c.if-s-at.false in
+    omega (arith, text_inside r _ (sym c.in-After.is ∙ c.string_end-end.ensures))
+
+pub returns-in-After : goal.returns-in-After
+unfolding end_answer
+returns-in-After c = let r = sought_words c.args.s.now _ _ _ c.requires.0 c.requires.1 c.if-s-at.false in
+    text_by r _ _ (sym c.in-After.is ∙ c.string_end-end.ensures) (with_breaks _ _ _ _ _ c.text_break-breaks.ensures)
+
+pub returns-in-NoZero : goal.returns-in-NoZero
+unfolding end_answer
+returns-in-NoZero c = let r = sought_words c.args.s.now _ _ _ c.requires.0 c.requires.1 c.if-s-at.false in
+    text_by r _ _ (sym c.in-NoZero.is ∙ c.string_end-end.ensures) c.no_text-in-NoZero.ensures
+
+pub returns-in-NotUtf8 : goal.returns-in-NotUtf8
+unfolding end_answer
+returns-in-NotUtf8 c = let r = sought_words c.args.s.now _ _ _ c.requires.0 c.requires.1 c.if-s-at.false in
+    text_by r _ _ (sym c.in-NotUtf8.is ∙ c.string_end-end.ensures) c.no_text-in-NotUtf8.ensures
