@@ -13,5 +13,5 @@ check_room_spec =
     (tie.spec
     (λ c. search rules)
     (λ c. search rules)
-    (λ c. rw (lt-ltb _ _ c.if1.true))
-    (λ c. rw (le-ltb _ _ c.if1.false)))
+    (λ c. rw (lt-ltb _ _ c.if-room-count.true))
+    (λ c. rw (le-ltb _ _ c.if-room-count.false)))

@@ -7,28 +7,28 @@ use Rattle.books.proofs.Calls.{book_held, book_few, checked_good, room_told, new
 use Rattle.books.proofs.new_book.Statement.{statement}
 use Rattle.books.proofs.new_book.Tie as tie
 
-returns : tie.Need-returns
-returns c = new_bad _ _ c.before.before.before.before.check_of.ensures c.before.before.checked.given.1 c.refused.ensures
+returns : tie.Need-returns-in-Bad
+returns c = new_bad _ _ c.before.before.check_of-checked.ensures c.before.in-Bad.is c.refused.ensures
 
-returns-2 : tie.Need-returns-2
+returns-2 : tie.Need-returns-in-Bad-room
 returns-2 c =
-    new_short _ _ c.before.before.before.before.before.before.before.check_of.ensures c.before.before.before.before.before.enum_told.given.1 c.before.before.before.before.check-room.ensures c.before.before.room.given.1 c.refused2.ensures
+    new_short _ _ c.before.before.before.before.check_of-checked.ensures c.before.before.before.in_default.is c.before.before.check_room-room.ensures c.before.in-Bad-room.is c.refused-in-Bad-room.ensures
 
-put-new-requires : tie.Need-put-new-requires
+put-new-requires : tie.Need-put_new-requires
 put-new-requires c κs =
-    let checked = c.before.before.before.before.before.before.check_of.ensures in
-    let good = c.before.before.before.before.enum_told.given.1 in (
+    let checked = c.before.before.before.before.check_of-checked.ensures in
+    let good = c.before.before.before.in_default.is in (
       book_held field_size _ checked good,
       (
-        room_told record_size _ _ (omega arith) (checked_good c.before.before.before.check-room.ensures c.before.enum-told2.given.1),
-        book_few field_size _ checked good (λ i. (c.before.before.before.before.before.before.before.before.before.before.shared-slice-known.given i).fits),
+        room_told record_size _ _ (omega arith) (checked_good c.before.before.check_room-room.ensures c.before.in_default-room.is),
+        book_few field_size _ checked good (λ i. (c.before.before.before.before.before.before.before.before.shared_slice_known-1.given i).fits),
       ),
     )
 
-returns-3 : tie.Need-returns-3
+returns-3 : tie.Need-returns
 returns-3 c =
-    new_done _ _ c.before.before.before.before.before.before.before.before.before.before.check_of.ensures c.before.before.before.before.before.before.before.before.enum_told.given.1 c.before.before.before.before.before.before.before.check-room.ensures c.before.before.before.before.before.enum-told2.given.1
-    c.before.before.before.put-new.ensures c.turned.ensures
+    new_done _ _ c.before.before.before.before.before.before.before.before.check_of-checked.ensures c.before.before.before.before.before.before.before.in_default.is c.before.before.before.before.before.before.check_room-room.ensures c.before.before.before.before.before.in_default-room.is
+    c.before.before.before.put_new.ensures c.turned.ensures
 
 pub new_book_spec : {M : Type 1} → statement M
 new_book_spec =

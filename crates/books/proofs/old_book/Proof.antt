@@ -7,34 +7,34 @@ use Rattle.books.proofs.Calls.{book_held, book_few, checked_good, room_told, old
 use Rattle.books.proofs.old_book.Statement.{statement}
 use Rattle.books.proofs.old_book.Tie as tie
 
-returns : tie.Need-returns
-returns c = old_bad _ _ c.before.before.before.before.check_of.ensures c.before.before.checked.given.1 c.refused.ensures
+returns : tie.Need-returns-in-Bad
+returns c = old_bad _ _ c.before.before.check_of-checked.ensures c.before.in-Bad.is c.refused.ensures
 
-check-numbers-requires : tie.Need-check-numbers-requires
+check-numbers-requires : tie.Need-check_numbers-numbers-requires
 check-numbers-requires c κs =
-    let checked = c.before.before.check_of.ensures in
-    let good = c.enum_told.given.1 in
-    (book_held record_size _ checked good, book_few record_size _ checked good (λ i. (c.before.before.before.before.before.before.shared-slice-known.given i).fits))
+    let checked = c.before.check_of-checked.ensures in
+    let good = c.in_default.is in
+    (book_held record_size _ checked good, book_few record_size _ checked good (λ i. (c.before.before.before.before.before.shared_slice_known-1.given i).fits))
 
-returns-2 : tie.Need-returns-2
+returns-2 : tie.Need-returns-in-Bad-numbers
 returns-2 c =
-    old_wrong _ _ c.before.before.before.before.before.before.before.before.check_of.ensures c.before.before.before.before.before.before.enum_told.given.1 c.before.before.before.before.before.check-numbers.ensures c.before.before.numbers.given.1 c.refused2.ensures
+    old_wrong _ _ c.before.before.before.before.before.check_of-checked.ensures c.before.before.before.before.in_default.is c.before.before.before.check_numbers-numbers.ensures c.before.in-Bad-numbers.is c.refused-in-Bad-numbers.ensures
 
-returns-3 : tie.Need-returns-3
+returns-3 : tie.Need-returns-in-Bad-room
 returns-3 c =
-    old_short _ _ c.before.before.before.before.before.before.before.before.before.before.check_of.ensures c.before.before.before.before.before.before.before.before.enum_told.given.1 c.before.before.before.before.before.before.before.check-numbers.ensures c.before.before.before.before.enum-told2.given.1
-    c.before.before.before.before.before.before.check-room.ensures c.before.before.room.given.1 c.refused3.ensures
+    old_short _ _ c.before.before.before.before.before.before.check_of-checked.ensures c.before.before.before.before.before.in_default.is c.before.before.before.before.check_numbers-numbers.ensures c.before.before.in_default-numbers.is
+    c.before.before.before.check_room-room.ensures c.before.in-Bad-room.is c.refused-in-Bad-room.ensures
 
-put-old-requires : tie.Need-put-old-requires
+put-old-requires : tie.Need-put_old-requires
 put-old-requires c κs = (
-  book_held record_size _ c.before.before.before.before.before.before.before.before.before.check_of.ensures c.before.before.before.before.before.before.before.enum_told.given.1,
-  room_told field_size _ _ (omega arith) (checked_good c.before.before.before.before.before.check-room.ensures c.before.enum-told3.given.1),
+  book_held record_size _ c.before.before.before.before.before.before.check_of-checked.ensures c.before.before.before.before.before.in_default.is,
+  room_told field_size _ _ (omega arith) (checked_good c.before.before.before.check_room-room.ensures c.before.in_default-room.is),
 )
 
-returns-4 : tie.Need-returns-4
+returns-4 : tie.Need-returns
 returns-4 c =
-    old_done _ _ c.before.before.before.before.before.before.before.before.before.before.before.before.before.check_of.ensures c.before.before.before.before.before.before.before.before.before.before.before.enum_told.given.1 c.before.before.before.before.before.before.before.before.before.before.check-numbers.ensures c.before.before.before.before.before.before.before.enum-told2.given.1
-    c.before.before.before.before.before.before.before.before.before.check-room.ensures c.before.before.before.before.before.enum-told3.given.1 c.before.before.before.put-old.ensures c.turned.ensures
+    old_done _ _ c.before.before.before.before.before.before.before.before.before.before.check_of-checked.ensures c.before.before.before.before.before.before.before.before.before.in_default.is c.before.before.before.before.before.before.before.before.check_numbers-numbers.ensures c.before.before.before.before.before.before.in_default-numbers.is
+    c.before.before.before.before.before.before.before.check_room-room.ensures c.before.before.before.before.before.in_default-room.is c.before.before.before.put_old.ensures c.turned.ensures
 
 pub old_book_spec : {M : Type 1} → statement M
 old_book_spec =

@@ -6,29 +6,29 @@ use Rattle.books.proofs.Passes.{Stripping, strip_starts, strip_length, strip_goe
 use Rattle.books.proofs.put_old.Statement.{statement}
 use Rattle.books.proofs.put_old.Tie as tie
 
-abbrev invariant-loop : tie.invariant-loop
-invariant-loop new count out₀ i₀ out i = Stripping new out₀ out i count
+abbrev invariant-loop-i : tie.invariant-loop-i
+invariant-loop-i new count out₀ i₀ out i = Stripping new out₀ out i count
 
-abbrev decreases-loop : tie.decreases-loop
-decreases-loop new count out₀ i₀ out i = count - i
+abbrev decreases-loop-i : tie.decreases-loop-i
+decreases-loop-i new count out₀ i₀ out i = count - i
 
-loop-again : tie.Need-loop-preserved invariant-loop decreases-loop
+loop-again : tie.Need-loop-i-preserved invariant-loop-i decreases-loop-i
 loop-again c =
-    strip_goes_on c.before.before.before.before.before.before.loop.invariant c.before.before.before.before.before.loop-test.true c.before.before.before.before.before.before.before.before.before.requires.0 _ c.before.before.before.before.fields_at.ensures _ c.before.before.put_fields.ensures
+    strip_goes_on c.before.before.before.before.before.before.loop-i.invariant c.before.before.before.before.before.loop-i-test.true c.before.before.before.before.before.before.before.before.before.requires.0 _ c.before.before.before.before.fields_at-f.ensures _ c.before.before.put_fields.ensures
 
 pub put_old_spec : {M : Type 1} → statement M
 put_old_spec =
     tie.close
     (tie.spec
-    invariant-loop
-    decreases-loop
+    invariant-loop-i
+    decreases-loop-i
     (λ c. strip_starts _ _ _)
     (λ c. omega (arith, c.before.before.before.before.requires.0))
     (λ c κs. omega (arith, c.before.before.before.before.requires.0))
-    (λ c. omega (arith, c.before.before.before.before.before.before.requires.1, strip_length c.before.before.before.loop.invariant))
-    (λ c κs. omega (arith, c.before.before.before.before.before.before.requires.1, strip_length c.before.before.before.loop.invariant))
+    (λ c. omega (arith, c.before.before.before.before.before.before.requires.1, strip_length c.before.before.before.loop-i.invariant))
+    (λ c κs. omega (arith, c.before.before.before.before.before.before.requires.1, strip_length c.before.before.before.loop-i.invariant))
     (λ c. omega arith)
     (λ c. omega arith)
     loop-again
-    (λ c. strip_length c.before.loop.invariant)
-    (λ c. strip_ends c.before.loop.invariant c.loop-test.false))
+    (λ c. strip_length c.before.loop-i.invariant)
+    (λ c. strip_ends c.before.loop-i.invariant c.loop-i-test.false))

@@ -5,11 +5,11 @@ use borrow.Author.Rules.{rules}
 use Rattle.formed.proofs.end_of_row.Statement.{statement}
 use Rattle.formed.proofs.end_of_row.Tie as tie
 
-returns : tie.Need-returns
-returns c before e = ends_at _ _ (sym (c.before.row-end.ensures before e) ∙ c.if1.true)
+returns : tie.Need-returns-then-row_end
+returns c before e = ends_at _ _ (sym (c.before.row_end.ensures before e) ∙ c.if-row_end.true)
 
-returns-2 : tie.Need-returns-2
-returns-2 c before e = ends_nowhere _ _ (sym (c.before.row-end.ensures before e) ∙ c.if1.false)
+returns-2 : tie.Need-returns-else-row_end
+returns-2 c before e = ends_nowhere _ _ (sym (c.before.row_end.ensures before e) ∙ c.if-row_end.false)
 
 pub end_of_row_spec : {M : Type 1} → statement M
 end_of_row_spec = tie.close (tie.spec (λ c κs. search rules) returns returns-2)

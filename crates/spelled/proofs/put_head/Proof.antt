@@ -10,19 +10,19 @@ use borrow.Author.Rules.{rules}
 use Rattle.spelled.proofs.put_head.Statement.{statement}
 use Rattle.spelled.proofs.put_head.Tie as tie
 
-put-result-requires : tie.Need-put-result-requires
+put-result-requires : tie.Need-put_result-at-requires
 put-result-requires c κs =
     let at_out = c.before.before in
     let at-start = at_out.before.before.before.before.before.before.before in
-    (search rules, omega (arith, at-start.requires.1, result_words_lem at-start.args.f, at_out.out.given))
+    (search rules, omega (arith, at-start.requires.1, result_words_lem at-start.args.f, at_out.out-1.given))
 
-put_result_requires_2 : tie.Need-put-result-requires-2
+put_result_requires_2 : tie.Need-put_result-requires
 put_result_requires_2 c κs =
     let at-out2 = c.before.before in
     let at-put-result = at-out2.before in
     let at_out = at-put-result.before.before.before in
     let at-start = at_out.before.before.before.before.before.before.before in
-    (omega (arith, at-put-result.put-result.ensures.0, word_few (eqb (bits_in at-start.args.f % 2) 1)), omega (arith, at-start.requires.1, result_words_lem at-start.args.f, at-put-result.put-result.ensures.0, at-out2.out2.given, at_out.out.given))
+    (omega (arith, at-put-result.put_result-at.ensures.0, word_few (eqb (bits_in at-start.args.f % 2) 1)), omega (arith, at-start.requires.1, result_words_lem at-start.args.f, at-put-result.put_result-at.ensures.0, at-out2.out-2-1.given, at_out.out-1.given))
 
 returns : tie.Need-returns
 returns c =
@@ -30,7 +30,7 @@ returns c =
     let at-put-result = at-put-result2.before.before.before.before in
     let at-put-word = at-put-result.before.before.before.before in
     let at-start = at-put-word.before.before.before.before.before.before in
-    (omega (arith, result_words_lem at-start.args.f, at-put-result.put-result.ensures.0, at-put-result2.put-result2.ensures.0), head_put at-start.args.out.now _ _ _ at-start.args.f at-put-word.put_word.ensures at-put-result.put-result.ensures.1 _ at-put-result.put-result.ensures.0 at-put-result2.put-result2.ensures.1)
+    (omega (arith, result_words_lem at-start.args.f, at-put-result.put_result-at.ensures.0, at-put-result2.put_result.ensures.0), head_put at-start.args.out.now _ _ _ at-start.args.f at-put-word.put_word.ensures at-put-result.put_result-at.ensures.1 _ at-put-result.put_result-at.ensures.0 at-put-result2.put_result.ensures.1)
 
 pub put_head_spec : {M : Type 1} → statement M
 put_head_spec =

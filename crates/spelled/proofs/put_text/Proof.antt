@@ -6,7 +6,7 @@ use borrow.Author.Rules.{rules}
 use Rattle.spelled.proofs.put_text.Statement.{statement}
 use Rattle.spelled.proofs.put_text.Tie as tie
 
-put-bytes-requires : tie.Need-put-bytes-requires
+put-bytes-requires : tie.Need-put_bytes-requires
 put-bytes-requires c κs =
     let at-put-word = c.before.before.before in
     let at-start = at-put-word.before.before.before.before in

@@ -5,4 +5,4 @@ use Rattle.standing.proofs.order_after.Statement.{statement}
 use Rattle.standing.proofs.order_after.Tie as tie
 
 pub order_after_spec : {M : Type 1} → statement M
-order_after_spec = tie.close (tie.spec (λ c. after_section _ _ c.if1.true) (λ c. after_other _ _ c.if1.false))
+order_after_spec = tie.close (tie.spec (λ c. after_section _ _ c.if-tag-le-LAST_SECTION.true) (λ c. after_other _ _ c.if-tag-le-LAST_SECTION.false))

@@ -1,5 +1,6 @@
 -- `standing::standing` meets its contract: where some records are passed, all stand where those that are left stand after them.
 -- Assumes nothing.
+use Rattle.std.proofs.lemmas.Bool.{not_from_true, not_from_false}
 use Rattle.records.specs.Steps.{given}
 use Rattle.standing.proofs.StandLaws.{Passing, stands_bad, pass_starts, in_store_lem, pass_stops, pass_goes_on, pass_ends}
 use native.Mathlib.Omega.{arith}
@@ -10,47 +11,47 @@ use Prim.Native.Nat.{◌-◌}
 use Rattle.standing.proofs.standing.Statement.{statement}
 use Rattle.standing.proofs.standing.Tie as tie
 
-abbrev invariant-loop : tie.invariant-loop
-invariant-loop instructions log strings instruction-count log-count string-count o₀ i₀ o i =
+abbrev invariant-loop-i : tie.invariant-loop-i
+invariant-loop-i instructions log strings instruction-count log-count string-count o₀ i₀ o i =
     Passing (given instructions log strings instruction-count log-count string-count) o i
 
-abbrev decreases-loop : tie.decreases-loop
-decreases-loop instructions log strings instruction-count log-count string-count o₀ i₀ o i = instruction-count - i
+abbrev decreases-loop-i : tie.decreases-loop-i
+decreases-loop-i instructions log strings instruction-count log-count string-count o₀ i₀ o i = instruction-count - i
 
-returns : tie.Need-returns invariant-loop decreases-loop
-returns c = let at-check = c.before.before.before in stands_bad _ _ _ at-check.check.ensures c.before.checked.given.1
+returns : tie.Need-returns-in-Bad invariant-loop-i decreases-loop-i
+returns c = let at-check = c.before in stands_bad _ _ _ at-check.check-checked.ensures c.in-Bad.is
 
-returns-2 : tie.Need-returns-2 invariant-loop decreases-loop
+returns-2 : tie.Need-returns-then-not-may_come invariant-loop-i decreases-loop-i
 returns-2 c =
     let at-record-at = c.before.before in
     let at-loop-test = at-record-at.before in
     let at-loop = at-loop-test.before in
-    pass_stops at-loop.loop.invariant at-loop-test.loop-test.true _ at-record-at.record_at.ensures (sym c.before.may-come.ensures ∙ not-true _ c.if1.true)
+    pass_stops at-loop.loop-i.invariant at-loop-test.loop-i-test.true _ at-record-at.record_at-f.ensures (sym c.before.may_come.ensures ∙ not-true _ (not_from_false _ c.if-not-may_come.true))
 
-loop-again : tie.Need-loop-preserved invariant-loop decreases-loop
+loop-again : tie.Need-loop-i-preserved invariant-loop-i decreases-loop-i
 loop-again c =
     let at-may-come = c.before.before in
     let at-record-at = at-may-come.before in
     let at-loop-test = at-record-at.before in
     let at-loop = at-loop-test.before in
-    pass_goes_on at-loop.loop.invariant at-loop-test.loop-test.true _ at-record-at.record_at.ensures (sym at-may-come.may-come.ensures ∙ not-false _ c.before.if1.false) _ c.order-after.ensures
+    pass_goes_on at-loop.loop-i.invariant at-loop-test.loop-i-test.true _ at-record-at.record_at-f.ensures (sym at-may-come.may_come.ensures ∙ not-false _ (not_from_true _ c.before.if-not-may_come.false)) _ c.order_after-o.ensures
 
 pub standing_spec : {M : Type 1} → statement M
 standing_spec =
     tie.close
     (tie.spec
-    invariant-loop
-    decreases-loop
+    invariant-loop-i
+    decreases-loop-i
     (λ c κs. search rules)
     (λ c. search rules)
     returns
     (λ c. search rules)
-    (λ c. let at-check = c.before.before in pass_starts _ _ at-check.check.ensures c.enum_told.given.1)
-    (λ c κs. in_store_lem c.before.loop.invariant c.loop-test.true)
+    (λ c. let at-check = c.before in pass_starts _ _ at-check.check-checked.ensures c.in_default.is)
+    (λ c κs. in_store_lem c.before.loop-i.invariant c.loop-i-test.true)
     (λ c κs. search rules)
     returns-2
     (λ c κs. search rules)
     (λ c. omega arith)
     (λ c. omega arith)
     loop-again
-    (λ c. pass_ends c.before.loop.invariant c.loop-test.false))
+    (λ c. pass_ends c.before.loop-i.invariant c.loop-i-test.false))

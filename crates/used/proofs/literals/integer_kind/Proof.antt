@@ -7,6 +7,6 @@ pub integer_kind_spec : {M : Type 1} → statement M
 integer_kind_spec =
     tie.close
     (tie.spec
-    (λ c. integer_one c.before.args.width c.if1.true)
-    (λ c. let at-start = c.before.before in integer_two at-start.args.width c.before.if1.false c.if2.true)
-    (λ c. let at-start = c.before.before in integer_none at-start.args.width c.before.if1.false c.if2.false))
+    (λ c. integer_one c.before.args.width c.if-width.true)
+    (λ c. let at-start = c.before.before in integer_two at-start.args.width c.before.if-width.false c.if-width-eq64.true)
+    (λ c. let at-start = c.before.before in integer_none at-start.args.width c.before.if-width.false c.if-width-eq64.false))

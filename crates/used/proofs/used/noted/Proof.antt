@@ -10,6 +10,6 @@ noted_spec =
     tie.close
     (tie.spec
     (λ c. search rules)
-    (λ c. let at-start = c.before.before.before in (note_first _ _ _ _ at-start.requires.1 at-start.requires.2 c.if1.true, refl))
-    (λ c. let at-start = c.before.before.before.before.before in (note_second _ _ _ _ at-start.requires.1 at-start.requires.2 c.if2.true, refl))
-    (λ c. let at-if1 = c.before.before in let at-start = at-if1.before.before.before in (note_later _ _ _ _ at-start.requires.1 at-start.requires.2 at-if1.if1.false c.if2.false, refl)))
+    (λ c. let at-start = c.before.before.before in (note_first _ _ _ _ at-start.requires.1 at-start.requires.2 c.if-u-eq0.true, refl))
+    (λ c. let at-start = c.before.before.before.before.before in (note_second _ _ _ _ at-start.requires.1 at-start.requires.2 c.if-u-eq1.true, refl))
+    (λ c. let at-if1 = c.before.before in let at-start = at-if1.before.before.before in (note_later _ _ _ _ at-start.requires.1 at-start.requires.2 at-if1.if-u-eq0.false c.if-u-eq1.false, refl)))

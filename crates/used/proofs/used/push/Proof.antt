@@ -11,4 +11,4 @@ push_spec =
     (λ c κs. search rules)
     (λ c κs. search rules)
     (λ c. search rules)
-    (λ c. let at-keep-record = c.before.before.before in (c.noted.ensures.0, (laid_kept _ _ _ _ _ (length_record _) at-keep-record.keep_record.ensures.1, c.noted.ensures.1))))
+    (λ c. let at-keep-record = c.before.before.before in (c.noted.ensures.0, (laid_kept _ _ _ _ _ (length_record _) at-keep-record.keep_record-next.ensures.1, c.noted.ensures.1))))

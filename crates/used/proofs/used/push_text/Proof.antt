@@ -21,4 +21,4 @@ push_text_spec =
     (λ c κs. search rules)
     (λ c. search rules)
     (λ c. search rules)
-    (λ c. let at-keep-bytes = c.before.before.before in let at_push = at-keep-bytes.before.before.before.before.before in let at-start = at_push.before.before.before.before.before.before in (copied _ _ _ _ _ _ at_push.push.ensures.0 c.first_break_lem.ensures, (at_push.push.ensures.1.0, part_laid _ _ _ _ _ _ at-keep-bytes.keep_bytes.ensures at-start.requires.1))))
+    (λ c. let at-keep-bytes = c.before.before.before in let at_push = at-keep-bytes.before.before.before.before.before in let at-start = at_push.before.before.before.before.before.before in (copied _ _ _ _ _ _ at_push.push-n.ensures.0 c.first_break.ensures, (at_push.push-n.ensures.1.0, part_laid _ _ _ _ _ _ at-keep-bytes.keep_bytes.ensures at-start.requires.1))))

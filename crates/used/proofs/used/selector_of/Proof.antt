@@ -5,23 +5,23 @@ use Rattle.used.proofs.UsedLaws.{selector_none, selector_there, selector_absent,
 use Rattle.used.proofs.used.selector_of.Statement.{statement}
 use Rattle.used.proofs.used.selector_of.Tie as tie
 
-returns : tie.Need-returns
+returns : tie.Need-returns-then-u-eq0
 unfolding id_is
-returns c = selector_none _ c.if1.true
+returns c = selector_none _ c.if-u-eq0.true
 
-cast_t3 : tie.Need-overflow-cast-t3
+cast_t3 : tie.Need-overflow_cast-result
 cast_t3 c =
     let some = c.before.before.before in
     let start = some.before.before in
-    omega (arith, selector_small start.args.u some.if1.false start.requires c.before.if2.true)
+    omega (arith, selector_small start.args.u some.if-u-eq0.false start.requires c.before.if-u-eq-ID_REF.true)
 
-returns-2 : tie.Need-returns-2
+returns-2 : tie.Need-returns-then-u-eq-ID_REF
 unfolding id_is
-returns-2 c = let at-if1 = c.before.before.before in selector_there _ at-if1.if1.false c.before.if2.true
+returns-2 c = let at-if1 = c.before.before.before in selector_there _ at-if1.if-u-eq0.false c.before.if-u-eq-ID_REF.true
 
-returns-3 : tie.Need-returns-3
+returns-3 : tie.Need-returns
 unfolding id_is
-returns-3 c = let at-if1 = c.before.before in selector_absent _ at-if1.if1.false c.if2.false
+returns-3 c = let at-if1 = c.before.before in selector_absent _ at-if1.if-u-eq0.false c.if-u-eq-ID_REF.false
 
 pub selector_of_spec : {M : Type 1} → statement M
 selector_of_spec =
