@@ -8,9 +8,9 @@ use borrow.Author.Rules.{rules}
 use Rattle.ranges.proofs.note.Statement.{statement}
 use Rattle.ranges.proofs.note.Tie as tie
 
-returns : tie.Need-returns
+returns : tie.Need-returns-then-tag-le-FUNCTION
 returns c =
-    let at-start = c.before.before.before.before in
+    let at-start = c.before.before.before.before.before.before in
     (ap (set at-start.args.first.now at-start.args.tag) c.begins.ensures, refl)
 
 pub note_spec : {M : Type 1} → statement M
@@ -28,4 +28,4 @@ note_spec =
     (λ c. search rules)
     (λ c. search rules)
     returns
-    (λ c. (sym (set_out _ _ _ (omega (arith, c.before.pre.1.0))), sym (set_out _ _ _ (omega (arith, c.before.pre.1.1))))))
+    (λ c. (sym (set_out _ _ _ (omega (arith, c.before.requires.1.0))), sym (set_out _ _ _ (omega (arith, c.before.requires.1.1))))))

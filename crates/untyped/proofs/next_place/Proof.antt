@@ -8,6 +8,6 @@ pub next_place_spec : {M : Type 1} → statement M
 next_place_spec =
     tie.close
     (tie.spec
-    (λ c. stays _ _ c.if1.true)
+    (λ c. stays _ _ c.if-quantifier-eq2.true)
     (λ c. search rules)
-    (λ c. goes_on_lem _ _ c.if1.false))
+    (λ c. goes_on_lem _ _ c.if-quantifier-eq2.false))

@@ -8,52 +8,52 @@ use native.Mathlib.Omega.{arith}
 use Rattle.pieces.proofs.operands.put_bit.Statement.{statement}
 use Rattle.pieces.proofs.operands.put_bit.Tie as tie
 
-returns : tie.Need-returns
-returns c = wrote_as _ _ (bit_none _ _ _ _ c.if1.true) (wrote_none _ _ _ (omega arith))
+returns : tie.Need-returns-then-set-ne1
+returns c = wrote_as _ _ (bit_none _ _ _ _ c.if-set-ne1.true) (wrote_none _ _ _ (omega arith))
 
-put-byte-requires : tie.Need-put-byte-requires
+put-byte-requires : tie.Need-put_byte-next-requires
 put-byte-requires c κs =
     let at-if1 = c.before.before in
     let at-if2 = c.before in
     let at-start = c.before.before.before.before.before.before in
-    room_first _ _ (room_as _ _ (bit_bar _ _ _ _ at-if1.if1.false at-if2.if2.true) at-start.requires.1)
+    room_first _ _ (room_as _ _ (bit_bar _ _ _ _ at-if1.if-set-ne1.false at-if2.if-bar.true) at-start.requires.1)
 
-put-name-requires : tie.Need-put-name-requires
+put-name-requires : tie.Need-put_name-requires
 put-name-requires c κs =
     let at-start = c.before.before.before.before.before.before.before.before.before.before in
     let at-if1 = c.before.before.before.before.before.before in
     let at-if2 = c.before.before.before.before.before in
     let at-put-byte = c.before.before.before in
-    (at-start.requires.0, room_next _ _ (room_as _ _ (bit_bar _ _ _ _ at-if1.if1.false at-if2.if2.true) at-start.requires.1) at-put-byte.put_byte.ensures)
+    (at-start.requires.0, room_next _ _ (room_as _ _ (bit_bar _ _ _ _ at-if1.if-set-ne1.false at-if2.if-bar.true) at-start.requires.1) at-put-byte.put_byte-next.ensures)
 
-same_length : tie.Need-same-length
+same_length : tie.Need-shape_of-out-then-bar
 same_length c = search rules
 
-returns-2 : tie.Need-returns-2
+returns-2 : tie.Need-returns-then-bar
 returns-2 c =
     let at-if1 = c.before.before.before.before.before.before.before.before.before in
     let at-if2 = c.before.before.before.before.before.before.before.before in
     let at-start = c.before.before.before.before.before.before.before.before.before.before.before.before.before in
     let at-put-byte = c.before.before.before.before.before.before in
     let at-put-name = c.before.before in
-    wrote_as _ _ (sym (bit_bar _ _ _ _ at-if1.if1.false at-if2.if2.true)) (wrote_both _ _ (room_as _ _ (bit_bar _ _ _ _ at-if1.if1.false at-if2.if2.true) at-start.requires.1) at-put-byte.put_byte.ensures at-put-name.put_name.ensures)
+    wrote_as _ _ (sym (bit_bar _ _ _ _ at-if1.if-set-ne1.false at-if2.if-bar.true)) (wrote_both _ _ (room_as _ _ (bit_bar _ _ _ _ at-if1.if-set-ne1.false at-if2.if-bar.true) at-start.requires.1) at-put-byte.put_byte-next.ensures at-put-name.put_name.ensures)
 
-put_name_requires_2 : tie.Need-put-name-requires-2
+put_name_requires_2 : tie.Need-put_name-requires-2
 put_name_requires_2 c κs =
     let at-start = c.before.before.before.before.before.before in
     let at-if1 = c.before.before in
     let at-if2 = c.before in
-    (at-start.requires.0, room_as _ _ (bit_first _ _ _ _ at-if1.if1.false at-if2.if2.false) at-start.requires.1)
+    (at-start.requires.0, room_as _ _ (bit_first _ _ _ _ at-if1.if-set-ne1.false at-if2.if-bar.false) at-start.requires.1)
 
-same_length_2 : tie.Need-same-length-2
+same_length_2 : tie.Need-shape_of-out
 same_length_2 c = search rules
 
-returns-3 : tie.Need-returns-3
+returns-3 : tie.Need-returns
 returns-3 c =
     let at-if1 = c.before.before.before.before.before in
     let at-if2 = c.before.before.before.before in
     let at-put-name2 = c.before.before in
-    wrote_as _ _ (sym (bit_first _ _ _ _ at-if1.if1.false at-if2.if2.false)) at-put-name2.put-name2.ensures
+    wrote_as _ _ (sym (bit_first _ _ _ _ at-if1.if-set-ne1.false at-if2.if-bar.false)) at-put-name2.put_name-2.ensures
 
 pub put_bit_spec : {M : Type 1} → statement M
 put_bit_spec = tie.close (tie.spec returns put-byte-requires put-name-requires same_length returns-2 put_name_requires_2 same_length_2 returns-3)

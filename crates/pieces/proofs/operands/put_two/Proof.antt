@@ -8,112 +8,112 @@ use native.Mathlib.Omega.{arith}
 use Rattle.pieces.proofs.operands.put_two.Statement.{statement}
 use Rattle.pieces.proofs.operands.put_two.Tie as tie
 
-add_word_at : tie.Need-overflow-add-word-at
+add_word_at : tie.Need-overflow_add-a
 add_word_at c =
     let at-start = c.before.before.before in
     omega (arith, at-start.requires.0.whole.nine at-start.requires.1.0)
 
-word-at-requires : tie.Need-word-at-requires
+word-at-requires : tie.Need-word_at-low-requires
 word-at-requires c κs =
     let at-start = c.before.before.before in
     omega (arith, at-start.requires.0.whole.nine at-start.requires.1.0)
 
-add_word_at_2 : tie.Need-overflow-add-word-at-2
+add_word_at_2 : tie.Need-overflow_add-a-2
 add_word_at_2 c =
     let at-start = c.before.before.before.before in
     omega (arith, at-start.requires.0.whole.nine at-start.requires.1.0)
 
-word_at_requires_2 : tie.Need-word-at-requires-2
+word_at_requires_2 : tie.Need-word_at-high-requires
 word_at_requires_2 c κs =
     let at-start = c.before.before.before.before in
     omega (arith, at-start.requires.0.whole.nine at-start.requires.1.0)
 
-shared_slice_read_if1 : tie.Need-shared-slice-read-if1
+shared_slice_read_if1 : tie.Need-bounds-log-a
 shared_slice_read_if1 c =
     let at-start = c.before.before.before.before.before.before in
     omega (arith, at-start.requires.0.whole.nine at-start.requires.1.0)
 
-cast_start : tie.Need-overflow-cast-start
+cast_start : tie.Need-overflow_cast-start
 cast_start c = search rules
 
-cast_end : tie.Need-overflow-cast-end
+cast_end : tie.Need-overflow_cast-end
 cast_end c = search rules
 
-add_end : tie.Need-overflow-add-end
+add_end : tie.Need-overflow_add-end
 add_end c =
     let at-start = c.before.before.before.before.before.before.before in
     let at-word-at = c.before.before.before in
     let at-word-at2 = c.before.before in
-    omega (arith, text_inside _ _ _ at-start.requires.0 c.if1.true _ _ at-word-at.word_at.ensures at-word-at2.word-at2.ensures)
+    omega (arith, text_inside _ _ _ at-start.requires.0 c.if-log-a-eq-STRING.true _ _ at-word-at.word_at-low.ensures at-word-at2.word_at-high.ensures)
 
-sub_put_string : tie.Need-overflow-sub-put-string
+sub_put_string : tie.Need-slice_bounds-put_string-count
 sub_put_string c = omega arith
 
-part_put_string_start : tie.Need-slice-bounds-put-string-start
+part_put_string_start : tie.Need-slice_bounds-put_string-start
 part_put_string_start c =
     let at-start = c.before.before.before.before.before.before.before.before in
     let at-if1 = c.before in
     let at-word-at = c.before.before.before.before in
     let at-word-at2 = c.before.before.before in
-    omega (arith, text_inside _ _ _ at-start.requires.0 at-if1.if1.true _ _ at-word-at.word_at.ensures at-word-at2.word-at2.ensures)
+    omega (arith, text_inside _ _ _ at-start.requires.0 at-if1.if-log-a-eq-STRING.true _ _ at-word-at.word_at-low.ensures at-word-at2.word_at-high.ensures)
 
-part_put_string_end : tie.Need-slice-bounds-put-string-end
+part_put_string_end : tie.Need-slice_bounds-put_string-end
 part_put_string_end c =
     let at-start = c.before.before.before.before.before.before.before.before in
     let at-if1 = c.before in
     let at-word-at = c.before.before.before.before in
     let at-word-at2 = c.before.before.before in
-    omega (arith, text_inside _ _ _ at-start.requires.0 at-if1.if1.true _ _ at-word-at.word_at.ensures at-word-at2.word-at2.ensures)
+    omega (arith, text_inside _ _ _ at-start.requires.0 at-if1.if-log-a-eq-STRING.true _ _ at-word-at.word_at-low.ensures at-word-at2.word_at-high.ensures)
 
-put-string-requires : tie.Need-put-string-requires
+put-string-requires : tie.Need-put_string-requires
 put-string-requires c κs =
     let at-if1 = c.before.before in
     let at-word-at = c.before.before.before.before.before in
     let at-word-at2 = c.before.before.before.before in
     let at-start = c.before.before.before.before.before.before.before.before.before in
-    room_as _ _ (sym (string_text_lem _ _ _ at-if1.if1.true _ _ at-word-at.word_at.ensures at-word-at2.word-at2.ensures)) at-start.requires.1.1
+    room_as _ _ (sym (string_text_lem _ _ _ at-if1.if-log-a-eq-STRING.true _ _ at-word-at.word_at-low.ensures at-word-at2.word_at-high.ensures)) at-start.requires.1.1
 
-same_length : tie.Need-same-length
+same_length : tie.Need-shape_of-out-then-log-a-eq-STRING
 same_length c = search rules
 
-returns : tie.Need-returns
+returns : tie.Need-returns-then-log-a-eq-STRING
 returns c =
     let at-if1 = c.before.before.before.before.before in
     let at-word-at = c.before.before.before.before.before.before.before.before in
     let at-word-at2 = c.before.before.before.before.before.before.before in
     let at-put-string = c.before.before in
-    wrote_as _ _ (string_text_lem _ _ _ at-if1.if1.true _ _ at-word-at.word_at.ensures at-word-at2.word-at2.ensures) at-put-string.put-string.ensures
+    wrote_as _ _ (string_text_lem _ _ _ at-if1.if-log-a-eq-STRING.true _ _ at-word-at.word_at-low.ensures at-word-at2.word_at-high.ensures) at-put-string.put_string.ensures
 
-cast_value : tie.Need-overflow-cast-value
+cast_value : tie.Need-overflow_cast-value
 cast_value c = search rules
 
-cast_value_2 : tie.Need-overflow-cast-value-2
+cast_value_2 : tie.Need-overflow_cast-value-2
 cast_value_2 c = search rules
 
-mul_value : tie.Need-overflow-mul-value
+mul_value : tie.Need-overflow_mul-value
 mul_value c = omega arith
 
-add_value : tie.Need-overflow-add-value
+add_value : tie.Need-overflow_add-value
 add_value c = omega arith
 
-shared_slice_read_if2 : tie.Need-shared-slice-read-if2
+shared_slice_read_if2 : tie.Need-bounds-log-a-2
 shared_slice_read_if2 c =
     let at-start = c.before.before.before.before.before.before.before.before in
     omega (arith, at-start.requires.0.whole.nine at-start.requires.1.0)
 
-put-number-requires : tie.Need-put-number-requires
+put-number-requires : tie.Need-put_number-requires
 put-number-requires c κs =
     let at-start = c.before.before.before.before.before.before.before.before.before.before in
     let at-if1 = c.before.before.before in
     let at-word-at = c.before.before.before.before.before.before in
     let at-word-at2 = c.before.before.before.before.before in
     let at-if2 = c.before in
-    room_as _ _ (sym (long_text _ _ _ at-start.requires.1.0 at-if1.if1.false _ _ at-word-at.word_at.ensures at-word-at2.word-at2.ensures at-if2.if2.true)) at-start.requires.1.1
+    room_as _ _ (sym (long_text _ _ _ at-start.requires.1.0 at-if1.if-log-a-eq-STRING.false _ _ at-word-at.word_at-low.ensures at-word-at2.word_at-high.ensures at-if2.if-log-a-eq-INT64.true)) at-start.requires.1.1
 
-same_length_2 : tie.Need-same-length-2
+same_length_2 : tie.Need-shape_of-out-then-log-a-eq-INT64
 same_length_2 c = search rules
 
-returns-2 : tie.Need-returns-2
+returns-2 : tie.Need-returns-then-log-a-eq-INT64
 returns-2 c =
     let at-start = c.before.before.before.before.before.before.before.before.before.before.before.before.before in
     let at-if1 = c.before.before.before.before.before.before in
@@ -121,21 +121,21 @@ returns-2 c =
     let at-word-at2 = c.before.before.before.before.before.before.before.before in
     let at-if2 = c.before.before.before.before in
     let at-put-number = c.before.before in
-    wrote_as _ _ (long_text _ _ _ at-start.requires.1.0 at-if1.if1.false _ _ at-word-at.word_at.ensures at-word-at2.word-at2.ensures at-if2.if2.true) at-put-number.put_number.ensures
+    wrote_as _ _ (long_text _ _ _ at-start.requires.1.0 at-if1.if-log-a-eq-STRING.false _ _ at-word-at.word_at-low.ensures at-word-at2.word_at-high.ensures at-if2.if-log-a-eq-INT64.true) at-put-number.put_number.ensures
 
-slice_aggregate_put_bytes : tie.Need-slice-aggregate-put-bytes
+slice_aggregate_put_bytes : tie.Need-put_bytes-next-requires
 slice_aggregate_put_bytes c = search rules
 
-put-bytes-requires : tie.Need-put-bytes-requires
+put-bytes-requires : tie.Need-put_hex-requires
 put-bytes-requires c κs =
     let at-start = c.before.before.before.before.before.before.before.before.before.before.before in
     let at-if1 = c.before.before.before.before in
     let at-word-at = c.before.before.before.before.before.before.before in
     let at-word-at2 = c.before.before.before.before.before.before in
     let at-if2 = c.before.before in
-    room_first _ _ (room_as _ _ (sym (double_text _ _ _ at-start.requires.1.0 at-if1.if1.false _ _ at-word-at.word_at.ensures at-word-at2.word-at2.ensures at-if2.if2.false)) at-start.requires.1.1)
+    room_first _ _ (room_as _ _ (sym (double_text _ _ _ at-start.requires.1.0 at-if1.before.if-log-a-eq-STRING.false _ _ at-word-at.before.word_at-low.ensures at-word-at2.before.word_at-high.ensures at-if2.before.if-log-a-eq-INT64.false)) at-start.requires.1.1)
 
-put-hex-requires : tie.Need-put-hex-requires
+put-hex-requires : tie.Need-shape_of-out
 put-hex-requires c κs =
     let at-start = c.before.before.before.before.before.before.before.before.before.before.before.before.before.before.before in
     let at-if1 = c.before.before.before.before.before.before.before.before in
@@ -143,12 +143,12 @@ put-hex-requires c κs =
     let at-word-at2 = c.before.before.before.before.before.before.before.before.before.before in
     let at-if2 = c.before.before.before.before.before.before in
     let at-put-bytes = c.before.before.before in
-    room_next _ _ (room_as _ _ (sym (double_text _ _ _ at-start.requires.1.0 at-if1.if1.false _ _ at-word-at.word_at.ensures at-word-at2.word-at2.ensures at-if2.if2.false)) at-start.requires.1.1) at-put-bytes.put_bytes.ensures
+    room_next _ _ (room_as _ _ (sym (double_text _ _ _ at-start.requires.1.0 at-if1.before.if-log-a-eq-STRING.false _ _ at-word-at.before.word_at-low.ensures at-word-at2.before.word_at-high.ensures at-if2.before.if-log-a-eq-INT64.false)) at-start.requires.1.1) at-put-bytes.put_bytes-next.ensures
 
-same_length_3 : tie.Need-same-length-3
+same_length_3 : tie.Need-returns
 same_length_3 c = search rules
 
-returns-3 : tie.Need-returns-3
+returns-3 : tie.Need-returns
 returns-3 c =
     let at-start = c.before.before.before.before.before.before.before.before.before.before.before.before.before.before.before.before.before.before in
     let at-if1 = c.before.before.before.before.before.before.before.before.before.before.before in
@@ -157,7 +157,7 @@ returns-3 c =
     let at-if2 = c.before.before.before.before.before.before.before.before.before in
     let at-put-bytes = c.before.before.before.before.before.before in
     let at-put-hex = c.before.before in
-    wrote_as _ _ (double_text _ _ _ at-start.requires.1.0 at-if1.if1.false _ _ at-word-at.word_at.ensures at-word-at2.word-at2.ensures at-if2.if2.false) (wrote_both _ _ (room_as _ _ (sym (double_text _ _ _ at-start.requires.1.0 at-if1.if1.false _ _ at-word-at.word_at.ensures at-word-at2.word-at2.ensures at-if2.if2.false)) at-start.requires.1.1) at-put-bytes.put_bytes.ensures at-put-hex.put-hex.ensures)
+    wrote_as _ _ (double_text _ _ _ at-start.requires.1.0 at-if1.before.if-log-a-eq-STRING.false _ _ at-word-at.before.word_at-low.ensures at-word-at2.before.word_at-high.ensures at-if2.before.if-log-a-eq-INT64.false) (wrote_both _ _ (room_as _ _ (sym (double_text _ _ _ at-start.requires.1.0 at-if1.before.if-log-a-eq-STRING.false _ _ at-word-at.before.word_at-low.ensures at-word-at2.before.word_at-high.ensures at-if2.before.if-log-a-eq-INT64.false)) at-start.requires.1.1) at-put-bytes.put_bytes-next.ensures at-put-hex.put_hex.ensures)
 
 pub put_two_spec : {M : Type 1} → statement M
 put_two_spec = tie.close (tie.spec add_word_at word-at-requires add_word_at_2 word_at_requires_2 shared_slice_read_if1 cast_start cast_end add_end sub_put_string part_put_string_start part_put_string_end put-string-requires same_length returns cast_value cast_value_2 mul_value add_value shared_slice_read_if2 put-number-requires same_length_2 returns-2 slice_aggregate_put_bytes put-bytes-requires put-hex-requires same_length_3 returns-3)

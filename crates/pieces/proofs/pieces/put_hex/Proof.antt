@@ -9,25 +9,25 @@ hex-requires : tie.Need-hex-requires
 hex-requires c κs =
     let at-start = c.before.before.before in
     let at-if1 = c.before in
-    hex_room _ _ _ _ _ at-start.requires at-if1.if1.true
+    hex_room _ _ _ _ _ at-start.requires at-if1.if-keep.true
 
-same_length : tie.Need-same-length
+same_length : tie.Need-shape_of-out-then-keep
 same_length c = search rules
 
-returns : tie.Need-returns
+returns : tie.Need-returns-then-keep
 returns c =
     let at-start = c.before.before.before.before.before.before in
     let at-if1 = c.before.before.before.before in
     let at-hex = c.before.before in
-    text_yes _ _ _ _ _ _ at-start.requires at-if1.if1.true at-hex.hex.ensures
+    text_yes _ _ _ _ _ _ at-start.requires at-if1.if-keep.true at-hex.hex.ensures
 
 further-requires : tie.Need-further-requires
 further-requires c κs = search rules
 
-returns-2 : tie.Need-returns-2
+returns-2 : tie.Need-returns
 returns-2 c =
     let at-if1 = c.before in
-    hex_no _ _ _ _ _ _ at-if1.if1.false c.further.ensures
+    hex_no _ _ _ _ _ _ at-if1.if-keep.false c.further.ensures
 
 pub put_hex_spec : {M : Type 1} → statement M
 put_hex_spec = tie.close (tie.spec hex-requires same_length returns further-requires returns-2)

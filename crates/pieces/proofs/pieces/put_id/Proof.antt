@@ -8,20 +8,20 @@ use borrow.Author.Rules.{rules}
 use Rattle.pieces.proofs.pieces.put_id.Statement.{statement}
 use Rattle.pieces.proofs.pieces.put_id.Tie as tie
 
-put-byte-requires : tie.Need-put-byte-requires
+put-byte-requires : tie.Need-put_byte-next-requires
 unfolding id_text
 put-byte-requires c κs =
     let at-start = c.before.before in
     room_first (37 ∷ []) (decimal _) at-start.requires
 
-put-number-requires : tie.Need-put-number-requires
+put-number-requires : tie.Need-put_number-requires
 unfolding id_text
 put-number-requires c κs =
     let at-start = c.before.before.before.before.before.before in
     let at-put-byte = c.before.before.before in
-    room_next (37 ∷ []) (decimal _) at-start.requires at-put-byte.put_byte.ensures
+    room_next (37 ∷ []) (decimal _) at-start.requires at-put-byte.put_byte-next.ensures
 
-same_length : tie.Need-same-length
+same_length : tie.Need-shape_of-out
 same_length c = search rules
 
 returns : tie.Need-returns
@@ -30,7 +30,7 @@ returns c =
     let at-start = c.before.before.before.before.before.before.before.before.before in
     let at-put-byte = c.before.before.before.before.before.before in
     let at-put-number = c.before.before in
-    wrote_both (37 ∷ []) (decimal _) at-start.requires at-put-byte.put_byte.ensures at-put-number.put_number.ensures
+    wrote_both (37 ∷ []) (decimal _) at-start.requires at-put-byte.put_byte-next.ensures at-put-number.put_number.ensures
 
 pub put_id_spec : {M : Type 1} → statement M
 put_id_spec = tie.close (tie.spec put-byte-requires put-number-requires same_length returns)
