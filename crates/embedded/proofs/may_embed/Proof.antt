@@ -12,25 +12,25 @@ use borrow.Author.Rules.{rules}
 use Rattle.embedded.proofs.may_embed.Statement.{statement}
 use Rattle.embedded.proofs.may_embed.Tie as tie
 
-abbrev invariant-loop : tie.invariant-loop
-invariant-loop g place p₀ p = (every embeds (slots_at g place) ≡ every embeds (slots_at g p)) × (p ≤ length g)
+abbrev invariant-loop-p : tie.invariant-loop-p
+invariant-loop-p g place p₀ p = (every embeds (slots_at g place) ≡ every embeds (slots_at g p)) × (p ≤ length g)
 
-abbrev decreases-loop : tie.decreases-loop
-decreases-loop g place p₀ p = length g - p
+abbrev decreases-loop-p : tie.decreases-loop-p
+decreases-loop-p g place p₀ p = length g - p
 
 pub may_embed_spec : {M : Type 1} → statement M
 may_embed_spec =
     tie.close
     (tie.spec
-    invariant-loop
-    decreases-loop
+    invariant-loop-p
+    decreases-loop-p
     (λ c. (refl, c.before.requires.1))
     (λ c κs. search rules)
     (λ c. search rules)
     (λ c. search rules)
-    (λ c. let at-slot-at = c.before.before in let at-loop = at-slot-at.before.before in none_bars _ _ at-loop.loop.invariant.0 (end_told _ _ _ at-slot-at.slot_at.ensures.0 c.enum_told.given.1))
-    (λ c. let at_x = c.before.before in let at-slot-at = at_x.before.before in let at-loop = at-slot-at.before.before in one_bars _ _ _ _ _ at-loop.loop.invariant.0 (slot_told _ _ _ at-slot-at.slot_at.ensures.0 _ _ at_x.x.given.1) c.if1.true)
-    (λ c. let at-loop-test = c.before.before.before.before.before in let at-start = at-loop-test.before.before.before in omega (arith, at-loop-test.loop-test.true, at-start.requires.0))
-    (λ c. let at_x = c.before.before in let at-slot-at = at_x.before.before in omega (arith, three_told _ _ _ _ at-slot-at.slot_at.ensures.1 at_x.x.given.1))
-    (λ c. let at_x = c.before.before in let at-slot-at = at_x.before.before in let at-loop = at-slot-at.before.before in (one_may _ _ _ _ _ at-loop.loop.invariant.0 (slot_told _ _ _ at-slot-at.slot_at.ensures.0 _ _ at_x.x.given.1) c.if1.false, omega (arith, three_told _ _ _ _ at-slot-at.slot_at.ensures.1 at_x.x.given.1)))
-    (λ c. none_bars _ _ c.before.loop.invariant.0 (end_past _ _ c.loop-test.false)))
+    (λ c. let at-slot-at = c.before in let at-loop = at-slot-at.before.before in none_bars _ _ at-loop.loop-p.invariant.0 (end_told _ _ _ at-slot-at.slot_at-x.ensures.0 c.in_default.is))
+    (λ c. let at_x = c.before in let at-slot-at = at_x.before in let at-loop = at-slot-at.before.before in one_bars _ _ _ _ _ at-loop.loop-p.invariant.0 (slot_told _ _ _ at-slot-at.slot_at-x.ensures.0 _ _ at_x.in-Slot.is) c.if-k.true)
+    (λ c. let at-loop-test = c.before.before.before in let at-start = at-loop-test.before.before.before in omega (arith, at-loop-test.loop-p-test.true, at-start.requires.0))
+    (λ c. let at_x = c.before in let at-slot-at = at_x.before in omega (arith, three_told _ _ _ _ at-slot-at.slot_at-x.ensures.1 at_x.in-Slot.is))
+    (λ c. let at_x = c.before in let at-slot-at = at_x.before in let at-loop = at-slot-at.before.before in (one_may _ _ _ _ _ at-loop.loop-p.invariant.0 (slot_told _ _ _ at-slot-at.slot_at-x.ensures.0 _ _ at_x.in-Slot.is) c.if-k.false, omega (arith, three_told _ _ _ _ at-slot-at.slot_at-x.ensures.1 at_x.in-Slot.is)))
+    (λ c. none_bars _ _ c.before.loop-p.invariant.0 (end_past _ _ c.loop-p-test.false)))

@@ -4,4 +4,4 @@ use Rattle.embedded.proofs.opcode_break.Statement.{statement}
 use Rattle.embedded.proofs.opcode_break.Tie as tie
 
 pub opcode_break_spec : {M : Type 1} → statement M
-opcode_break_spec = tie.close (tie.spec (λ c. opcode_breaks c.before.args.word _ c.if1.true) (λ c. opcode_low c.before.args.word _ c.if1.false))
+opcode_break_spec = tie.close (tie.spec (λ c. opcode_breaks c.before.args.word _ c.if-word-ne0.true) (λ c. opcode_low c.before.args.word _ c.if-word-ne0.false))

@@ -11,8 +11,8 @@ parse_inner_spec =
     tie.close
     (tie.spec
     (λ c κs. search rules)
-    (λ c. let at-start = c.before.before.before.before.before.before.before in accept _ _ _ _ _ _ _ _ _ _ _ _ (alone_result _ _ _ _ _ c.before.is_result_lem.ensures c.if1.true) (held_nothing _ _ _) at-start.requires.1.0 (went_nowhere _) (spotted_nothing _ _ _))
-    (λ c κs. let at-if1 = c.before.before in let at-is-result = at-if1.before in let at-start = at-is-result.before.before.before.before.before.before in (at-start.requires.0, (at-start.requires.1.0, inner_untyped _ _ at-is-result.is_result_lem.ensures at-if1.if1.false at-start.requires.1.1)))
+    (λ c. let at-start = c.before.before.before.before.before.before.before in accept _ _ _ _ _ _ _ _ _ _ _ _ (alone_result _ _ _ _ _ c.before.is_result.ensures c.if-is_result.true) (held_nothing _ _ _) at-start.requires.1.0 (went_nowhere _) (spotted_nothing _ _ _))
+    (λ c κs. let at-if1 = c.before.before in let at-is-result = at-if1.before in let at-start = at-is-result.before.before.before.before.before.before in (at-start.requires.0, (at-start.requires.1.0, inner_untyped _ _ at-is-result.is_result.ensures at-if1.if-is_result.false at-start.requires.1.1)))
     (λ c. search rules)
     (λ c. search rules)
-    (λ c. let at-parse-operand = c.before.before.before.before in let at-if1 = at-parse-operand.before.before.before in let at-is-result = at-if1.before in less_read _ _ _ _ _ _ _ _ _ _ _ (alone_operand _ _ _ _ _ at-is-result.is_result_lem.ensures at-if1.if1.false) at-parse-operand.parse-operand.ensures))
+    (λ c. let at-parse-operand = c.before.before.before.before in let at-if1 = at-parse-operand.before.before.before in let at-is-result = at-if1.before in less_read _ _ _ _ _ _ _ _ _ _ _ (alone_operand _ _ _ _ _ at-is-result.is_result.ensures at-if1.if-is_result.false) at-parse-operand.parse_operand.ensures))

@@ -15,4 +15,4 @@ push_opcode_spec =
     (λ c κs. search rules)
     (λ c κs. search rules)
     (λ c. search rules)
-    (λ c. let at_push = c.before.before.before.before in (pushed_breaks _ _ _ _ _ at_push.push.ensures.0, (at_push.push.ensures.1.0, c.first_break_lem.ensures ∙ ap (first_break _) c.before.opcode-break.ensures))))
+    (λ c. let at_push = c.before.before.before.before in (pushed_breaks _ _ _ _ _ at_push.push-n.ensures.0, (at_push.push-n.ensures.1.0, c.first_break.ensures ∙ ap (first_break _) c.before.opcode_break.ensures))))

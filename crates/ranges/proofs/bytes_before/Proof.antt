@@ -35,7 +35,7 @@ add_bytes c =
     let here = stores_at _ _ _ _ at-start.requires.0 at-loop.loop-i.i h _ at-record-at.record_at-f.ensures in
     let few : at-loop.loop-i.bytes + c.bytes_tagged-bytes.result ≤ at-record-at.record_at-f.result.offset + 4 * at-record-at.record_at-f.result.words =
     omega (arith, before_few here at-start.args.tag _ at-loop.loop-i.invariant.0 _ c.bytes_tagged-bytes.ensures, offset_after_lem _ _ _ _ at-start.requires.0 _ h _ at-record-at.record_at-f.ensures) in
-    let ok = at-record-at.record_at-f.type-inv in
+    let ok = at-record-at.record_at-f.type_inv in
     omega (arith, few, here.sound.few, ok)
 
 loop-again : tie.Need-loop-i-preserved invariant-loop-i decreases-loop-i
