@@ -6,9 +6,6 @@ use Rattle.pieces.proofs.Texts.{narrow_id, narrow_number, narrow_float, narrow_n
 use borrow.Author.Rules.{rules}
 use Rattle.pieces.proofs.operands.put_narrow.Goals as goal
 
-slice_aggregate_put_bytes : tie.Need-slice-aggregate-put-bytes
-slice_aggregate_put_bytes c = search rules
-
 pub put_id-requires : goal.put_id-requires
 put_id-requires c =
     room_as _ _ (sym (narrow_id _ _ c.if-kind.true)) c.requires.room

@@ -6,9 +6,6 @@ use Rattle.pieces.proofs.Texts.{byte_marked, byte_plain, byte_hex}
 use borrow.Author.Rules.{rules}
 use Rattle.pieces.proofs.operands.put_string_byte.Goals as goal
 
-slice_aggregate_put_bytes : tie.Need-slice-aggregate-put-bytes
-slice_aggregate_put_bytes c = search rules
-
 pub put_byte-next-requires : goal.put_byte-next-requires
 put_byte-next-requires c =
     room_first _ _ (room_as _ _ (byte_marked _ c.if-b.true) c.requires)

@@ -7,9 +7,6 @@ use borrow.Author.Rules.{rules}
 use native.Mathlib.Omega.{arith}
 use Rattle.pieces.proofs.operands.put_two.Goals as goal
 
-slice_aggregate_put_bytes : tie.Need-slice-aggregate-put-bytes
-slice_aggregate_put_bytes c = search rules
-
 pub overflow_add-a : goal.overflow_add-a
 overflow_add-a c =
     omega (arith, c.requires.readable.whole.nine c.requires.a_value)
