@@ -80,7 +80,7 @@ fn step_both(first: &[u8], i: usize, second: &[u8], j: usize, key: u64) -> Step
 {
     let i_end = piece_end(first, i);
     let j_end = piece_end(second, j);
-    if check::same(&first[i..i_end], &second[j..j_end]) {
+    if first[i..i_end] == second[j..j_end] {
         return Step::On(i_end, j_end);
     }
     Step::Differs(key)

@@ -9,103 +9,103 @@ use native.Mathlib.Omega.{arith}
 use Rattle.imports.proofs.import_of.Statement.{statement}
 use Rattle.imports.proofs.import_of.Tie as tie
 
-returns : tie.Need-returns
+returns : tie.Need-returns-then-f-ne-EXT_INST_IMPORT
 returns c =
     let at-start = c.before.before.before.before in
-    import_other at-start.args.log.now at-start.args.strings.now at-start.args.f at-start.args.id c.if1.true
+    import_other at-start.args.log.now at-start.args.strings.now at-start.args.f at-start.args.id c.if-f-ne-EXT_INST_IMPORT.true
 
-returns-2 : tie.Need-returns-2
+returns-2 : tie.Need-returns-then-f-id
 returns-2 c =
     let at-start = c.before.before.before.before.before.before.before.before in
-    import_not at-start.args.log.now at-start.args.strings.now at-start.args.f at-start.args.id c.if2.true
+    import_not at-start.args.log.now at-start.args.strings.now at-start.args.f at-start.args.id c.if-f-id.true
 
-cast_a : tie.Need-overflow-cast-a
+cast_a : tie.Need-overflow_cast-a
 cast_a c = search rules
 
-shared_slice_read_if3 : tie.Need-shared-slice-read-if3
+shared_slice_read_if3 : tie.Need-bounds-log-a
 shared_slice_read_if3 c =
     let at-start = c.before.before.before.before.before.before.before.before.before.before in
     let at-if1 = c.before.before.before.before.before.before in
     let at-if2 = c.before.before in
-    omega (arith, (import_readable at-start.args.log.now at-start.args.strings.now at-start.args.f at-start.args.id at-if1.if1.false at-if2.if2.false at-start.requires).whole.five)
+    omega (arith, (import_readable at-start.args.log.now at-start.args.strings.now at-start.args.f at-start.args.id at-if1.if-f-ne-EXT_INST_IMPORT.false at-if2.if-f-id.false at-start.requires).whole.five)
 
-returns-3 : tie.Need-returns-3
+returns-3 : tie.Need-returns-then-log-a-ne-STRING
 returns-3 c =
     let at-start = c.before.before.before.before.before.before.before.before.before.before.before in
     let at-if1 = c.before.before.before.before.before.before.before in
     let at-if2 = c.before.before.before in
-    import_nameless at-start.args.log.now at-start.args.strings.now at-start.args.f at-start.args.id at-if1.if1.false at-if2.if2.false c.if3.true
+    import_nameless at-start.args.log.now at-start.args.strings.now at-start.args.f at-start.args.id at-if1.if-f-ne-EXT_INST_IMPORT.false at-if2.if-f-id.false c.if-log-a-ne-STRING.true
 
-add_word_at : tie.Need-overflow-add-word-at
+add_word_at : tie.Need-overflow_add-a
 add_word_at c =
     let at-start = c.before.before.before.before.before.before.before.before.before.before.before in
     let at-if1 = c.before.before.before.before.before.before.before in
     let at-if2 = c.before.before.before in
-    omega (arith, (import_readable at-start.args.log.now at-start.args.strings.now at-start.args.f at-start.args.id at-if1.if1.false at-if2.if2.false at-start.requires).whole.nine (ap is_two c.if3.false))
+    omega (arith, (import_readable at-start.args.log.now at-start.args.strings.now at-start.args.f at-start.args.id at-if1.if-f-ne-EXT_INST_IMPORT.false at-if2.if-f-id.false at-start.requires).whole.nine (ap is_two c.if-log-a-ne-STRING.false))
 
-word-at-requires : tie.Need-word-at-requires
+word-at-requires : tie.Need-word_at-start-requires
 word-at-requires c κs =
     let at-start = c.before.before.before.before.before.before.before.before.before.before.before in
     let at-if1 = c.before.before.before.before.before.before.before in
     let at-if2 = c.before.before.before in
-    omega (arith, (import_readable at-start.args.log.now at-start.args.strings.now at-start.args.f at-start.args.id at-if1.if1.false at-if2.if2.false at-start.requires).whole.nine (ap is_two c.if3.false))
+    omega (arith, (import_readable at-start.args.log.now at-start.args.strings.now at-start.args.f at-start.args.id at-if1.if-f-ne-EXT_INST_IMPORT.false at-if2.if-f-id.false at-start.requires).whole.nine (ap is_two c.if-log-a-ne-STRING.false))
 
-cast_start : tie.Need-overflow-cast-start
+cast_start : tie.Need-overflow_cast-start
 cast_start c = search rules
 
-add_word_at_2 : tie.Need-overflow-add-word-at-2
+add_word_at_2 : tie.Need-overflow_add-a-2
 add_word_at_2 c =
     let at-start = c.before.before.before.before.before.before.before.before.before.before.before.before in
     let at-if1 = c.before.before.before.before.before.before.before.before in
     let at-if2 = c.before.before.before.before in
     let at-if3 = c.before in
-    omega (arith, (import_readable at-start.args.log.now at-start.args.strings.now at-start.args.f at-start.args.id at-if1.if1.false at-if2.if2.false at-start.requires).whole.nine (ap is_two at-if3.if3.false))
+    omega (arith, (import_readable at-start.args.log.now at-start.args.strings.now at-start.args.f at-start.args.id at-if1.if-f-ne-EXT_INST_IMPORT.false at-if2.if-f-id.false at-start.requires).whole.nine (ap is_two at-if3.if-log-a-ne-STRING.false))
 
-word_at_requires_2 : tie.Need-word-at-requires-2
+word_at_requires_2 : tie.Need-word_at-requires
 word_at_requires_2 c κs =
     let at-start = c.before.before.before.before.before.before.before.before.before.before.before.before in
     let at-if1 = c.before.before.before.before.before.before.before.before in
     let at-if2 = c.before.before.before.before in
     let at-if3 = c.before in
-    omega (arith, (import_readable at-start.args.log.now at-start.args.strings.now at-start.args.f at-start.args.id at-if1.if1.false at-if2.if2.false at-start.requires).whole.nine (ap is_two at-if3.if3.false))
+    omega (arith, (import_readable at-start.args.log.now at-start.args.strings.now at-start.args.f at-start.args.id at-if1.if-f-ne-EXT_INST_IMPORT.false at-if2.if-f-id.false at-start.requires).whole.nine (ap is_two at-if3.if-log-a-ne-STRING.false))
 
-cast_end : tie.Need-overflow-cast-end
+cast_end : tie.Need-overflow_cast-end
 cast_end c = search rules
 
-add_end : tie.Need-overflow-add-end
+add_end : tie.Need-overflow_add-end
 add_end c =
     let at-start = c.before.before.before.before.before.before.before.before.before.before.before.before.before in
     let at-if1 = c.before.before.before.before.before.before.before.before.before in
     let at-if2 = c.before.before.before.before.before in
     let at-if3 = c.before.before in
     let at-word-at = c.before in
-    omega (arith, text_inside at-start.args.log.now at-start.args.strings.now at-start.args.f.start (import_readable at-start.args.log.now at-start.args.strings.now at-start.args.f at-start.args.id at-if1.if1.false at-if2.if2.false at-start.requires) at-if3.if3.false _ _ at-word-at.word_at.ensures c.word-at2.ensures)
+    omega (arith, text_inside at-start.args.log.now at-start.args.strings.now at-start.args.f.start (import_readable at-start.args.log.now at-start.args.strings.now at-start.args.f at-start.args.id at-if1.if-f-ne-EXT_INST_IMPORT.false at-if2.if-f-id.false at-start.requires) at-if3.if-log-a-ne-STRING.false _ _ at-word-at.word_at-start.ensures c.word_at.ensures)
 
-sub_set_named : tie.Need-overflow-sub-set-named
+sub_set_named : tie.Need-slice_bounds-set_named-count
 sub_set_named c = omega arith
 
-part_set_named_start : tie.Need-slice-bounds-set-named-start
+part_set_named_start : tie.Need-slice_bounds-set_named-start
 part_set_named_start c =
     let at-start = c.before.before.before.before.before.before.before.before.before.before.before.before.before in
     let at-if1 = c.before.before.before.before.before.before.before.before.before in
     let at-if2 = c.before.before.before.before.before in
     let at-if3 = c.before.before in
     let at-word-at = c.before in
-    omega (arith, text_inside at-start.args.log.now at-start.args.strings.now at-start.args.f.start (import_readable at-start.args.log.now at-start.args.strings.now at-start.args.f at-start.args.id at-if1.if1.false at-if2.if2.false at-start.requires) at-if3.if3.false _ _ at-word-at.word_at.ensures c.word-at2.ensures)
+    omega (arith, text_inside at-start.args.log.now at-start.args.strings.now at-start.args.f.start (import_readable at-start.args.log.now at-start.args.strings.now at-start.args.f at-start.args.id at-if1.if-f-ne-EXT_INST_IMPORT.false at-if2.if-f-id.false at-start.requires) at-if3.if-log-a-ne-STRING.false _ _ at-word-at.word_at-start.ensures c.word_at.ensures)
 
-part_set_named_end : tie.Need-slice-bounds-set-named-end
+part_set_named_end : tie.Need-slice_bounds-set_named-end
 part_set_named_end c =
     let at-start = c.before.before.before.before.before.before.before.before.before.before.before.before.before in
     let at-if1 = c.before.before.before.before.before.before.before.before.before in
     let at-if2 = c.before.before.before.before.before in
     let at-if3 = c.before.before in
     let at-word-at = c.before in
-    omega (arith, text_inside at-start.args.log.now at-start.args.strings.now at-start.args.f.start (import_readable at-start.args.log.now at-start.args.strings.now at-start.args.f at-start.args.id at-if1.if1.false at-if2.if2.false at-start.requires) at-if3.if3.false _ _ at-word-at.word_at.ensures c.word-at2.ensures)
+    omega (arith, text_inside at-start.args.log.now at-start.args.strings.now at-start.args.f.start (import_readable at-start.args.log.now at-start.args.strings.now at-start.args.f at-start.args.id at-if1.if-f-ne-EXT_INST_IMPORT.false at-if2.if-f-id.false at-start.requires) at-if3.if-log-a-ne-STRING.false _ _ at-word-at.word_at-start.ensures c.word_at.ensures)
 
-set-named-requires : tie.Need-set-named-requires
+set-named-requires : tie.Need-set_named-requires
 set-named-requires c κs = search rules
 
-returns-4 : tie.Need-returns-4
+returns-4 : tie.Need-returns
 returns-4 c =
     let at-start = c.before.before.before.before.before.before.before.before.before.before.before.before.before.before.before in
     let at-if1 = c.before.before.before.before.before.before.before.before.before.before.before in
@@ -113,7 +113,7 @@ returns-4 c =
     let at-if3 = c.before.before.before.before in
     let at-word-at = c.before.before.before in
     let at-word-at2 = c.before.before in
-    import_name at-start.args.log.now at-start.args.strings.now at-start.args.f at-start.args.id at-if1.if1.false at-if2.if2.false at-if3.if3.false _ _ _ at-word-at.word_at.ensures at-word-at2.word-at2.ensures c.set-named.ensures
+    import_name at-start.args.log.now at-start.args.strings.now at-start.args.f at-start.args.id at-if1.if-f-ne-EXT_INST_IMPORT.false at-if2.if-f-id.false at-if3.if-log-a-ne-STRING.false _ _ _ at-word-at.word_at-start.ensures at-word-at2.word_at.ensures c.set_named.ensures
 
 pub import_of_spec : {M : Type 1} → statement M
 import_of_spec = tie.close (tie.spec returns returns-2 cast_a shared_slice_read_if3 returns-3 add_word_at word-at-requires cast_start add_word_at_2 word_at_requires_2 cast_end add_end sub_set_named part_set_named_start part_set_named_end set-named-requires returns-4)

@@ -9,61 +9,61 @@ use native.Mathlib.Omega.{arith}
 use Rattle.imports.proofs.same.Statement.{statement}
 use Rattle.imports.proofs.same.Tie as tie
 
-abbrev invariant-loop : tie.invariant-loop
-invariant-loop s t i₀ i = same s t ≡ same (drop i s) (drop i t)
+abbrev invariant-loop-i : tie.invariant-loop-i
+invariant-loop-i s t i₀ i = same s t ≡ same (drop i s) (drop i t)
 
-abbrev decreases-loop : tie.decreases-loop
-decreases-loop s t i₀ i = length s - i
+abbrev decreases-loop-i : tie.decreases-loop-i
+decreases-loop-i s t i₀ i = length s - i
 
-returns : tie.Need-returns invariant-loop decreases-loop
+returns : tie.Need-returns-then-s-t invariant-loop-i decreases-loop-i
 returns c =
     let at-start = c.before in
-    same_none at-start.args.s.now at-start.args.t.now c.if1.true
+    same_none at-start.args.s.now at-start.args.t.now c.if-s-t.true
 
-loop-holds : tie.Need-loop-init invariant-loop decreases-loop
+loop-holds : tie.Need-loop-i-init invariant-loop-i decreases-loop-i
 loop-holds c = refl
 
-shared_slice_read_if2 : tie.Need-shared-slice-read-if2 invariant-loop decreases-loop
+shared_slice_read_if2 : tie.Need-bounds-s-i invariant-loop-i decreases-loop-i
 shared_slice_read_if2 c =
     let at-loop-test = c.before in
-    omega (arith, at-loop-test.loop-test.true)
+    omega (arith, at-loop-test.loop-i-test.true)
 
-shared_slice_read_if2_2 : tie.Need-shared-slice-read-if2-2 invariant-loop decreases-loop
+shared_slice_read_if2_2 : tie.Need-bounds-t-i invariant-loop-i decreases-loop-i
 shared_slice_read_if2_2 c =
     let at-loop-test = c.before.before in
     let at-if1 = c.before.before.before.before in
-    omega (arith, at-loop-test.loop-test.true, at-if1.if1.false)
+    omega (arith, at-loop-test.loop-i-test.true, at-if1.if-s-t.false)
 
-returns-2 : tie.Need-returns-2 invariant-loop decreases-loop
+returns-2 : tie.Need-returns-then-s-i invariant-loop-i decreases-loop-i
 returns-2 c =
     let at-start = c.before.before.before.before.before.before in
     let at-loop = c.before.before.before.before in
     let at-loop-test = c.before.before.before in
     let at-if1 = c.before.before.before.before.before in
-    same_bad at-start.args.s.now at-start.args.t.now at-loop.loop.i at-loop-test.loop-test.true at-if1.if1.false at-loop.loop.invariant c.if2.true
+    same_bad at-start.args.s.now at-start.args.t.now at-loop.loop-i.i at-loop-test.loop-i-test.true at-if1.if-s-t.false at-loop.loop-i.invariant c.if-s-i.true
 
-add_i : tie.Need-overflow-add-i invariant-loop decreases-loop
+add_i : tie.Need-overflow_add-i invariant-loop-i decreases-loop-i
 add_i c = omega arith
 
-loop-less : tie.Need-loop-smaller invariant-loop decreases-loop
+loop-less : tie.Need-loop-i-smaller invariant-loop-i decreases-loop-i
 loop-less c =
     let at-loop-test = c.before.before.before in
-    omega (arith, at-loop-test.loop-test.true)
+    omega (arith, at-loop-test.loop-i-test.true)
 
-loop-again : tie.Need-loop-preserved invariant-loop decreases-loop
+loop-again : tie.Need-loop-i-preserved invariant-loop-i decreases-loop-i
 loop-again c =
     let at-start = c.before.before.before.before.before.before in
     let at-loop = c.before.before.before.before in
     let at-loop-test = c.before.before.before in
     let at-if1 = c.before.before.before.before.before in
-    same_on at-start.args.s.now at-start.args.t.now at-loop.loop.i at-loop-test.loop-test.true at-if1.if1.false at-loop.loop.invariant c.if2.false
+    same_on at-start.args.s.now at-start.args.t.now at-loop.loop-i.i at-loop-test.loop-i-test.true at-if1.if-s-t.false at-loop.loop-i.invariant c.if-s-i.false
 
-returns-3 : tie.Need-returns-3 invariant-loop decreases-loop
+returns-3 : tie.Need-returns invariant-loop-i decreases-loop-i
 returns-3 c =
     let at-start = c.before.before.before in
     let at-loop = c.before in
     let at-if1 = c.before.before in
-    same_ends at-start.args.s.now at-start.args.t.now at-loop.loop.i c.loop-test.false at-if1.if1.false at-loop.loop.invariant
+    same_ends at-start.args.s.now at-start.args.t.now at-loop.loop-i.i c.loop-i-test.false at-if1.if-s-t.false at-loop.loop-i.invariant
 
 pub same_spec : {M : Type 1} → statement M
-same_spec = tie.close (tie.spec invariant-loop decreases-loop returns loop-holds shared_slice_read_if2 shared_slice_read_if2_2 returns-2 add_i loop-less loop-again returns-3)
+same_spec = tie.close (tie.spec invariant-loop-i decreases-loop-i returns loop-holds shared_slice_read_if2 shared_slice_read_if2_2 returns-2 add_i loop-less loop-again returns-3)

@@ -1,4 +1,5 @@
 -- `join::join` meets its contract.
+use Rattle.std.proofs.lemmas.Bool.{not_from_true, not_from_false}
 use mathlib.Core.Path.{sym, ◌∙◌}
 use mathlib.Core.Bool.{false≢true}
 use borrow.Author.Rules.{rules}
@@ -8,57 +9,57 @@ use Rattle.join.proofs.JoinLaws.{first_unformed, second_unformed, clashed, flat_
 use Rattle.join.proofs.join.Statement.{statement}
 use Rattle.join.proofs.join.Tie as tie
 
-returns : tie.Need-returns
+returns : tie.Need-returns-then-not-note_kinds
 returns c =
     let at-start = c.before.before.before.before.before.before.before.before in
-    (first_unformed at-start.args.first.now at-start.args.second.now at-start.args.out.now _ (sym c.before.before.note-kinds.ensures.0 ∙ not-true _ c.before.if1.true) c.refused.ensures, (slice_bytes at-start.args.first.now c.before.before.before.before.before.before.before.shared-slice-known.given, slice_bytes at-start.args.second.now c.before.before.before.before.before.before.shared-slice-known2.given))
+    (first_unformed at-start.args.first.now at-start.args.second.now at-start.args.out.now _ (sym c.before.before.note_kinds.ensures.0 ∙ not-true _ (not_from_false _ c.before.if-not-note_kinds.true)) c.refused.ensures, (slice_bytes at-start.args.first.now c.before.before.before.before.before.before.before.shared_slice_known-1.given, slice_bytes at-start.args.second.now c.before.before.before.before.before.before.shared_slice_known-2-1.given))
 
-returns-2 : tie.Need-returns-2
+returns-2 : tie.Need-returns-then-not-note_kinds-2
 returns-2 c =
     let at-if1 = c.before.before.before.before.before in
     let at-start = c.before.before.before.before.before.before.before.before.before.before.before.before in
-    (second_unformed at-start.args.first.now at-start.args.second.now at-start.args.out.now _ (sym at-if1.before.note-kinds.ensures.0 ∙ not-false _ at-if1.if1.false) (sym c.before.before.note-kinds2.ensures.0 ∙ not-true _ c.before.if2.true) c.refused2.ensures, (slice_bytes at-start.args.first.now c.before.before.before.before.before.before.before.before.before.before.before.shared-slice-known.given, slice_bytes at-start.args.second.now c.before.before.before.before.before.before.before.before.before.before.shared-slice-known2.given))
+    (second_unformed at-start.args.first.now at-start.args.second.now at-start.args.out.now _ (sym at-if1.before.note_kinds.ensures.0 ∙ not-false _ (not_from_true _ at-if1.if-not-note_kinds.false)) (sym c.before.before.note_kinds-2.ensures.0 ∙ not-true _ (not_from_false _ c.before.if-not-note_kinds-2.true)) c.refused-then-not-note_kinds-2.ensures, (slice_bytes at-start.args.first.now c.before.before.before.before.before.before.before.before.before.before.before.shared_slice_known-1.given, slice_bytes at-start.args.second.now c.before.before.before.before.before.before.before.before.before.before.shared_slice_known-2-1.given))
 
-are-apart-requires : tie.Need-are-apart-requires
+are-apart-requires : tie.Need-are_apart-requires
 are-apart-requires c κs =
     let at-if2 = c.before.before in
     let at-if1 = at-if2.before.before.before.before in
-    ((at-if2.before.note-kinds2.ensures.1 (not-false _ at-if2.if2.false)).sizes.0, (at-if1.before.note-kinds.ensures.1 (not-false _ at-if1.if1.false)).sizes.1)
+    ((at-if2.before.note_kinds-2.ensures.1 (not-false _ (not_from_true _ at-if2.if-not-note_kinds-2.false))).sizes.0, (at-if1.before.note_kinds.ensures.1 (not-false _ (not_from_true _ at-if1.if-not-note_kinds.false))).sizes.1)
 
-are_apart_requires_2 : tie.Need-are-apart-requires-2
+are_apart_requires_2 : tie.Need-are_apart-requires-2
 are_apart_requires_2 c κs =
     let at-if2 = c.before.before.before.before.before in
     let at-if1 = at-if2.before.before.before.before in
-    ((at-if1.before.note-kinds.ensures.1 (not-false _ at-if1.if1.false)).sizes.0, (at-if2.before.note-kinds2.ensures.1 (not-false _ at-if2.if2.false)).sizes.1)
+    ((at-if1.before.note_kinds.ensures.1 (not-false _ (not_from_true _ at-if1.if-not-note_kinds.false))).sizes.0, (at-if2.before.note_kinds-2.ensures.1 (not-false _ (not_from_true _ at-if2.if-not-note_kinds-2.false))).sizes.1)
 
-merge-requires : tie.Need-merge-requires
+merge-requires : tie.Need-merge-measured-requires
 merge-requires c κs =
     let at-if2 = c.before.before.before.before.before.before.before in
     let at-if1 = at-if2.before.before.before.before in
-    ((sym at-if1.before.note-kinds.ensures.0 ∙ not-false _ at-if1.if1.false, sym at-if2.before.note-kinds2.ensures.0 ∙ not-false _ at-if2.if2.false), λ k. absurd (false≢true k))
+    ((sym at-if1.before.note_kinds.ensures.0 ∙ not-false _ (not_from_true _ at-if1.if-not-note_kinds.false), sym at-if2.before.note_kinds-2.ensures.0 ∙ not-false _ (not_from_true _ at-if2.if-not-note_kinds-2.false)), λ k. absurd (false≢true k))
 
-put-union-requires : tie.Need-put-union-requires
+put-union-requires : tie.Need-put_union-requires
 put-union-requires c κs =
-    let at-merge = c.before.before.before.before.before.before in
+    let at-merge = c.before.before.before.before in
     let at-are-apart2 = at-merge.before.before in
     let at-are-apart = at-are-apart2.before.before.before in
     let at-if2 = at-are-apart.before.before.before in
     let at-if1 = at-if2.before.before.before.before in
-    let first = not-false _ at-if1.if1.false in
-    let second = not-false _ at-if2.if2.false in
-    ((sym at-if1.before.note-kinds.ensures.0 ∙ first, sym at-if2.before.note-kinds2.ensures.0 ∙ second, flat_by (at-if1.before.note-kinds.ensures.1 first) (at-if2.before.note-kinds2.ensures.1 second) _ _ at-are-apart.are_apart.ensures at-are-apart2.are-apart2.ensures), measured_union _ _ _ _ _ (walked_as _ _ _ _ _ _ _ at-merge.merge.ensures c.before.before.measured2.given.1))
+    let first = not-false _ (not_from_true _ at-if1.if-not-note_kinds.false) in
+    let second = not-false _ (not_from_true _ at-if2.if-not-note_kinds-2.false) in
+    ((sym at-if1.before.note_kinds.ensures.0 ∙ first, sym at-if2.before.note_kinds-2.ensures.0 ∙ second, flat_by (at-if1.before.note_kinds.ensures.1 first) (at-if2.before.note_kinds-2.ensures.1 second) _ _ at-are-apart.are_apart.ensures at-are-apart2.are_apart-2.ensures), measured_union _ _ _ _ _ (walked_as _ _ _ _ _ _ _ at-merge.merge-measured.ensures c.before.in-Bytes.is))
 
-returns-3 : tie.Need-returns-3
+returns-3 : tie.Need-returns-in-Clash
 returns-3 c =
-    let at-if2 = c.before.before.before.before.before.before.before.before.before.before.before.before.before.before in
+    let at-if2 = c.before.before.before.before.before.before.before.before.before.before.before.before in
     let at-if1 = at-if2.before.before.before.before in
-    let at-start = c.before.before.before.before.before.before.before.before.before.before.before.before.before.before.before.before.before.before.before.before.before.before.before.before.before in
-    (clashed at-start.args.first.now at-start.args.second.now at-start.args.out.now (sym at-if1.before.note-kinds.ensures.0 ∙ not-false _ at-if1.if1.false) (sym at-if2.before.note-kinds2.ensures.0 ∙ not-false _ at-if2.if2.false) _ _ _ (walked_as _ _ _ _ _ _ _ c.before.before.before.before.before.before.merge.ensures c.before.before.decreases.given.1) c.refused3.ensures, (slice_bytes at-start.args.first.now c.before.before.before.before.before.before.before.before.before.before.before.before.before.before.before.before.before.before.before.before.before.before.before.before.shared-slice-known.given, slice_bytes at-start.args.second.now c.before.before.before.before.before.before.before.before.before.before.before.before.before.before.before.before.before.before.before.before.before.before.before.shared-slice-known2.given))
+    let at-start = c.before.before.before.before.before.before.before.before.before.before.before.before.before.before.before.before.before.before.before.before.before.before.before in
+    (clashed at-start.args.first.now at-start.args.second.now at-start.args.out.now (sym at-if1.before.note_kinds.ensures.0 ∙ not-false _ (not_from_true _ at-if1.if-not-note_kinds.false)) (sym at-if2.before.note_kinds-2.ensures.0 ∙ not-false _ (not_from_true _ at-if2.if-not-note_kinds-2.false)) _ _ _ (walked_as _ _ _ _ _ _ _ c.before.before.before.before.merge-measured.ensures c.before.in-Clash.is) c.refused-in-Clash.ensures, (slice_bytes at-start.args.first.now c.before.before.before.before.before.before.before.before.before.before.before.before.before.before.before.before.before.before.before.before.before.before.shared_slice_known-1.given, slice_bytes at-start.args.second.now c.before.before.before.before.before.before.before.before.before.before.before.before.before.before.before.before.before.before.before.before.before.shared_slice_known-2-1.given))
 
-returns-4 : tie.Need-returns-4
+returns-4 : tie.Need-returns-in-Bytes
 returns-4 c =
-    let at-start = c.before.before.before.before.before.before.before.before.before.before.before.before.before.before.before.before.before.before.before.before.before.before.before.before.before.before.before.before in
-    (measured_alone _ _ _ _ _ _ _ (walked_as _ _ _ _ _ _ _ c.before.before.before.before.before.before.before.before.before.merge.ensures c.before.before.before.before.before.measured2.given.1) c.before.before.put-union.ensures, (slice_bytes at-start.args.first.now c.before.before.before.before.before.before.before.before.before.before.before.before.before.before.before.before.before.before.before.before.before.before.before.before.before.before.before.shared-slice-known.given, slice_bytes at-start.args.second.now c.before.before.before.before.before.before.before.before.before.before.before.before.before.before.before.before.before.before.before.before.before.before.before.before.before.before.shared-slice-known2.given))
+    let at-start = c.before.before.before.before.before.before.before.before.before.before.before.before.before.before.before.before.before.before.before.before.before.before.before.before.before.before in
+    (measured_alone _ _ _ _ _ _ _ (walked_as _ _ _ _ _ _ _ c.before.before.before.before.before.before.before.merge-measured.ensures c.before.before.before.before.in-Bytes.is) c.before.before.put_union.ensures, (slice_bytes at-start.args.first.now c.before.before.before.before.before.before.before.before.before.before.before.before.before.before.before.before.before.before.before.before.before.before.before.before.before.shared_slice_known-1.given, slice_bytes at-start.args.second.now c.before.before.before.before.before.before.before.before.before.before.before.before.before.before.before.before.before.before.before.before.before.before.before.before.shared_slice_known-2-1.given))
 
 pub join_spec : {M : Type 1} → statement M
 join_spec =

@@ -5,16 +5,16 @@ use Rattle.join.proofs.put_taken.Statement.{statement}
 use Rattle.join.proofs.put_taken.Tie as tie
 
 put-requires : tie.Need-put-requires
-put-requires c κs = may_put c.before.before.before.before.before.before.args.out.now _ _ (taken_first _ _ _ _ _ _ c.before.before.if1.true) c.before.before.before.before.before.before.requires.1
+put-requires c κs = may_put c.before.before.before.before.before.before.args.out.now _ _ (taken_first _ _ _ _ _ _ c.before.before.if-i-i2.true) c.before.before.before.before.before.before.requires.1
 
-returns : tie.Need-returns
-returns c = put_told _ _ _ _ _ (taken_first _ _ _ _ _ _ c.before.before.before.before.before.if1.true) c.before.before.put.ensures
+returns : tie.Need-returns-then-i-i2
+returns c = put_told _ _ _ _ _ (taken_first _ _ _ _ _ _ c.before.before.before.before.before.if-i-i2.true) c.before.before.put.ensures
 
 put_requires_2 : tie.Need-put-requires-2
-put_requires_2 c κs = may_put c.before.before.before.before.before.before.args.out.now _ _ (taken_second _ _ _ _ _ _ c.before.before.if1.false) c.before.before.before.before.before.before.requires.1
+put_requires_2 c κs = may_put c.before.before.before.before.before.before.args.out.now _ _ (taken_second _ _ _ _ _ _ c.before.before.if-i-i2.false) c.before.before.before.before.before.before.requires.1
 
-returns-2 : tie.Need-returns-2
-returns-2 c = put_told _ _ _ _ _ (taken_second _ _ _ _ _ _ c.before.before.before.before.before.if1.false) c.before.before.put2.ensures
+returns-2 : tie.Need-returns
+returns-2 c = put_told _ _ _ _ _ (taken_second _ _ _ _ _ _ c.before.before.before.before.before.if-i-i2.false) c.before.before.put-2.ensures
 
 pub put_taken_spec : {M : Type 1} → statement M
 put_taken_spec =

@@ -5,22 +5,22 @@ use borrow.Author.Rules.{rules}
 use Rattle.order.proofs.put_definition.Statement.{statement}
 use Rattle.order.proofs.put_definition.Tie as tie
 
-put-one-requires : tie.Need-put-one-requires
+put-one-requires : tie.Need-put_one-next-requires
 put-one-requires c κs =
     let at-start = c.before.before.before.before.before in
     (at-start.requires.0, (at-start.requires.1.0, room_first _ _ at-start.requires.1.1))
 
-put-parameters-requires : tie.Need-put-parameters-requires
+put-parameters-requires : tie.Need-put_parameters-requires
 put-parameters-requires c κs =
     let at-put-one = c.before.before.before in
     let at-start = at-put-one.before.before.before.before.before.before in
-    (at-start.requires.0, room_next _ _ at-start.requires.1.1 at-put-one.put_one.ensures)
+    (at-start.requires.0, room_next _ _ at-start.requires.1.1 at-put-one.put_one-next.ensures)
 
 returns : tie.Need-returns
 returns c =
     let at-put-parameters = c.before.before in
     let at-put-one = at-put-parameters.before.before.before.before in
-    wrote_both _ _ at-put-one.put_one.ensures at-put-parameters.put-parameters.ensures
+    wrote_both _ _ at-put-one.put_one-next.ensures at-put-parameters.put_parameters.ensures
 
 pub put_definition_spec : {M : Type 1} → statement M
 put_definition_spec =

@@ -12,41 +12,41 @@ use Rattle.spelled.proofs.Stores.{stores_at}
 use Rattle.order.proofs.put_functions.Statement.{statement}
 use Rattle.order.proofs.put_functions.Tie as tie
 
-abbrev invariant-loop : tie.invariant-loop
-invariant-loop instructions log strings count first out₀ start i₀ at₀ out i at = Going out₀ start (functions (instrs_of instructions log strings count)) (functions (drop i (instrs_of instructions log strings count))) at out
+abbrev invariant-loop-i : tie.invariant-loop-i
+invariant-loop-i instructions log strings count first out₀ start i₀ at₀ out i at = Going out₀ start (functions (instrs_of instructions log strings count)) (functions (drop i (instrs_of instructions log strings count))) at out
 
-abbrev decreases-loop : tie.decreases-loop
-decreases-loop instructions log strings count first out₀ start i₀ at₀ out i at = count - i
+abbrev decreases-loop-i : tie.decreases-loop-i
+decreases-loop-i instructions log strings count first out₀ start i₀ at₀ out i at = count - i
 
-put-part-requires : tie.Need-put-part-requires invariant-loop decreases-loop
+put-part-requires : tie.Need-put_part-at-requires invariant-loop-i decreases-loop-i
 put-part-requires c κs =
     let at-loop = c.before.before in
     let at-start = at-loop.before.before.before.before.before in
-    (at-start.requires.0, (c.before.loop-test.true, going_room at-loop.loop.invariant _ _ (functions_more (stores_at _ _ _ _ at-start.requires.0 _ c.before.loop-test.true _ refl))))
+    (at-start.requires.0, (c.before.loop-i-test.true, going_room at-loop.loop-i.invariant _ _ (functions_more (stores_at _ _ _ _ at-start.requires.0 _ c.before.loop-i-test.true _ refl))))
 
-loop-again : tie.Need-loop-preserved invariant-loop decreases-loop
+loop-again : tie.Need-loop-i-preserved invariant-loop-i decreases-loop-i
 loop-again c =
     let at-put-part = c.before.before in
     let at-loop-test = at-put-part.before.before in
     let at-loop = at-loop-test.before in
     let at-start = at-loop.before.before.before.before.before in
-    going_on at-loop.loop.invariant _ _ (functions_more (stores_at _ _ _ _ at-start.requires.0 _ at-loop-test.loop-test.true _ refl)) at-put-part.put-part.ensures
+    going_on at-loop.loop-i.invariant _ _ (functions_more (stores_at _ _ _ _ at-start.requires.0 _ at-loop-test.loop-i-test.true _ refl)) at-put-part.put_part-at.ensures
 
-returns : tie.Need-returns invariant-loop decreases-loop
+returns : tie.Need-returns invariant-loop-i decreases-loop-i
 returns c =
     let at-start = c.before.before.before.before.before.before in
-    going_ends c.before.loop.invariant (functions_end _ (all_end _ _ _ _ at-start.requires.0 _ c.loop-test.false))
+    going_ends c.before.loop-i.invariant (functions_end _ (all_end _ _ _ _ at-start.requires.0 _ c.loop-i-test.false))
 
 pub put_functions_spec : {M : Type 1} → statement M
 put_functions_spec =
     tie.close
     (tie.spec
-    invariant-loop
-    decreases-loop
+    invariant-loop-i
+    decreases-loop-i
     (λ c. let at-start = c.before.before.before.before in going_starts _ _ _ _ at-start.requires.1.0 at-start.requires.1.1)
     put-part-requires
     (λ c. omega arith)
     (λ c. omega arith)
     loop-again
-    (λ c. going_length c.before.loop.invariant)
+    (λ c. going_length c.before.loop-i.invariant)
     returns)

@@ -8,23 +8,23 @@ use borrow.Author.Rules.{rules}
 use Rattle.order.proofs.put_one.Statement.{statement}
 use Rattle.order.proofs.put_one.Tie as tie
 
-record-at-requires : tie.Need-record-at-requires
+record-at-requires : tie.Need-record_at-f-requires
 record-at-requires c κs =
     let at-start = c.before.before.before.before in
     stores_in _ _ _ _ at-start.requires.0 _ at-start.requires.1.0
 
-put-instruction-requires : tie.Need-put-instruction-requires
+put-instruction-requires : tie.Need-put_instruction-requires
 put-instruction-requires c κs =
     let at-record-at = c.before in
     let at-start = at-record-at.before.before.before.before.before in
-    let here = stores_at _ _ _ _ at-start.requires.0 _ at-start.requires.1.0 _ at-record-at.record_at.ensures in
+    let here = stores_at _ _ _ _ at-start.requires.0 _ at-start.requires.1.0 _ at-record-at.record_at-f.ensures in
     (here.sound, lent_room at-start.args.out.now at-start.args.at _ (one_room here at-start.requires.1.1))
 
-add_result : tie.Need-overflow-add-result
+add_result : tie.Need-overflow_add-result
 add_result c =
     let at-record-at = c.before.before.before.before.before in
     let at-start = at-record-at.before.before.before.before.before in
-    let here = stores_at _ _ _ _ at-start.requires.0 _ at-start.requires.1.0 _ at-record-at.record_at.ensures in
+    let here = stores_at _ _ _ _ at-start.requires.0 _ at-start.requires.1.0 _ at-record-at.record_at-f.ensures in
     omega (arith, one_room here at-start.requires.1.1)
 
 returns : tie.Need-returns
@@ -32,8 +32,8 @@ returns c =
     let at-put-instruction = c.before.before.before in
     let at-record-at = at-put-instruction.before.before in
     let at-start = at-record-at.before.before.before.before.before in
-    let here = stores_at _ _ _ _ at-start.requires.0 _ at-start.requires.1.0 _ at-record-at.record_at.ensures in
-    one_wrote here at-start.args.out.now at-put-instruction.put_instruction.new.1.1.1.0 at-start.args.at at-put-instruction.put_instruction.ensures
+    let here = stores_at _ _ _ _ at-start.requires.0 _ at-start.requires.1.0 _ at-record-at.record_at-f.ensures in
+    one_wrote here at-start.args.out.now at-put-instruction.put_instruction.new.out at-start.args.at at-put-instruction.put_instruction.ensures
 
 pub put_one_spec : {M : Type 1} → statement M
 put_one_spec =

@@ -12,34 +12,34 @@ use Rattle.spelled.proofs.Stores.{stores_at, stores_in}
 use Rattle.order.proofs.put_parameters.Statement.{statement}
 use Rattle.order.proofs.put_parameters.Tie as tie
 
-abbrev invariant-loop : tie.invariant-loop
-invariant-loop instructions log strings count first out₀ start i₀ at₀ out i at = Going out₀ start (parameters_in (drop first (instrs_of instructions log strings count))) (parameters_in (drop i (instrs_of instructions log strings count))) at out
+abbrev invariant-loop-i : tie.invariant-loop-i
+invariant-loop-i instructions log strings count first out₀ start i₀ at₀ out i at = Going out₀ start (parameters_in (drop first (instrs_of instructions log strings count))) (parameters_in (drop i (instrs_of instructions log strings count))) at out
 
-abbrev decreases-loop : tie.decreases-loop
-decreases-loop instructions log strings count first out₀ start i₀ at₀ out i at = count - i
+abbrev decreases-loop-i : tie.decreases-loop-i
+decreases-loop-i instructions log strings count first out₀ start i₀ at₀ out i at = count - i
 
-record-at-requires : tie.Need-record-at-requires invariant-loop decreases-loop
+record-at-requires : tie.Need-record_at-f-requires invariant-loop-i decreases-loop-i
 record-at-requires c κs =
     let at-start = c.before.before.before.before.before.before in
-    stores_in _ _ _ _ at-start.requires.0 _ c.loop-test.true
+    stores_in _ _ _ _ at-start.requires.0 _ c.loop-i-test.true
 
-returns : tie.Need-returns invariant-loop decreases-loop
+returns : tie.Need-returns-then-f-eq-FUNCTION_END invariant-loop-i decreases-loop-i
 returns c =
     let at-record-at = c.before.before in
     let at-loop-test = at-record-at.before in
     let at-loop = at-loop-test.before in
     let at-start = at-loop.before.before.before.before.before in
-    going_ends at-loop.loop.invariant (parameters_none (stores_at _ _ _ _ at-start.requires.0 _ at-loop-test.loop-test.true _ at-record-at.record_at.ensures) c.if1.true)
+    going_ends at-loop.loop-i.invariant (parameters_none (stores_at _ _ _ _ at-start.requires.0 _ at-loop-test.loop-i-test.true _ at-record-at.record_at-f.ensures) c.if-f-eq-FUNCTION_END.true)
 
-put-tagged-requires : tie.Need-put-tagged-requires invariant-loop decreases-loop
+put-tagged-requires : tie.Need-put_tagged-at-requires invariant-loop-i decreases-loop-i
 put-tagged-requires c κs =
     let at-record-at = c.before.before.before in
     let at-loop-test = at-record-at.before in
     let at-loop = at-loop-test.before in
     let at-start = at-loop.before.before.before.before.before in
-    (at-start.requires.0, (at-loop-test.loop-test.true, going_room at-loop.loop.invariant _ _ (parameters_more (stores_at _ _ _ _ at-start.requires.0 _ at-loop-test.loop-test.true _ at-record-at.record_at.ensures) c.before.if1.false)))
+    (at-start.requires.0, (at-loop-test.loop-i-test.true, going_room at-loop.loop-i.invariant _ _ (parameters_more (stores_at _ _ _ _ at-start.requires.0 _ at-loop-test.loop-i-test.true _ at-record-at.record_at-f.ensures) c.before.if-f-eq-FUNCTION_END.false)))
 
-loop-again : tie.Need-loop-preserved invariant-loop decreases-loop
+loop-again : tie.Need-loop-i-preserved invariant-loop-i decreases-loop-i
 loop-again c =
     let at-put-tagged = c.before.before in
     let at-if1 = at-put-tagged.before.before in
@@ -47,26 +47,26 @@ loop-again c =
     let at-loop-test = at-record-at.before in
     let at-loop = at-loop-test.before in
     let at-start = at-loop.before.before.before.before.before in
-    going_on at-loop.loop.invariant _ _ (parameters_more (stores_at _ _ _ _ at-start.requires.0 _ at-loop-test.loop-test.true _ at-record-at.record_at.ensures) at-if1.if1.false) at-put-tagged.put-tagged.ensures
+    going_on at-loop.loop-i.invariant _ _ (parameters_more (stores_at _ _ _ _ at-start.requires.0 _ at-loop-test.loop-i-test.true _ at-record-at.record_at-f.ensures) at-if1.if-f-eq-FUNCTION_END.false) at-put-tagged.put_tagged-at.ensures
 
-returns-2 : tie.Need-returns-2 invariant-loop decreases-loop
+returns-2 : tie.Need-returns invariant-loop-i decreases-loop-i
 returns-2 c =
     let at-start = c.before.before.before.before.before.before in
-    going_ends c.before.loop.invariant (parameters_end _ (all_end _ _ _ _ at-start.requires.0 _ c.loop-test.false))
+    going_ends c.before.loop-i.invariant (parameters_end _ (all_end _ _ _ _ at-start.requires.0 _ c.loop-i-test.false))
 
 pub put_parameters_spec : {M : Type 1} → statement M
 put_parameters_spec =
     tie.close
     (tie.spec
-    invariant-loop
-    decreases-loop
+    invariant-loop-i
+    decreases-loop-i
     (λ c. let at-start = c.before.before.before.before in going_starts _ _ _ _ refl at-start.requires.1)
     record-at-requires
-    (λ c. let at-loop = c.before.before.before.before in going_length at-loop.loop.invariant)
+    (λ c. let at-loop = c.before.before.before.before in going_length at-loop.loop-i.invariant)
     returns
     put-tagged-requires
     (λ c. omega arith)
     (λ c. omega arith)
     loop-again
-    (λ c. going_length c.before.loop.invariant)
+    (λ c. going_length c.before.loop-i.invariant)
     returns-2)

@@ -14,59 +14,59 @@ use borrow.Author.Rules.{rules}
 use Rattle.order.proofs.put_read.Statement.{statement}
 use Rattle.order.proofs.put_read.Tie as tie
 
-abbrev invariant-loop : tie.invariant-loop
-invariant-loop instructions log strings count out₀ i₀ out i = out ≡ sets out₀ 20 (bytes_of_all (take i (instrs_of instructions log strings count)))
+abbrev invariant-loop-i : tie.invariant-loop-i
+invariant-loop-i instructions log strings count out₀ i₀ out i = out ≡ sets out₀ 20 (bytes_of_all (take i (instrs_of instructions log strings count)))
 
-abbrev decreases-loop : tie.decreases-loop
-decreases-loop instructions log strings count out₀ i₀ out i = count - i
+abbrev decreases-loop-i : tie.decreases-loop-i
+decreases-loop-i instructions log strings count out₀ i₀ out i = count - i
 
-record-at-requires : tie.Need-record-at-requires invariant-loop decreases-loop
+record-at-requires : tie.Need-record_at-f-requires invariant-loop-i decreases-loop-i
 record-at-requires c κs =
     let at-start = c.before.before.before.before.before.before in
-    stores_in _ _ _ _ at-start.requires.0 _ c.loop-test.true
+    stores_in _ _ _ _ at-start.requires.0 _ c.loop-i-test.true
 
-sub_put_instruction : tie.Need-overflow-sub-put-instruction invariant-loop decreases-loop
+sub_put_instruction : tie.Need-slice_bounds-put_instruction-count invariant-loop-i decreases-loop-i
 sub_put_instruction c =
     let at-loop-test = c.before.before in
     let at-loop = at-loop-test.before in
     let at-start = at-loop.before.before.before.before.before in
-    omega (arith, offset_room _ _ _ _ at-start.requires.0 _ at-loop-test.loop-test.true _ c.before.record_at.ensures _ _ at-loop.loop.invariant at-start.requires.1)
+    omega (arith, offset_room _ _ _ _ at-start.requires.0 _ at-loop-test.loop-i-test.true _ c.before.record_at-f.ensures _ _ at-loop.loop-i.invariant at-start.requires.1)
 
-part_put_instruction_start : tie.Need-slice-bounds-put-instruction-start invariant-loop decreases-loop
+part_put_instruction_start : tie.Need-slice_bounds-put_instruction-start invariant-loop-i decreases-loop-i
 part_put_instruction_start c =
     let at-loop-test = c.before.before in
     let at-loop = at-loop-test.before in
     let at-start = at-loop.before.before.before.before.before in
-    omega (arith, offset_room _ _ _ _ at-start.requires.0 _ at-loop-test.loop-test.true _ c.before.record_at.ensures _ _ at-loop.loop.invariant at-start.requires.1)
+    omega (arith, offset_room _ _ _ _ at-start.requires.0 _ at-loop-test.loop-i-test.true _ c.before.record_at-f.ensures _ _ at-loop.loop-i.invariant at-start.requires.1)
 
-put-instruction-requires : tie.Need-put-instruction-requires invariant-loop decreases-loop
+put-instruction-requires : tie.Need-put_instruction-requires invariant-loop-i decreases-loop-i
 put-instruction-requires c κs =
     let at-record-at = c.before.before in
     let at-loop-test = at-record-at.before in
     let at-loop = at-loop-test.before in
     let at-start = at-loop.before.before.before.before.before in
-    ((stores_at _ _ _ _ at-start.requires.0 _ at-loop-test.loop-test.true _ at-record-at.record_at.ensures).sound, lent_room at-loop.loop.out _ _ (offset_room _ _ _ _ at-start.requires.0 _ at-loop-test.loop-test.true _ at-record-at.record_at.ensures _ _ at-loop.loop.invariant at-start.requires.1))
+    ((stores_at _ _ _ _ at-start.requires.0 _ at-loop-test.loop-i-test.true _ at-record-at.record_at-f.ensures).sound, lent_room at-loop.loop-i.out _ _ (offset_room _ _ _ _ at-start.requires.0 _ at-loop-test.loop-i-test.true _ at-record-at.record_at-f.ensures _ _ at-loop.loop-i.invariant at-start.requires.1))
 
-loop-again : tie.Need-loop-preserved invariant-loop decreases-loop
+loop-again : tie.Need-loop-i-preserved invariant-loop-i decreases-loop-i
 loop-again c =
     let at-put-instruction = c.before.before in
     let at-record-at = at-put-instruction.before.before.before in
     let at-loop-test = at-record-at.before in
     let at-loop = at-loop-test.before in
     let at-start = at-loop.before.before.before.before.before in
-    offset_put _ _ _ _ at-start.requires.0 _ at-loop-test.loop-test.true _ at-record-at.record_at.ensures _ at-loop.loop.out at-loop.loop.invariant at-put-instruction.put_instruction.new.1.1.1.0 at-put-instruction.put_instruction.ensures
+    offset_put _ _ _ _ at-start.requires.0 _ at-loop-test.loop-i-test.true _ at-record-at.record_at-f.ensures _ at-loop.loop-i.out at-loop.loop-i.invariant at-put-instruction.put_instruction.new.out at-put-instruction.put_instruction.ensures
 
-returns : tie.Need-returns invariant-loop decreases-loop
+returns : tie.Need-returns invariant-loop-i decreases-loop-i
 returns c =
     let at-start = c.before.before.before.before.before.before in
-    all_put _ _ _ _ at-start.requires.0 _ c.loop-test.false _ _ c.before.loop.invariant
+    all_put _ _ _ _ at-start.requires.0 _ c.loop-i-test.false _ _ c.before.loop-i.invariant
 
 pub put_read_spec : {M : Type 1} → statement M
 put_read_spec =
     tie.close
     (tie.spec
-    invariant-loop
-    decreases-loop
+    invariant-loop-i
+    decreases-loop-i
     (λ c. none_put _)
     record-at-requires
     (λ c. search rules)
@@ -77,5 +77,5 @@ put_read_spec =
     (λ c. omega arith)
     (λ c. omega arith)
     loop-again
-    (λ c. put_length _ _ _ c.before.loop.invariant)
+    (λ c. put_length _ _ _ c.before.loop-i.invariant)
     returns)

@@ -12,4 +12,4 @@ next_word_spec =
     (λ c κs. search rules)
     (λ c. search rules)
     (λ c. search rules)
-    (λ c. let at-start = c.before.before.before in next_there _ _ at-start.requires.1 _ _ c.word_at.ensures c.before.words_left.ensures))
+    (λ c. let at-start = c.before.before.before in next_there _ _ at-start.requires.1 _ _ c.word_at-word.ensures c.before.words_left-left.ensures))

@@ -15,4 +15,4 @@ simple_word_spec =
     (λ c. search rules)
     (λ c κs. let at-start = c.before.before.before.before.before.before in may_push at-start.requires.0.0 (narrow_fits _ _ (word_narrow _ at-start.requires.0.1) (omega arith)))
     (λ c. search rules)
-    (λ c. let at_push = c.before.before in let at-next-word = at_push.before.before.before.before in let at-start = at-next-word.before.before.before in λ g t. take _ _ _ (word_parsed _ _ _ _ _ _ _ _ _ _ _ at-start.requires.0.0 at-start.requires.0.1 at-next-word.next_word.ensures at_push.push.ensures.0 at_push.push.ensures.1.0 at_push.push.ensures.1.1)))
+    (λ c. let at_push = c.before.before in let at-next-word = at_push.before.before.before.before in let at-start = at-next-word.before.before.before in λ g t. take _ _ _ (word_parsed _ _ _ _ _ _ _ _ _ _ _ at-start.requires.0.0 at-start.requires.0.1 at-next-word.next_word-x.ensures at_push.push-n.ensures.0 at_push.push-n.ensures.1.0 at_push.push-n.ensures.1.1)))

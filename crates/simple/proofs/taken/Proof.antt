@@ -15,4 +15,4 @@ taken_spec =
     (λ c. search rules)
     (λ c. search rules)
     (λ c. pass _)
-    (λ c. let at-r = c.before.before.before.before.before.before in take_good _ _ _ _ at-r.r.given.1 c.before.limit.given.1))
+    (λ c. let at-r = c.before.before.before in take_good _ _ _ _ at-r.in-Got.is c.in-Words.is))
