@@ -1,4 +1,8 @@
 -- The walk over two grammars: where a piece ends, and which piece is the lowest.
+use lib.Pointwise.{pointwise}
+use Rattle.std.proofs.lemmas.Bool.Decides.{Decides-eqb}
+use Rattle.std.proofs.lemmas.Slice.Eq.{slice_eq-Decides}
+use mathlib.Core.Bool.{false≢true}
 use Prim.Native.Nat.{ℕ, ◌+◌, ◌-◌, ◌≤◌, ◌<◌}
 use mathlib.Core.Path.{◌≡◌, refl, sym, ap, ◌∙◌, subst}
 use mathlib.Core.Bool.{Bool, true, false, not, ◌||◌}
@@ -305,3 +309,13 @@ module _ {a b : List ℕ} {i j : ℕ} (bya : AllBytes a) (byb : AllBytes b) (sa 
 -- of two keys neither is the lower
 pub same_keys : {x y m n : ℕ} → x ≡ m → y ≡ n → y ≤ x → x ≤ y → (x ≡ m) × (x ≡ n)
 same_keys {x} {y} kx ky l g = let e : x ≡ y = omega arith in (kx, e ∙ ky)
+
+-- what `==` tells of two slices
+pub slices_equal : (a b : List ℕ) (r : Bool) → r ≡ pointwise eqb a b → r ≡ true → a ≡ b
+slices_equal a b true e t = slice_eq-Decides Decides-eqb a b true e
+slices_equal a b false e t = absurd (false≢true t)
+
+-- and where it is false
+pub slices_differ : (a b : List ℕ) (r : Bool) → r ≡ pointwise eqb a b → r ≡ false → a ≡ b → ⊥
+slices_differ a b false e t = slice_eq-Decides Decides-eqb a b false e
+slices_differ a b true e t = absurd (false≢true (sym t))

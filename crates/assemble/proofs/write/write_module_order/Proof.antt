@@ -9,7 +9,7 @@ returns : tie.Need-returns
 returns c =
     let at-write-order = c.before.before in
     let at-module-header = at-write-order.before.before in
-    writes_as (module_order_by _ _ at-module-header.module-header.ensures _ _) at-write-order.write-order.ensures
+    writes_as (module_order_by _ _ at-module-header.module_header.ensures _ _) at-write-order.write_order.ensures
 
 pub write_module_order_spec : {M : Type 1} → statement M
 write_module_order_spec =

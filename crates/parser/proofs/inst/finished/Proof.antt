@@ -6,7 +6,7 @@ use borrow.Author.Rules.{rules}
 use Rattle.parser.proofs.inst.finished.Statement.{statement}
 use Rattle.parser.proofs.inst.finished.Tie as tie
 
-returns : tie.Need-returns
+returns : tie.Need-returns-then-limit_reached
 unfolding Ended limit_reached
 returns c = search rules
 
@@ -17,4 +17,4 @@ finished_spec =
     (λ c κs. search rules)
     returns
     (λ c κs. search rules)
-    (λ c. let at-limit-reached = c.before.before in ended_left _ _ _ _ _ at-limit-reached.limit_reached_lem.ensures c.before.if1.false c.no-inst.ensures))
+    (λ c. let at-limit-reached = c.before.before in ended_left _ _ _ _ _ at-limit-reached.limit_reached.ensures c.before.if-limit_reached.false c.no_inst.ensures))
