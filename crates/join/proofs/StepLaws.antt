@@ -10,7 +10,7 @@ use mathlib.Core.List.{List, [], ◌∷◌, ◌++◌, append_assoc}
 use mathlib.Core.Option.{some}
 use native.Mathlib.Omega.{arith}
 use borrow.Author.Tests.{lt-ltb, le-ltb, ltb-true}
-use lib.Dec.{ltb}
+use lib.Dec.{ltb, eqb}
 use lib.ListN.{length, take, drop, length-drop, length-append}
 use lib.Seq.{take-append_seam}
 use Rattle.spec.specs.Base.{if◌then◌else◌, same, joined, every}
@@ -312,10 +312,8 @@ same_keys {x} {y} kx ky l g = let e : x ≡ y = omega arith in (kx, e ∙ ky)
 
 -- what `==` tells of two slices
 pub slices_equal : (a b : List ℕ) (r : Bool) → r ≡ pointwise eqb a b → r ≡ true → a ≡ b
-slices_equal a b true e t = slice_eq-Decides Decides-eqb a b true e
-slices_equal a b false e t = absurd (false≢true t)
+slices_equal a b r e t = (slice_eq-Decides Decides-eqb a b r e).0 t
 
 -- and where it is false
 pub slices_differ : (a b : List ℕ) (r : Bool) → r ≡ pointwise eqb a b → r ≡ false → a ≡ b → ⊥
-slices_differ a b false e t = slice_eq-Decides Decides-eqb a b false e
-slices_differ a b true e t = absurd (false≢true (sym t))
+slices_differ a b r e t h = false≢true (sym t ∙ (slice_eq-Decides Decides-eqb a b r e).1 h)

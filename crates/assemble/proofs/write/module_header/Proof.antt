@@ -17,4 +17,4 @@ module_header_spec =
     (λ c. search rules)
     (λ c. search rules)
     (λ c. search rules)
-    (λ c. module_words c.args.header c.well_formed_lem.0.1.0.1))
+    (λ c. module_words c.args.header c.well_formed.0.1.0.1))

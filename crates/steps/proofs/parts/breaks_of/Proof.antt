@@ -8,7 +8,7 @@ pub breaks_of_spec : {M : Type 1} → statement M
 breaks_of_spec =
     tie.close
     (tie.spec
-    (λ c. refused_breaks _ _ c.if1.true)
-    (λ c. kept_breaks _ _ _ c.before.if1.false c.if2.true)
+    (λ c. refused_breaks _ _ c.if-number-ne-ACCEPTED.true)
+    (λ c. kept_breaks _ _ _ c.before.if-number-ne-ACCEPTED.false c.if-kept-ne0.true)
     (λ c κs. search rules)
-    (λ c. let at-if2 = c.before in tail_breaks _ _ _ at-if2.before.if1.false at-if2.if2.false _ c.tail-break.ensures))
+    (λ c. let at-if2 = c.before in tail_breaks _ _ _ at-if2.before.if-number-ne-ACCEPTED.false at-if2.if-kept-ne0.false _ c.tail_break.ensures))

@@ -10,7 +10,7 @@ returns c =
     let at-id-word = at-id-word2.before in
     let at-presence-of = at-id-word.before in
     let at-id-of2 = at-presence-of.before in
-    fields_by_lem _ _ _ _ _ _ _ _ at-id-of2.before.id_of.ensures at-id-of2.id-of2.ensures at-presence-of.presence-of.ensures.0 at-id-word.id_word.ensures at-id-word2.id-word2.ensures
+    fields_by_lem _ _ _ _ _ _ _ _ at-id-of2.before.id_of-rtype.ensures at-id-of2.id_of-rid.ensures at-presence-of.presence_of-bits.ensures.0 at-id-word.id_word-rtype_word.ensures at-id-word2.id_word-rid_word.ensures
 
 pub fields_of_spec : {M : Type 1} → statement M
 fields_of_spec =

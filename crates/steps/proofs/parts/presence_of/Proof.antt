@@ -4,22 +4,22 @@ use borrow.Author.Rules.{rules}
 use Rattle.steps.proofs.parts.presence_of.Statement.{statement}
 use Rattle.steps.proofs.parts.presence_of.Tie as tie
 
-returns : tie.Need-returns
+returns : tie.Need-returns-in-Absent-rid
 unfolding id_is
 returns c =
     search rules
 
-returns-2 : tie.Need-returns-2
+returns-2 : tie.Need-returns-in-Is-rid
 unfolding id_is
 returns-2 c =
     search rules
 
-returns-3 : tie.Need-returns-3
+returns-3 : tie.Need-returns-in-Absent-rid-2
 unfolding id_is
 returns-3 c =
     search rules
 
-returns-4 : tie.Need-returns-4
+returns-4 : tie.Need-returns-in-Is-rid-2
 unfolding id_is
 returns-4 c =
     search rules

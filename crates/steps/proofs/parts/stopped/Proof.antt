@@ -10,4 +10,4 @@ stopped_spec =
     (tie.spec
     (λ c κs. search rules)
     (λ c. search rules)
-    (λ c. let at-breaks-of = c.before.before in said_stopped _ _ _ _ at-breaks-of.breaks-of.ensures))
+    (λ c. let at-breaks-of = c.before.before in said_stopped _ _ _ _ at-breaks-of.breaks_of-breaks.ensures))

@@ -5,4 +5,4 @@ use Rattle.steps.proofs.parts.tail_break.Statement.{statement}
 use Rattle.steps.proofs.parts.tail_break.Tie as tie
 
 pub tail_break_spec : {M : Type 1} → statement M
-tail_break_spec = tie.close (tie.spec (λ c. tail_none _ c.if1.true) (λ c. search rules) (λ c. tail_some _ c.if1.false))
+tail_break_spec = tie.close (tie.spec (λ c. tail_none _ c.if-size-eq0.true) (λ c. search rules) (λ c. tail_some _ c.if-size-eq0.false))

@@ -6,33 +6,33 @@ use borrow.Author.Rules.{rules}
 use Rattle.steps.proofs.step.admit.Statement.{statement}
 use Rattle.steps.proofs.step.admit.Tie as tie
 
-need-after-requires : tie.Need-need-after-requires
+need-after-requires : tie.Need-need_after-requires
 unfolding Fair
 need-after-requires c κs =
-    let at-read2 = c.before.before.before.before.before in
-    let at-start = at-read2.before.before.before.before in
-    (at-start.requires.1.0, subst Fair at-read2.read2.given.1 at-start.requires.1.1)
+    let at-read2 = c.before.before in
+    let at-start = at-read2.before.before.before in
+    (at-start.requires.1.0, subst Fair at-read2.in-Got.is at-start.requires.1.1)
 
-returns : tie.Need-returns
+returns : tie.Need-returns-then-fault-eq-ACCEPTED
 returns c =
     let at-need-after = c.before.before in
-    let at-cell2 = at-need-after.before.before in
-    let placed = c.before.before.before.before.before.before in
-    judged_good _ _ _ _ _ placed.before.before.read2.given.1 _ _ (sym placed.place.ensures ∙ at-cell2.cell2.given.1) _ (c.before.room_fault_lem.ensures ∙ at-need-after.need-after.ensures) c.if1.true
-
-returns-3 : tie.Need-returns-3
-returns-3 c =
-    let at-cell = c.before.before in
+    let at-cell2 = at-need-after.before in
     let placed = c.before.before.before.before in
-    judged_misplaced _ _ _ _ _ placed.before.before.read2.given.1 _ (sym placed.place.ensures ∙ at-cell.cell.given.1) _ c.refused.ensures
+    judged_good _ _ _ _ _ placed.before.in-Got.is _ _ (sym placed.place-cell.ensures ∙ at-cell2.in-Tagged.is) _ (c.before.room_fault-fault.ensures ∙ at-need-after.need_after.ensures) c.if-fault-eq-ACCEPTED.true
 
-returns-4 : tie.Need-returns-4
+returns-3 : tie.Need-returns-in-Refuses
+returns-3 c =
+    let at-cell = c.before in
+    let placed = c.before.before in
+    judged_misplaced _ _ _ _ _ placed.before.in-Got.is _ (sym placed.place-cell.ensures ∙ at-cell.in-Refuses.is) _ c.refused.ensures
+
+returns-4 : tie.Need-returns-else-fault-eq-ACCEPTED
 returns-4 c =
     let at-room-fault = c.before.before in
     let at-need-after = at-room-fault.before in
-    let at-cell2 = at-need-after.before.before in
-    let placed = c.before.before.before.before.before.before.before in
-    judged_crowded _ _ _ _ _ placed.before.before.read2.given.1 _ _ (sym placed.place.ensures ∙ at-cell2.cell2.given.1) _ (at-room-fault.room_fault_lem.ensures ∙ at-need-after.need-after.ensures) c.before.if1.false _ c.refused2.ensures
+    let at-cell2 = at-need-after.before in
+    let placed = c.before.before.before.before.before in
+    judged_crowded _ _ _ _ _ placed.before.in-Got.is _ _ (sym placed.place-cell.ensures ∙ at-cell2.in-Tagged.is) _ (at-room-fault.room_fault-fault.ensures ∙ at-need-after.need_after.ensures) c.before.if-fault-eq-ACCEPTED.false _ c.refused-in-Tagged.ensures
 
 pub admit_spec : {M : Type 1} → statement M
 admit_spec =
@@ -40,7 +40,7 @@ admit_spec =
     (tie.spec
     (λ c. search rules)
     (λ c. search rules)
-    (λ c κs. let at-start = c.before.before.before.before.before in at-start.requires.0)
+    (λ c κs. let at-start = c.before.before.before in at-start.requires.0)
     (λ c. search rules)
     (λ c. search rules)
     (λ c κs. search rules)
@@ -49,6 +49,6 @@ admit_spec =
     (λ c κs. search rules)
     returns
     (λ c κs. search rules)
-    (λ c. judged_unread _ _ _ _ _ c.before.read.given.1)
+    (λ c. judged_unread _ _ _ _ _ c.in-Refused.is)
     returns-3
     returns-4)

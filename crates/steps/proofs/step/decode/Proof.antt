@@ -6,19 +6,19 @@ use borrow.Author.Rules.{rules}
 use Rattle.steps.proofs.step.decode.Statement.{statement}
 use Rattle.steps.proofs.step.decode.Tie as tie
 
-parse-inst-requires : tie.Need-parse-inst-requires
+parse-inst-requires : tie.Need-parse_inst-requires
 parse-inst-requires c κs =
     let at-unused = c.before.before in
     let asked = at-unused.before.before.before.before.before.before.before.before.before.requires in
     let stands = asked.1.1.0 in
     let typed = asked.1.1.1 in
-    (asked.0, ((asked.1.0.0, omega (arith, asked.1.0.1), fresh_unused _ _ _ _ _ _ at-unused.unused.ensures (omega arith) (omega (arith, stands.few_strings))), (typed.inside, typed.hinted)))
+    (asked.0, ((asked.1.0.0, omega (arith, asked.1.0.1), fresh_unused _ _ _ _ _ _ at-unused.unused-used.ensures (omega arith) (omega (arith, stands.few_strings))), (typed.inside, typed.hinted)))
 
 returns : tie.Need-returns
 returns c =
     let at-parse-inst = c.before.before.before.before in
-    let told = at-parse-inst.parse-inst.ensures in
-    shows _ _ _ _ _ _ _ at-parse-inst.before.before.before.unused.ensures _ told.0 told.1
+    let told = at-parse-inst.parse_inst.ensures in
+    shows _ _ _ _ _ _ _ at-parse-inst.before.before.before.unused-used.ensures _ told.0 told.1
 
 pub decode_spec : {M : Type 1} → statement M
 decode_spec =

@@ -8,19 +8,19 @@ use borrow.Author.Rules.{rules}
 use Rattle.steps.proofs.step.keep_record.Statement.{statement}
 use Rattle.steps.proofs.step.keep_record.Tie as tie
 
-track-requires : tie.Need-track-requires
+track-requires : tie.Need-track-tracked-requires
 track-requires c κs =
-    let tells = c.before.before.told_of.ensures in
+    let tells = c.before.before.told_of-told.ensures in
     let asked = c.before.before.before.before.before.before.before.before.before.before.before.before.before.before.before.before.before.before.before.requires in
     (asked.0.1.hinted, (rw (tells.tracks _) asked.1.1.1, tells.fits))
 
 returns : tie.Need-returns
 returns c =
-    let told = c.before.before.before.before.before.before.before.before.before.before.before.before.track.ensures in
-    let tells = c.before.before.before.before.before.before.before.before.before.before.before.before.before.before.before.told_of.ensures in
+    let told = c.before.before.before.before.before.before.before.before.before.before.before.before.track-tracked.ensures in
+    let tells = c.before.before.before.before.before.before.before.before.before.before.before.before.before.before.before.told_of-told.ensures in
     let at-put-record = c.before.before.before.before.before.before.before.before.before.before.before.before.before.before.before.before.before.before.before in
     let at_count = at-put-record.before.before.before.before in
-    recorded _ _ _ _ _ _ _ _ _ at_count.before.before.before.fields-of.ensures at_count.count.ensures at-put-record.put_record.ensures (told.count ∙ ap length (tells.tracks _)) (told.store ∙ ap (stored _) (tells.tracks _)) told.hinted
+    recorded _ _ _ _ _ _ _ _ _ at_count.before.before.before.fields_of-fields.ensures at_count.count-counted.ensures at-put-record.put_record.ensures (told.count ∙ ap length (tells.tracks _)) (told.store ∙ ap (stored _) (tells.tracks _)) told.hinted
 
 pub keep_record_spec : {M : Type 1} → statement M
 keep_record_spec =
@@ -39,7 +39,7 @@ keep_record_spec =
     (λ c. let stands = c.before.before.before.before.before.before.before.before.before.before.before.before.before.before.before.before.before.before.before.before.before.before.before.before.before.before.before.before.requires.0.0 in omega (arith, stands.few, stands.short))
     (λ c. let asked = c.before.before.before.before.before.before.before.before.before.before.before.before.before.before.before.before.before.before.before.before.before.before.before.before.before.before.before.before.before.before.requires in omega (arith, asked.0.0.few_log, asked.0.0.short, asked.1.0.few_log))
     (λ c. let asked = c.before.before.before.before.before.before.before.before.before.before.before.before.before.before.before.before.before.before.before.before.before.before.before.before.before.before.before.before.before.before.before.before.requires in omega (arith, asked.0.0.few_strings, asked.0.0.short, asked.1.0.few_strings))
-    (λ c. c.before.before.before.before.before.before.before.before.before.before.before.before.before.before.before.before.before.before.instructions.given)
-    (λ c. c.before.before.before.before.before.before.before.before.before.before.before.types.given)
-    (λ c. c.before.before.before.before.before.before.before.before.before.hints.given)
+    (λ c. c.before.before.before.before.before.before.before.before.before.before.before.before.before.before.before.before.before.before.instructions-1.given)
+    (λ c. c.before.before.before.before.before.before.before.before.before.before.before.types-1.given)
+    (λ c. c.before.before.before.before.before.before.before.before.before.hints-1.given)
     returns)
