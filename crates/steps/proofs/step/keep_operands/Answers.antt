@@ -25,27 +25,26 @@ returns-then-more-spare c =
     from_scratch c.requires.shown c.if-size-scratch.true c.if-more-spare.true _ _ _ _ c.put_records.ensures c.put_bytes.ensures
 
 pub parse_body-requires : goal.parse_body-requires
-parse_body-requires c = let asked = c.requires in
-    let stands = asked.1.1.0.0 in
-    let typed = asked.1.1.0.1 in
-    let shown = asked.1.1.1.1 in (
-      asked.0,
-      (
-        (
-          record {
-            short = asked.1.0.0;
-            inside = asked.1.0.1;
-            moves = shown.handed.moves;
-            place_in = shown.row.inside;
-            operands = shown.row.operands;
-          },
-          fresh_unused _ _ _ _ _ _ c.unused-used.ensures stands.few_log (omega (arith, stands.few_strings)),
-        ),
-        (typed.inside, typed.hinted),
-      ),
-    )
+parse_body-requires c =
+    let stands = c.requires.bounded.0 in
+    let typed = c.requires.bounded.1 in
+    let shown = c.requires.shown in
+    record {
+      indexed = c.requires.indexed;
+      framed = (
+        record {
+          short = c.requires.s_len_bound.0;
+          inside = c.requires.s_len_bound.1;
+          moves = shown.handed.moves;
+          place_in = shown.row.inside;
+          operands = shown.row.operands;
+        },
+        fresh_unused _ _ _ _ _ _ c.unused-used.ensures stands.few_log (omega (arith, stands.few_strings)),
+      );
+      count_in_bounds = typed.inside;
+      hinted = typed.hinted;
+    }
 
 pub returns : goal.returns
 returns c =
-    let fit = c.requires.1.1.1 in
-    from_module fit.1 _ _ _ _ fit.0.0 fit.0.1 _ _ c.unused-used.ensures c.parse_body.ensures.decodes
+    from_module c.requires.shown _ _ _ _ c.requires.log_in_bounds.0 c.requires.log_in_bounds.1 _ _ c.unused-used.ensures c.parse_body.ensures.decodes
