@@ -15,9 +15,9 @@ use Rattle.spelled.specs.Spelled.{said_by}
 use Rattle.spelled.specs.Placing.{GoodStores, instrs_of, one_at, tagged}
 use Rattle.spelled.proofs.Stores.{At, one_is}
 use Rattle.spelled.proofs.Orders.{all_end, tagged_more, tagged_yes, tagged_no, sections_from, sections_all, sections_more_lem, sections_end, parameters_end, parameters_none, parameters_more, functions_more, part_definition, part_one, part_none, module_is}
-use Rattle.disassemble.specs.declared.order.Cursor.{Cursor}
-use Rattle.disassemble.specs.declared.order.Next.{Next}
-use Rattle.disassemble.specs.declared.order.Next.TheVariants as next
+use Rattle.disassemble.specs.declared.walk.Cursor.{Cursor}
+use Rattle.disassemble.specs.declared.walk.Next.{Next}
+use Rattle.disassemble.specs.declared.walk.Next.TheVariants as next
 use Rattle.disassemble.specs.Listed.{last_tagged, section_from, section_after, InSection, sections_left, parameters_left, left_of, Follows}
 
 -- A TAG

@@ -25,9 +25,9 @@ use Rattle.spelled.specs.Placing.{GoodStores, instrs_of, one_at}
 use Rattle.assemble.specs.Writes.{Writes}
 use Rattle.spelled.proofs.Spell.{joined_append}
 use Rattle.spelled.proofs.Stores.{At, one_is, stores_in}
-use Rattle.disassemble.specs.declared.order.Cursor.{Cursor}
-use Rattle.disassemble.specs.declared.order.Next.{Next}
-use Rattle.disassemble.specs.declared.order.Next.TheVariants as next
+use Rattle.disassemble.specs.declared.walk.Cursor.{Cursor}
+use Rattle.disassemble.specs.declared.walk.Next.{Next}
+use Rattle.disassemble.specs.declared.walk.Next.TheVariants as next
 use Rattle.pieces.specs.Putting.{largest, Room, Wrote}
 use Rattle.disassemble.specs.Listed.{left_of, Follows, BadFromOne, before_bad, text_over}
 use Rattle.pieces.proofs.Put.{Going, going_starts}

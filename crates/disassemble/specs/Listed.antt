@@ -10,9 +10,9 @@ use Rattle.records.specs.declared.Checked.TheVariants.{Good, Bad}
 use Rattle.spelled.specs.Spelled.{AllReadable, said_by}
 use Rattle.spelled.specs.Placing.{one_at, tagged}
 use Rattle.spelled.proofs.Orders.{sections_from}
-use Rattle.disassemble.specs.declared.order.Cursor.{Cursor}
-use Rattle.disassemble.specs.declared.order.Next.{Next}
-use Rattle.disassemble.specs.declared.order.Next.TheVariants.{At, End}
+use Rattle.disassemble.specs.declared.walk.Cursor.{Cursor}
+use Rattle.disassemble.specs.declared.walk.Next.{Next}
+use Rattle.disassemble.specs.declared.walk.Next.TheVariants.{At, End}
 
 -- THE RECORDS BY THEIR PLACES
 

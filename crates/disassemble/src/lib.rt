@@ -2,7 +2,7 @@
 #![tactic(auto)]
 
 mod named;
-mod order;
+mod walk;
 mod write;
 
 pub use write::disassemble;

@@ -11,7 +11,7 @@ ghost use Rattle.imports.specs.Imports.{ImportsEnd};
 ghost use Rattle.disassemble.specs.Listed.{BadFromOne, before_bad, text_over};
 
 use crate::named::named_count;
-use crate::order::{Cursor, Next, advance};
+use crate::walk::{Cursor, Next, advance};
 use imports::imports_end;
 use line::{Asked, put_line};
 use pieces::{put_bytes, put_number};

@@ -1,4 +1,4 @@
--- `records::result_words_lem` meets its contract: a word for each result that is there.
+-- `records::result_words` meets its contract: a word for each result that is there.
 -- Assumes nothing.
 use Rattle.records.specs.Steps.{result_words}
 use Rattle.records.proofs.Fields.{word_few}

@@ -1,4 +1,4 @@
--- `room::room_in_lem` meets its contract.
+-- `room::room_in` meets its contract.
 use Rattle.spec.specs.Load.{room_of}
 use mathlib.Core.Path.{refl}
 use Rattle.room.proofs.room_in.Statement.{statement}

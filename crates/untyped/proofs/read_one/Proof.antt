@@ -1,4 +1,4 @@
--- `untyped::read_one_lem` meets its contract. Assumes nothing.
+-- `untyped::read_one` meets its contract. Assumes nothing.
 use native.Mathlib.Omega.{arith}
 use mathlib.Core.Path.{refl, sym, ◌∙◌}
 use Rattle.untyped.proofs.KindLaws.{enum_narrow, narrow_fits, single_word}

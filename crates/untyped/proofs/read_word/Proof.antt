@@ -1,4 +1,4 @@
--- `untyped::read_word_lem` meets its contract. Assumes nothing.
+-- `untyped::read_word` meets its contract. Assumes nothing.
 use native.Mathlib.Omega.{arith}
 use mathlib.Core.Path.{refl, sym, ◌∙◌}
 use Rattle.untyped.proofs.KindLaws.{word_narrow, narrow_fits}

@@ -1,4 +1,4 @@
--- `lent::word_next_lem` meets its contract: after a word, after a refusal.
+-- `lent::word_next` meets its contract: after a word, after a refusal.
 -- Assumes nothing.
 use borrow.Author.Rules.{rules}
 use Rattle.decoder.specs.Lent.{word_next}
