@@ -15,7 +15,7 @@ new-tracker-requires c = c.requires.in_bounds_2.0
 pub loop-p-init : goal.loop-p-init
 loop-p-init c =
     let hints_are = c.requires.in_bounds_2 in
-    start _ _ _ _ _ c.room_in-room.ensures c.requires.in_bounds.0 c.requires.in_bounds.1 _ _ c.new.ensures (marks_leave _ _ hints_are.0) hints_are.1
+    start _ _ _ _ _ c.room_in-room.ensures c.requires.in_bounds.0 c.requires.in_bounds.1 _ _ c.new-tracker.ensures (marks_leave _ _ hints_are.0) hints_are.1
 
 pub overflow_sub-s : goal.overflow_sub-s
 overflow_sub-s c = c.loop-p.invariant.inside
