@@ -1,5 +1,5 @@
-// The library as other languages call it (include/kollafrin.h): each function is a thin call over a proved one. A slice passes as its
-// pointer and its length, a store as the words or bytes that it is, and an answer is written into words that the caller lends.
+// The library as other languages call it (include/kollafrin.h; `kollafrin_c` exports it): each function is a thin call over a proved one.
+// An answer is written into words that the caller lends.
 //
 // A word of an answer is the number itself, never its low bits. Offsets, index and counts of a load fit 32 bits, since a module has at
 // most 67,108,864 bytes. So does the index of a bad record, for stores and counts of any size: the offset of a good record is a word
@@ -11,8 +11,8 @@ ghost use Rattle.std.specs.Prelude.{◌≡◌, ◌<◌, length};
 ghost use Rattle.spec.specs.Base.{if◌then◌else◌};
 ghost use Rattle.spec.specs.Builtin.{builtin};
 ghost use Rattle.spec.specs.Load.{lent, Small};
-ghost use Rattle.spec.specs.Write.{write_parse, write_module, standing as standingOf};
-ghost use Rattle.spec.specs.Disassembly.{disassemble as disassembleOf};
+ghost use Rattle.spec.specs.Write.{write_parse, write_module, standing as standing_of};
+ghost use Rattle.spec.specs.Disassembly.{disassemble as disassemble_of};
 ghost use Rattle.spec.specs.Books.{new_book, old_book};
 ghost use Rattle.records.specs.Steps.{given};
 ghost use Rattle.kollafrin.specs.Answers.{version, load_answer, LoadAnswers, write_answer, WriteAnswers, StandAnswers, turn_answer, TurnAnswers, join_answer, JoinAnswers, laid_in};
@@ -116,16 +116,14 @@ fn put_where_fits(bytes: &[u8], out: &mut [u8]) -> usize
 }
 
 // The version, for a caller to compare with that of the header it was compiled with.
-#[unsafe(no_mangle)]
-pub extern "C" fn kollafrin_version() -> u32
+pub fn kollafrin_version() -> u32
     ensures { result ≡ version }
 {
     VERSION
 }
 
 // The length of the built-in grammar; its bytes go to the start of `out` where they fit, else `out` stays.
-#[unsafe(no_mangle)]
-pub extern "C" fn kollafrin_builtin(out: &mut [u8]) -> usize
+pub fn kollafrin_builtin(out: &mut [u8]) -> usize
     ensures value { result ≡ length builtin }
     ensures out_after { out.new ≡ laid_in out.old builtin }
 {
@@ -134,8 +132,7 @@ pub extern "C" fn kollafrin_builtin(out: &mut [u8]) -> usize
 }
 
 // Loads a module by the bytes of a grammar: the number, and the whole answer in `answer`.
-#[unsafe(no_mangle)]
-pub extern "C" fn kollafrin_load(
+pub fn kollafrin_load(
     module: &[u8],
     grammar: &[u8],
     instructions: &mut [u32],
@@ -154,8 +151,7 @@ pub extern "C" fn kollafrin_load(
 }
 
 // Loads a module by the built-in grammar.
-#[unsafe(no_mangle)]
-pub extern "C" fn kollafrin_load_builtin(
+pub fn kollafrin_load_builtin(
     module: &[u8],
     instructions: &mut [u32],
     log: &mut [u8],
@@ -173,8 +169,7 @@ pub extern "C" fn kollafrin_load_builtin(
 }
 
 // Writes the header words and the instructions as read: the number, and the whole answer in `answer`.
-#[unsafe(no_mangle)]
-pub extern "C" fn kollafrin_write_parse_order(
+pub fn kollafrin_write_parse_order(
     header: &[u32; 5],
     instructions: &[u32],
     log: &[u8],
@@ -205,8 +200,7 @@ pub extern "C" fn kollafrin_write_parse_order(
 }
 
 // Writes in module order.
-#[unsafe(no_mangle)]
-pub extern "C" fn kollafrin_write_module_order(
+pub fn kollafrin_write_module_order(
     header: &[u32; 5],
     instructions: &[u32],
     log: &[u8],
@@ -237,8 +231,7 @@ pub extern "C" fn kollafrin_write_module_order(
 }
 
 // Writes the records of a module as text, for people.
-#[unsafe(no_mangle)]
-pub extern "C" fn kollafrin_disassemble(
+pub fn kollafrin_disassemble(
     header: &[u32; 5],
     instructions: &[u32],
     log: &[u8],
@@ -250,7 +243,7 @@ pub extern "C" fn kollafrin_disassemble(
     answer: &mut [u32; 4],
 ) -> u32
     ensures { WriteAnswers
-        (disassembleOf header.now (given instructions.now log.now strings.now
+        (disassemble_of header.now (given instructions.now log.now strings.now
         instruction_count log_count string_count) out.old)
         out.new answer.new result }
 {
@@ -269,8 +262,7 @@ pub extern "C" fn kollafrin_disassemble(
 }
 
 // Whether the records of a module are standing: the number, and the whole answer in `answer`.
-#[unsafe(no_mangle)]
-pub extern "C" fn kollafrin_standing(
+pub fn kollafrin_standing(
     instructions: &[u32],
     log: &[u8],
     strings: &[u8],
@@ -280,7 +272,7 @@ pub extern "C" fn kollafrin_standing(
     answer: &mut [u32; 4],
 ) -> u32
     ensures { StandAnswers
-        (standingOf (given instructions.now log.now strings.now
+        (standing_of (given instructions.now log.now strings.now
         instruction_count log_count string_count))
         answer.new result }
 {
@@ -296,8 +288,7 @@ pub extern "C" fn kollafrin_standing(
 }
 
 // Turns last season's records, of eight words, into records of ten, written to `out`: the number, and the whole answer in `answer`.
-#[unsafe(no_mangle)]
-pub extern "C" fn kollafrin_new_book(
+pub fn kollafrin_new_book(
     records: &[u32],
     log: &[u8],
     strings: &[u8],
@@ -325,8 +316,7 @@ pub extern "C" fn kollafrin_new_book(
 }
 
 // Turns records of ten words into last season's.
-#[unsafe(no_mangle)]
-pub extern "C" fn kollafrin_old_book(
+pub fn kollafrin_old_book(
     records: &[u32],
     log: &[u8],
     strings: &[u8],
@@ -354,13 +344,7 @@ pub extern "C" fn kollafrin_old_book(
 }
 
 // Joins two grammars into one, written to `out`: the number, and the whole answer in `answer`.
-#[unsafe(no_mangle)]
-pub extern "C" fn kollafrin_join(
-    first: &[u8],
-    second: &[u8],
-    out: &mut [u8],
-    answer: &mut [u32; 4],
-) -> u32
+pub fn kollafrin_join(first: &[u8], second: &[u8], out: &mut [u8], answer: &mut [u32; 4]) -> u32
     ensures { JoinAnswers first.now second.now out.old out.new answer.new result }
 {
     let x = join::join(first, second, out);

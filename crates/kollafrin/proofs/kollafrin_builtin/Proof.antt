@@ -12,4 +12,4 @@ kollafrin_builtin_spec =
     (λ c. search rules)
     (λ c κs. search rules)
     (λ c. search rules)
-    (λ c. let at-put-where-fits = c.before.before in let at_table = at-put-where-fits.before.before.before in table_put _ at-put-where-fits.put-where-fits.ensures at_table.table.ensures))
+    (λ c. let at-put-where-fits = c.before.before in let at_table = at-put-where-fits.before.before.before in table_put _ at-put-where-fits.put_where_fits.ensures at_table.table-table.ensures))

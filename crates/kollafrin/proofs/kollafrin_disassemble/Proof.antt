@@ -11,7 +11,7 @@ kollafrin_disassemble_spec =
     (tie.spec
     (λ c κs. search rules)
     (λ c κs.
-    rw c.before.before.before.disassemble.ensures.said (text_index _ _ _ (λ i.
-    (c.before.before.before.before.before.before.before.before.before.shared-slice-known.given i).fits)))
+    rw c.before.before.before.disassemble-x.ensures.said (text_index _ _ _ (λ i.
+    (c.before.before.before.before.before.before.before.before.before.shared_slice_known-1.given i).fits)))
     (λ c. search rules)
-    (λ c. let at-disassemble = c.before.before.before.before in written_said c.say-written.ensures at-disassemble.disassemble.ensures))
+    (λ c. let at-disassemble = c.before.before.before.before in written_said c.say_written.ensures at-disassemble.disassemble-x.ensures))

@@ -9,8 +9,8 @@ kollafrin_join_spec =
     tie.close
     (tie.spec
     (λ c κs. search rules)
-    (λ c κs. joined_small _ _ _ c.before.before.before.join.ensures.0)
+    (λ c κs. joined_small _ _ _ c.before.before.before.join-x.ensures.0)
     (λ c. search rules)
     (λ c.
     let at_join = c.before.before.before.before in
-    joined_said c.say-joined.ensures at_join.join.ensures.0 at_join.join.ensures.1))
+    joined_said c.say_joined.ensures at_join.join-x.ensures.0 at_join.join-x.ensures.1))

@@ -10,11 +10,11 @@ kollafrin_load_builtin_spec =
     (tie.spec
     (λ c κs. search rules)
     (λ c κs.
-    loaded_small c.before.before.before.before.before.before.before.before.before.load_builtin.ensures)
+    loaded_small c.before.before.before.before.before.before.before.before.before.load_builtin-x.ensures)
     (λ c. search rules)
     (λ c. search rules)
     (λ c. search rules)
     (λ c. search rules)
     (λ c.
-    loaded_said c.say-loaded.ensures
-    c.before.before.before.before.before.before.before.before.before.before.load_builtin.ensures))
+    loaded_said c.say_loaded.ensures
+    c.before.before.before.before.before.before.before.before.before.before.load_builtin-x.ensures))

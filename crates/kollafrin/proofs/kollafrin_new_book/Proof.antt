@@ -13,7 +13,7 @@ kollafrin_new_book_spec =
     (λ c κs.
     let at-new-book = c.before.before.before in
     let at_records = at-new-book.before.before.before.before.before in
-    let small = new_small _ _ (λ i. (at_records.shared-slice-known.given i).fits) in
-    rw at-new-book.new_book_lem.ensures.said (small.index, small.records))
+    let small = new_small _ _ (λ i. (at_records.shared_slice_known-1.given i).fits) in
+    rw at-new-book.new_book-x.ensures.said (small.index, small.records))
     (λ c. search rules)
-    (λ c. let at-new-book = c.before.before.before.before in turned_said c.say-turned.ensures at-new-book.new_book_lem.ensures))
+    (λ c. let at-new-book = c.before.before.before.before in turned_said c.say_turned.ensures at-new-book.new_book-x.ensures))

@@ -10,5 +10,5 @@ kollafrin_standing_spec =
     (tie.spec
     (λ c κs. search rules)
     (λ c κs.
-    rw c.before.standing.ensures (standing_index _ (λ i. (c.before.before.before.before.shared-slice-known.given i).fits)))
-    (λ c. let at-standing = c.before.before in rw (← at-standing.standing.ensures) c.say-standing.ensures))
+    rw c.before.standing-x.ensures (standing_index _ (λ i. (c.before.before.before.before.shared_slice_known-1.given i).fits)))
+    (λ c. let at-standing = c.before.before in rw (← at-standing.standing-x.ensures) c.say_standing.ensures))

@@ -11,7 +11,7 @@ kollafrin_write_module_order_spec =
     (tie.spec
     (λ c κs. search rules)
     (λ c κs.
-    rw c.before.before.before.write_module_order.ensures.said (module_index _ _ _ (λ i.
-    (c.before.before.before.before.before.before.before.before.before.shared-slice-known.given i).fits)))
+    rw c.before.before.before.write_module_order-x.ensures.said (module_index _ _ _ (λ i.
+    (c.before.before.before.before.before.before.before.before.before.shared_slice_known-1.given i).fits)))
     (λ c. search rules)
-    (λ c. let at-write-module-order = c.before.before.before.before in written_said c.say-written.ensures at-write-module-order.write_module_order.ensures))
+    (λ c. let at-write-module-order = c.before.before.before.before in written_said c.say_written.ensures at-write-module-order.write_module_order-x.ensures))

@@ -11,7 +11,7 @@ kollafrin_write_parse_order_spec =
     (tie.spec
     (λ c κs. search rules)
     (λ c κs.
-    rw c.before.before.before.write_parse_order.ensures.said (parse_index _ _ _ (λ i.
-    (c.before.before.before.before.before.before.before.before.before.shared-slice-known.given i).fits)))
+    rw c.before.before.before.write_parse_order-x.ensures.said (parse_index _ _ _ (λ i.
+    (c.before.before.before.before.before.before.before.before.before.shared_slice_known-1.given i).fits)))
     (λ c. search rules)
-    (λ c. let at-write-parse-order = c.before.before.before.before in written_said c.say-written.ensures at-write-parse-order.write_parse_order.ensures))
+    (λ c. let at-write-parse-order = c.before.before.before.before in written_said c.say_written.ensures at-write-parse-order.write_parse_order-x.ensures))

@@ -11,5 +11,5 @@ put_where_fits_spec =
     (tie.spec
     (λ c κs. search rules)
     (λ c. search rules)
-    (λ c. let at-put-bytes = c.before.before in let at-if1 = at-put-bytes.before.before in let at-start = at-if1.before.before.before in (refl, fits_in at-start.args.bytes.now at-start.args.out.now _ at-if1.if1.true at-put-bytes.put_bytes.ensures))
-    (λ c. (refl, full_in _ _ c.if1.false)))
+    (λ c. let at-put-bytes = c.before.before in let at-if1 = at-put-bytes.before.before in let at-start = at-if1.before.before.before in (refl, fits_in at-start.args.bytes.now at-start.args.out.now _ at-if1.if-bytes-out.true at-put-bytes.put_bytes.ensures))
+    (λ c. (refl, full_in _ _ c.if-bytes-out.false)))

@@ -23,4 +23,4 @@ say_loaded_spec =
     (λ c. search rules)
     (λ c. search rules)
     (λ c. search rules)
-    (λ c. let at-yes-or-no = c.before.before.before.before.before.before.before.before in (refl, rw at-yes-or-no.yes_or_no.ensures)))
+    (λ c. let at-yes-or-no = c.before.before.before.before.before.before.before.before in (refl, rw at-yes-or-no.yes_or_no-plain.ensures)))

@@ -12,4 +12,4 @@ say_standing_spec =
     (tie.spec
     (λ c κs. search rules)
     (λ c. search rules)
-    (λ c. let at-yes-or-no = c.before.before in record { number = refl; words = rw at-yes-or-no.yes_or_no.ensures }))
+    (λ c. let at-yes-or-no = c.before.before in record { number = refl; words = rw at-yes-or-no.yes_or_no-yes.ensures }))

@@ -15,6 +15,6 @@ accepted_line_spec =
     (tie.spec
     (λ c. search rules)
     (λ c κs. omega arith)
-    (λ c κs. let at-put-text = c.before.before.before in omega (arith, bytes_reach at-put-text.put-text.ensures))
-    (λ c. let at-number = c.before.before in let at-put-text = at-number.before.before.before.before in at-number.number.auto.0 ∙ at-put-text.put-text.auto.0)
+    (λ c κs. let at-put-text = c.before.before.before in omega (arith, bytes_reach at-put-text.before.before.before.put_text-a.ensures))
+    (λ c. let at-number = c.before.before in let at-put-text = at-number.before.before.before.before in at-number.number.auto.out ∙ at-put-text.put_text-a.auto.out)
     (λ c. let at-number = c.before.before in let at-put-text = at-number.before.before.before.before in wrote_then at-put-text.put-text.ensures at-number.number.ensures))

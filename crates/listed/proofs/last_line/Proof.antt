@@ -9,8 +9,8 @@ last_line_spec =
     tie.close
     (tie.spec
     (λ c κs. omega arith)
-    (λ c. let at-accepted-line = c.before.before in at-accepted-line.accepted-line.auto.0)
-    (λ c. let at-accepted-line = c.before.before in let at-if1 = at-accepted-line.before.before in last_accepted _ at-if1.if1.true at-accepted-line.accepted-line.ensures)
+    (λ c. let at-accepted-line = c.before.before in at-accepted-line.accepted_line.auto.out)
+    (λ c. let at-accepted-line = c.before.before in let at-if1 = at-accepted-line.before.before in last_accepted _ at-if1.if-l-eq-ACCEPTED.true at-accepted-line.accepted_line.ensures)
     (λ c κs. omega arith)
-    (λ c. let at-refused-line = c.before.before in at-refused-line.refused-line.auto.0)
-    (λ c. let at-refused-line = c.before.before in let at-if1 = at-refused-line.before.before in last_refused _ at-if1.if1.false at-refused-line.refused-line.ensures))
+    (λ c. let at-refused-line = c.before.before in at-refused-line.refused_line.auto.out)
+    (λ c. let at-refused-line = c.before.before in let at-if1 = at-refused-line.before.before in last_refused _ at-if1.if-l-eq-ACCEPTED.false at-refused-line.refused_line.ensures))

@@ -11,9 +11,9 @@ module_line_spec =
     tie.close
     (tie.spec
     (λ c κs. search rules)
-    (λ c. module_none _ _ _ (sym c.before.all-zero.ensures ∙ c.if1.true))
+    (λ c. module_none _ _ _ (sym c.before.all_zero.ensures ∙ c.if-all_zero.true))
     (λ c. search rules)
     (λ c. search rules)
     (λ c κs. omega arith)
-    (λ c. let at-version-line = c.before.before in at-version-line.version-line.auto.0)
-    (λ c. let at-version-line = c.before.before in let at-if1 = at-version-line.before.before in let at-all-zero = at-if1.before in module_some _ (sym at-all-zero.all-zero.ensures ∙ at-if1.if1.false) at-version-line.version-line.ensures))
+    (λ c. let at-version-line = c.before.before in at-version-line.version_line.auto.out)
+    (λ c. let at-version-line = c.before.before in let at-if1 = at-version-line.before.before in let at-all-zero = at-if1.before in module_some _ (sym at-all-zero.all_zero.ensures ∙ at-if1.if-all_zero.false) at-version-line.version_line.ensures))

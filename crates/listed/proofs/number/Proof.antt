@@ -12,6 +12,6 @@ number_spec =
     tie.close
     (tie.spec
     (λ c κs. omega arith)
-    (λ c κs. let at-decimal = c.before.before.before in omega (arith, decimal_reach _ at-decimal.decimal.ensures))
-    (λ c. let at-put = c.before.before in let at-decimal = at-put.before.before.before.before in at-put.put.auto.0 ∙ at-decimal.decimal.auto.0)
-    (λ c. let at-put = c.before.before in let at-decimal = at-put.before.before.before.before in wrote_then at-decimal.decimal.ensures at-put.put.ensures))
+    (λ c κs. let at-decimal = c.before.before.before in omega (arith, decimal_reach _ at-decimal.decimal-end.ensures))
+    (λ c. let at-put = c.before.before in let at-decimal = at-put.before.before.before.before in at-put.put.auto.out ∙ at-decimal.decimal-end.auto.out)
+    (λ c. let at-put = c.before.before in let at-decimal = at-put.before.before.before.before in wrote_then at-decimal.decimal-end.ensures at-put.put.ensures))
