@@ -83,7 +83,17 @@ pub extern "C" fn kollafrin_write_parse_order(
         instruction_count log_count string_count) out.old)
         out.new answer.new result }
 {
-    kollafrin::kollafrin_write_parse_order(header, instructions, log, strings, instruction_count, log_count, string_count, out, answer)
+    kollafrin::kollafrin_write_parse_order(
+        header,
+        instructions,
+        log,
+        strings,
+        instruction_count,
+        log_count,
+        string_count,
+        out,
+        answer,
+    )
 }
 
 // Writes in module order.
@@ -104,7 +114,17 @@ pub extern "C" fn kollafrin_write_module_order(
         instruction_count log_count string_count) out.old)
         out.new answer.new result }
 {
-    kollafrin::kollafrin_write_module_order(header, instructions, log, strings, instruction_count, log_count, string_count, out, answer)
+    kollafrin::kollafrin_write_module_order(
+        header,
+        instructions,
+        log,
+        strings,
+        instruction_count,
+        log_count,
+        string_count,
+        out,
+        answer,
+    )
 }
 
 // Writes the records of a module as text, for people.
@@ -125,7 +145,17 @@ pub extern "C" fn kollafrin_disassemble(
         instruction_count log_count string_count) out.old)
         out.new answer.new result }
 {
-    kollafrin::kollafrin_disassemble(header, instructions, log, strings, instruction_count, log_count, string_count, out, answer)
+    kollafrin::kollafrin_disassemble(
+        header,
+        instructions,
+        log,
+        strings,
+        instruction_count,
+        log_count,
+        string_count,
+        out,
+        answer,
+    )
 }
 
 // Whether the records of a module are standing: the number, and the whole answer in `answer`.
@@ -144,7 +174,15 @@ pub extern "C" fn kollafrin_standing(
         instruction_count log_count string_count))
         answer.new result }
 {
-    kollafrin::kollafrin_standing(instructions, log, strings, instruction_count, log_count, string_count, answer)
+    kollafrin::kollafrin_standing(
+        instructions,
+        log,
+        strings,
+        instruction_count,
+        log_count,
+        string_count,
+        answer,
+    )
 }
 
 // Turns last season's records, of eight words, into records of ten, written to `out`: the number, and the whole answer in `answer`.
@@ -164,7 +202,16 @@ pub extern "C" fn kollafrin_new_book(
         instruction_count log_count string_count) out.old)
         out.new answer.new result }
 {
-    kollafrin::kollafrin_new_book(records, log, strings, instruction_count, log_count, string_count, out, answer)
+    kollafrin::kollafrin_new_book(
+        records,
+        log,
+        strings,
+        instruction_count,
+        log_count,
+        string_count,
+        out,
+        answer,
+    )
 }
 
 // Turns records of ten words into last season's.
@@ -184,7 +231,16 @@ pub extern "C" fn kollafrin_old_book(
         instruction_count log_count string_count) out.old)
         out.new answer.new result }
 {
-    kollafrin::kollafrin_old_book(records, log, strings, instruction_count, log_count, string_count, out, answer)
+    kollafrin::kollafrin_old_book(
+        records,
+        log,
+        strings,
+        instruction_count,
+        log_count,
+        string_count,
+        out,
+        answer,
+    )
 }
 
 // Joins two grammars into one, written to `out`: the number, and the whole answer in `answer`.
