@@ -4,4 +4,4 @@ use Rattle.listed.proofs.Sentences.{zero_all}
 use Rattle.listed.proofs.all_zero.Goals as goal
 
 pub returns : goal.returns
-returns c = zero_all c.args.t1 (search rules)
+returns c = zero_all c.args.h (search rules)
