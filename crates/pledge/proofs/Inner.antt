@@ -166,8 +166,8 @@ pub place : Determined place-call.Kinds.ps place-call.Kinds.r place-call.Reads.A
 place = λ κs a x y after other ask p q. (both p q, refl)
 
 -- the item at a place of a grammar
-pub item_at_lem : Determined item-at-call.Kinds.ps item-at-call.Kinds.r item-at-call.Reads.Asked item-at-call.Reads.Learnt
-item_at_lem = λ κs a x y after other ask p q. (both p q, refl)
+pub item_at : Determined item-at-call.Kinds.ps item-at-call.Kinds.r item-at-call.Reads.Asked item-at-call.Reads.Learnt
+item_at = λ κs a x y after other ask p q. (both p q, refl)
 
 -- its length
 pub item_length : Determined item-length-call.Kinds.ps item-length-call.Kinds.r item-length-call.Reads.Asked item-length-call.Reads.Learnt
@@ -190,20 +190,20 @@ pub are_apart : Determined are-apart-call.Kinds.ps are-apart-call.Kinds.r are-ap
 are_apart = λ κs a x y after other ask p q. (both p q, refl)
 
 -- the tests on operand kinds
-pub is_mask_lem : Determined is-mask-call.Kinds.ps is-mask-call.Kinds.r is-mask-call.Reads.Asked is-mask-call.Reads.Learnt
-is_mask_lem = λ κs a x y after other ask p q. (both p q, refl)
+pub is_mask : Determined is-mask-call.Kinds.ps is-mask-call.Kinds.r is-mask-call.Reads.Asked is-mask-call.Reads.Learnt
+is_mask = λ κs a x y after other ask p q. (both p q, refl)
 
-pub is_enum_lem : Determined is-enum-call.Kinds.ps is-enum-call.Kinds.r is-enum-call.Reads.Asked is-enum-call.Reads.Learnt
-is_enum_lem = λ κs a x y after other ask p q. (both p q, refl)
+pub is_enum : Determined is-enum-call.Kinds.ps is-enum-call.Kinds.r is-enum-call.Reads.Asked is-enum-call.Reads.Learnt
+is_enum = λ κs a x y after other ask p q. (both p q, refl)
 
-pub is_result_lem : Determined is-result-call.Kinds.ps is-result-call.Kinds.r is-result-call.Reads.Asked is-result-call.Reads.Learnt
-is_result_lem = λ κs a x y after other ask p q. (both p q, refl)
+pub is_result : Determined is-result-call.Kinds.ps is-result-call.Kinds.r is-result-call.Reads.Asked is-result-call.Reads.Learnt
+is_result = λ κs a x y after other ask p q. (both p q, refl)
 
-pub may_be_operand_lem : Determined may-be-operand-call.Kinds.ps may-be-operand-call.Kinds.r may-be-operand-call.Reads.Asked may-be-operand-call.Reads.Learnt
-may_be_operand_lem = λ κs a x y after other ask p q. (both p q, refl)
+pub may_be_operand : Determined may-be-operand-call.Kinds.ps may-be-operand-call.Kinds.r may-be-operand-call.Reads.Asked may-be-operand-call.Reads.Learnt
+may_be_operand = λ κs a x y after other ask p q. (both p q, refl)
 
-pub may_be_parameter_lem : Determined may-be-parameter-call.Kinds.ps may-be-parameter-call.Kinds.r may-be-parameter-call.Reads.Asked may-be-parameter-call.Reads.Learnt
-may_be_parameter_lem = λ κs a x y after other ask p q. (both p q, refl)
+pub may_be_parameter : Determined may-be-parameter-call.Kinds.ps may-be-parameter-call.Kinds.r may-be-parameter-call.Reads.Asked may-be-parameter-call.Reads.Learnt
+may_be_parameter = λ κs a x y after other ask p q. (both p q, refl)
 
 -- the order of rows and enumerants
 pub rises_to : Determined rises-to-call.Kinds.ps rises-to-call.Kinds.r rises-to-call.Reads.Asked rises-to-call.Reads.Learnt
@@ -214,11 +214,11 @@ pub mark_of : Determined mark-of-call.Kinds.ps mark-of-call.Kinds.r mark-of-call
 mark_of = λ κs a x y after other ask p q. (both p q, refl)
 
 -- the rules of a well-formed grammar
-pub enumerant_rule_lem : Determined enumerant-rule-call.Kinds.ps enumerant-rule-call.Kinds.r enumerant-rule-call.Reads.Asked enumerant-rule-call.Reads.Learnt
-enumerant_rule_lem = λ κs a x y after other ask p q. (both p q, refl)
+pub enumerant_rule : Determined enumerant-rule-call.Kinds.ps enumerant-rule-call.Kinds.r enumerant-rule-call.Reads.Asked enumerant-rule-call.Reads.Learnt
+enumerant_rule = λ κs a x y after other ask p q. (both p q, refl)
 
-pub parameter_rule_lem : Determined parameter-rule-call.Kinds.ps parameter-rule-call.Kinds.r parameter-rule-call.Reads.Asked parameter-rule-call.Reads.Learnt
-parameter_rule_lem = λ κs a x y after other ask p q. (both p q, refl)
+pub parameter_rule : Determined parameter-rule-call.Kinds.ps parameter-rule-call.Kinds.r parameter-rule-call.Reads.Asked parameter-rule-call.Reads.Learnt
+parameter_rule = λ κs a x y after other ask p q. (both p q, refl)
 
 pub may_follow : Determined may-follow-call.Kinds.ps may-follow-call.Kinds.r may-follow-call.Reads.Asked may-follow-call.Reads.Learnt
 may_follow = λ κs a x y after other ask p q. (both p q, refl)
@@ -251,24 +251,24 @@ pub unused : Determined unused-call.Kinds.ps unused-call.Kinds.r unused-call.Rea
 unused = λ κs a x y after other ask p q. (both p q, refl)
 
 -- the first of two offsets that break
-pub first_break_lem : Determined first-break-call.Kinds.ps first-break-call.Kinds.r first-break-call.Reads.Asked first-break-call.Reads.Learnt
-first_break_lem = λ κs a x y after other ask p q. (both p q, refl)
+pub first_break : Determined first-break-call.Kinds.ps first-break-call.Kinds.r first-break-call.Reads.Asked first-break-call.Reads.Learnt
+first_break = λ κs a x y after other ask p q. (both p q, refl)
 
 -- a refusal without a value
 pub refused : Determined refused-call.Kinds.ps refused-call.Kinds.r refused-call.Reads.Asked refused-call.Reads.Learnt
 refused = λ κs a x y after other ask p q. (both p q, refl)
 
 -- a result more
-pub with_result_lem : Determined with-result-call.Kinds.ps with-result-call.Kinds.r with-result-call.Reads.Asked with-result-call.Reads.Learnt
-with_result_lem = λ κs a x y after other ask p q. (both p q, refl)
+pub with_result : Determined with-result-call.Kinds.ps with-result-call.Kinds.r with-result-call.Reads.Asked with-result-call.Reads.Learnt
+with_result = λ κs a x y after other ask p q. (both p q, refl)
 
 -- the id that a word is
 pub id_of : Determined id-of-call.Kinds.ps id-of-call.Kinds.r id-of-call.Reads.Asked id-of-call.Reads.Learnt
 id_of = λ κs a x y after other ask p q. (same_id x y (both p q), refl)
 
 -- the kind of a literal for an operand
-pub literal_for_lem : Determined literal-for-call.Kinds.ps literal-for-call.Kinds.r literal-for-call.Reads.Asked literal-for-call.Reads.Learnt
-literal_for_lem = λ κs a x y after other ask p q. (same_kind x y (both p.0 q.0), refl)
+pub literal_for : Determined literal-for-call.Kinds.ps literal-for-call.Kinds.r literal-for-call.Reads.Asked literal-for-call.Reads.Learnt
+literal_for = λ κs a x y after other ask p q. (same_kind x y (both p.0 q.0), refl)
 
 -- the place of the operand that comes next
 pub next_place : Determined next-place-call.Kinds.ps next-place-call.Kinds.r next-place-call.Reads.Asked next-place-call.Reads.Learnt
@@ -278,8 +278,8 @@ next_place = λ κs a x y after other ask p q. (both p q, refl)
 pub fields_at : Determined fields-at-call.Kinds.ps fields-at-call.Kinds.r fields-at-call.Reads.Asked fields-at-call.Reads.Learnt
 fields_at = λ κs a x y after other ask p q. (both p q, refl)
 
-pub numbers_at_lem : Determined numbers-at-call.Kinds.ps numbers-at-call.Kinds.r numbers-at-call.Reads.Asked numbers-at-call.Reads.Learnt
-numbers_at_lem = λ κs a x y after other ask p q. (both p q, refl)
+pub numbers_at : Determined numbers-at-call.Kinds.ps numbers-at-call.Kinds.r numbers-at-call.Reads.Asked numbers-at-call.Reads.Learnt
+numbers_at = λ κs a x y after other ask p q. (both p q, refl)
 
 pub record_at : Determined record-at-call.Kinds.ps record-at-call.Kinds.r record-at-call.Reads.Asked record-at-call.Reads.Learnt
 record_at = λ κs a x y after other ask p q. (both p q, refl)
@@ -304,15 +304,15 @@ pub count : Determined count-call.Kinds.ps count-call.Kinds.r count-call.Reads.A
 count = λ κs a x y after other ask p q. (both p q, refl)
 
 -- the room in stores, and the first store that lacks it
-pub room_in_lem : Determined room-in-call.Kinds.ps room-in-call.Kinds.r room-in-call.Reads.Asked room-in-call.Reads.Learnt
-room_in_lem = λ κs a x y after other ask p q. (both p q, refl)
+pub room_in : Determined room-in-call.Kinds.ps room-in-call.Kinds.r room-in-call.Reads.Asked room-in-call.Reads.Learnt
+room_in = λ κs a x y after other ask p q. (both p q, refl)
 
-pub room_fault_lem : Determined room-fault-call.Kinds.ps room-fault-call.Kinds.r room-fault-call.Reads.Asked room-fault-call.Reads.Learnt
-room_fault_lem = λ κs a x y after other ask p q. (both p q, refl)
+pub room_fault : Determined room-fault-call.Kinds.ps room-fault-call.Kinds.r room-fault-call.Reads.Asked room-fault-call.Reads.Learnt
+room_fault = λ κs a x y after other ask p q. (both p q, refl)
 
 -- the number at the end, the answer of a load that comes to no instruction, and of one that stopped
-pub end_number_lem : Determined end-number-call.Kinds.ps end-number-call.Kinds.r end-number-call.Reads.Asked end-number-call.Reads.Learnt
-end_number_lem = λ κs a x y after other ask p q. (both p q, refl)
+pub end_number : Determined end-number-call.Kinds.ps end-number-call.Kinds.r end-number-call.Reads.Asked end-number-call.Reads.Learnt
+end_number = λ κs a x y after other ask p q. (both p q, refl)
 
 pub no_instruction : Determined no-instruction-call.Kinds.ps no-instruction-call.Kinds.r no-instruction-call.Reads.Asked no-instruction-call.Reads.Learnt
 no_instruction = λ κs a x y after other ask p q. (both p q, refl)
@@ -335,12 +335,12 @@ pub put_word : Determined put-word-call.Kinds.ps put-word-call.Kinds.r put-word-
 put_word = λ κs a x y after other ask p q. (refl, and (both p q) refl)
 
 -- whether a kind takes two words
-pub is_two_lem : Determined is-two-call.Kinds.ps is-two-call.Kinds.r is-two-call.Reads.Asked is-two-call.Reads.Learnt
-is_two_lem = λ κs a x y after other ask p q. (both p q, refl)
+pub is_two : Determined is-two-call.Kinds.ps is-two-call.Kinds.r is-two-call.Reads.Asked is-two-call.Reads.Learnt
+is_two = λ κs a x y after other ask p q. (both p q, refl)
 
 -- the length of an operand in the log
-pub record_length_lem : Determined record-length-call.Kinds.ps record-length-call.Kinds.r record-length-call.Reads.Asked record-length-call.Reads.Learnt
-record_length_lem = λ κs a x y after other ask p q. (both p q, refl)
+pub record_length : Determined record-length-call.Kinds.ps record-length-call.Kinds.r record-length-call.Reads.Asked record-length-call.Reads.Learnt
+record_length = λ κs a x y after other ask p q. (both p q, refl)
 
 -- an operand kept in the log where it fits
 pub keep_record : Determined keep-record-call.Kinds.ps keep-record-call.Kinds.r keep-record-call.Reads.Asked keep-record-call.Reads.Learnt
@@ -420,19 +420,19 @@ pub put_operands : Determined put-operands-call.Kinds.ps put-operands-call.Kinds
 put_operands = λ κs a x y after other ask p q. (both p.place q.place, and refl (and refl (and refl (and refl (and refl (and refl (and (both p.stored q.stored) refl)))))))
 
 -- the place after an operand
-pub operand_after_lem : Determined after_call.Kinds.ps after_call.Kinds.r after_call.Reads.Asked after_call.Reads.Learnt
-operand_after_lem = λ κs a x y after other ask p q. (both p q, refl)
+pub operand_after : Determined after_call.Kinds.ps after_call.Kinds.r after_call.Reads.Asked after_call.Reads.Learnt
+operand_after = λ κs a x y after other ask p q. (both p q, refl)
 
 -- whether a value's text is that of its bits, and the set that it is named in
-pub has_bits_lem : Determined has-bits-call.Kinds.ps has-bits-call.Kinds.r has-bits-call.Reads.Asked has-bits-call.Reads.Learnt
-has_bits_lem = λ κs a x y after other ask p q. (both p q, refl)
+pub has_bits : Determined has-bits-call.Kinds.ps has-bits-call.Kinds.r has-bits-call.Reads.Asked has-bits-call.Reads.Learnt
+has_bits = λ κs a x y after other ask p q. (both p q, refl)
 
-pub set_of_kind_lem : Determined set-of-kind-call.Kinds.ps set-of-kind-call.Kinds.r set-of-kind-call.Reads.Asked set-of-kind-call.Reads.Learnt
-set_of_kind_lem = λ κs a x y after other ask p q. (both p q, refl)
+pub set_of_kind : Determined set-of-kind-call.Kinds.ps set-of-kind-call.Kinds.r set-of-kind-call.Reads.Asked set-of-kind-call.Reads.Learnt
+set_of_kind = λ κs a x y after other ask p q. (both p q, refl)
 
 -- the set of an id
-pub set_of_lem : Determined set-of-call.Kinds.ps set-of-call.Kinds.r set-of-call.Reads.Asked set-of-call.Reads.Learnt
-set_of_lem = λ κs a x y after other ask p q. (both p q, refl)
+pub set_of : Determined set-of-call.Kinds.ps set-of-call.Kinds.r set-of-call.Reads.Asked set-of-call.Reads.Learnt
+set_of = λ κs a x y after other ask p q. (both p q, refl)
 
 -- an instruction's line
 pub put_line : Determined put-line-call.Kinds.ps put-line-call.Kinds.r put-line-call.Reads.Asked put-line-call.Reads.Learnt

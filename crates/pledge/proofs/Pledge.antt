@@ -41,7 +41,7 @@ use Rattle.builtin.proofs.table as builtin-table-call
 use Rattle.records.proofs.check as check-call
 use Rattle.loader.proofs.load as load-call
 use Rattle.loader.proofs.load_builtin as load-builtin-call
-use Rattle.assemble.proofs.write_parse_order as parse-Call
+use Rattle.assemble.proofs.write_parse_order as parse-call
 use Rattle.assemble.proofs.write_module_order as module-call
 use Rattle.standing.proofs.standing as standing-call
 use Rattle.books.proofs.new_book as new-book-call
@@ -69,8 +69,8 @@ pub zero : Offered zero-call.Kinds.ps zero-call.Kinds.r zero-call.Reads.Asked ze
 zero = record { free = λ κs a. tt; one = λ κs a x y after other p q. (both p q, refl) }
 
 -- whether bytes are ASCII text
-pub is_ascii_text_lem : Offered is-ascii-text-call.Kinds.ps is-ascii-text-call.Kinds.r is-ascii-text-call.Reads.Asked is-ascii-text-call.Reads.Learnt
-is_ascii_text_lem = record { free = λ κs a. tt; one = λ κs a x y after other p q. (both p q, refl) }
+pub is_ascii_text : Offered is-ascii-text-call.Kinds.ps is-ascii-text-call.Kinds.r is-ascii-text-call.Reads.Asked is-ascii-text-call.Reads.Learnt
+is_ascii_text = record { free = λ κs a. tt; one = λ κs a x y after other p q. (both p q, refl) }
 
 -- whether bytes are UTF-8
 pub utf8 : Offered utf8-call.Kinds.ps utf8-call.Kinds.r utf8-call.Reads.Asked utf8-call.Reads.Learnt
@@ -91,22 +91,22 @@ pub offset : Offered offset-call.Kinds.ps offset-call.Kinds.r offset-call.Reads.
 offset = record { free = λ κs a. tt; one = λ κs a x y after other p q. (both p q, refl) }
 
 -- the decoder with a limit
-pub set_limit_lem : Offered set-limit-call.Kinds.ps set-limit-call.Kinds.r set-limit-call.Reads.Asked set-limit-call.Reads.Learnt
-set_limit_lem = record { free = λ κs a. tt; one = λ κs a x y after other p q. (both p q, refl) }
+pub set_limit : Offered set-limit-call.Kinds.ps set-limit-call.Kinds.r set-limit-call.Reads.Asked set-limit-call.Reads.Learnt
+set_limit = record { free = λ κs a. tt; one = λ κs a x y after other p q. (both p q, refl) }
 
 -- the decoder with none
-pub clear_limit_lem :
+pub clear_limit :
     Offered clear-limit-call.Kinds.ps clear-limit-call.Kinds.r clear-limit-call.Reads.Asked clear-limit-call.Reads.Learnt
-clear_limit_lem = record { free = λ κs a. tt; one = λ κs a x y after other p q. (both p q, refl) }
+clear_limit = record { free = λ κs a. tt; one = λ κs a x y after other p q. (both p q, refl) }
 
 -- whether it has a limit
-pub has_limit_lem : Offered has-limit-call.Kinds.ps has-limit-call.Kinds.r has-limit-call.Reads.Asked has-limit-call.Reads.Learnt
-has_limit_lem = record { free = λ κs a. tt; one = λ κs a x y after other p q. (both p q, refl) }
+pub has_limit : Offered has-limit-call.Kinds.ps has-limit-call.Kinds.r has-limit-call.Reads.Asked has-limit-call.Reads.Learnt
+has_limit = record { free = λ κs a. tt; one = λ κs a x y after other p q. (both p q, refl) }
 
 -- whether the limit is spent
-pub limit_reached_lem :
+pub limit_reached :
     Offered limit-reached-call.Kinds.ps limit-reached-call.Kinds.r limit-reached-call.Reads.Asked limit-reached-call.Reads.Learnt
-limit_reached_lem = record { free = λ κs a. tt; one = λ κs a x y after other p q. (both p q, refl) }
+limit_reached = record { free = λ κs a. tt; one = λ κs a x y after other p q. (both p q, refl) }
 
 -- a word, or the refusal, with the decoder after it
 pub word : Offered word-call.Kinds.ps word-call.Kinds.r word-call.Reads.Asked word-call.Reads.Learnt
@@ -123,7 +123,7 @@ string = record { free = λ κs a. tt; one = λ κs a x y after other p q. (both
 -- THE DECODER LENT
 
 -- a word, or the refusal: the answer, and the decoder that was lent
-pub word_in : OfferedLent word-in-call.ended (λ M. word-in-call.clauses)
+pub word_in : OfferedLent word-in-call.ended (λ M 𝓤. word-in-call.clauses)
 word_in =
     record {
       free = λ w κs a g m. tt;
@@ -131,7 +131,7 @@ word_in =
     }
 
 -- a 64-bit literal, or the refusal: the answer, and the decoder that was lent
-pub int64_in : OfferedLent int64-in-call.ended (λ M. int64-in-call.clauses)
+pub int64_in : OfferedLent int64-in-call.ended (λ M 𝓤. int64-in-call.clauses)
 int64_in =
     record {
       free = λ w κs a g m. tt;
@@ -139,7 +139,7 @@ int64_in =
     }
 
 -- a string, or the refusal: the answer, and the decoder that was lent
-pub string_in : OfferedLent string-in-call.ended (λ M. string-in-call.clauses)
+pub string_in : OfferedLent string-in-call.ended (λ M 𝓤. string-in-call.clauses)
 string_in =
     record {
       free = λ w κs a g m. tt;
@@ -164,33 +164,33 @@ word_and_string = record { free = λ κs a. tt; one = λ κs a x y after other p
 -- OPCODES AND OPERANDS
 
 -- the kind of an opcode
-pub opcode_kind_lem :
+pub opcode_kind :
     Offered opcode-kind-call.Kinds.ps opcode-kind-call.Kinds.r opcode-kind-call.Reads.Asked opcode-kind-call.Reads.Learnt
-opcode_kind_lem = record { free = λ κs a. tt; one = λ κs a x y after other p q. (both p q, refl) }
+opcode_kind = record { free = λ κs a. tt; one = λ κs a x y after other p q. (both p q, refl) }
 
 -- whether an opcode declares a type
-pub is_type_lem : Offered is-type-call.Kinds.ps is-type-call.Kinds.r is-type-call.Reads.Asked is-type-call.Reads.Learnt
-is_type_lem = record { free = λ κs a. tt; one = λ κs a x y after other p q. (both p q, refl) }
+pub is_type : Offered is-type-call.Kinds.ps is-type-call.Kinds.r is-type-call.Reads.Asked is-type-call.Reads.Learnt
+is_type = record { free = λ κs a. tt; one = λ κs a x y after other p q. (both p q, refl) }
 
 -- the layout table
-pub layout_table_lem :
+pub layout_table :
     Offered layout-table-call.Kinds.ps layout-table-call.Kinds.r layout-table-call.Reads.Asked layout-table-call.Reads.Learnt
-layout_table_lem = record { free = λ κs a. tt; one = λ κs a x y after other p q. (both p q, refl) }
+layout_table = record { free = λ κs a. tt; one = λ κs a x y after other p q. (both p q, refl) }
 
 -- the kinds of the opcodes below 256
-pub kind_table_lem : Offered kind-table-call.Kinds.ps kind-table-call.Kinds.r kind-table-call.Reads.Asked kind-table-call.Reads.Learnt
-kind_table_lem = record { free = λ κs a. tt; one = λ κs a x y after other p q. (both p q, refl) }
+pub kind_table : Offered kind-table-call.Kinds.ps kind-table-call.Kinds.r kind-table-call.Reads.Asked kind-table-call.Reads.Learnt
+kind_table = record { free = λ κs a. tt; one = λ κs a x y after other p q. (both p q, refl) }
 
 -- an operand's kind and value
-pub parts_of_lem : Offered parts-of-call.Kinds.ps parts-of-call.Kinds.r parts-of-call.Reads.Asked parts-of-call.Reads.Learnt
-parts_of_lem = record { free = λ κs a. tt; one = λ κs a x y after other p q. (both p q, refl) }
+pub parts_of : Offered parts-of-call.Kinds.ps parts-of-call.Kinds.r parts-of-call.Reads.Asked parts-of-call.Reads.Learnt
+parts_of = record { free = λ κs a. tt; one = λ κs a x y after other p q. (both p q, refl) }
 
 -- GRAMMARS
 
 -- whether bytes are a well-formed grammar
-pub well_formed_lem :
+pub well_formed :
     Offered well-formed-call.Kinds.ps well-formed-call.Kinds.r well-formed-call.Reads.Asked well-formed-call.Reads.Learnt
-well_formed_lem = record { free = λ κs a. tt; one = λ κs a x y after other p q. (both p q, refl) }
+well_formed = record { free = λ κs a. tt; one = λ κs a x y after other p q. (both p q, refl) }
 
 -- an enumerant of a kind, or the refusal, with the decoder after it
 pub enumerant : Offered enumerant-call.Kinds.ps enumerant-call.Kinds.r enumerant-call.Reads.Asked enumerant-call.Reads.Learnt
@@ -233,7 +233,7 @@ load_builtin =
     }
 
 -- a write in the order read: the answer and the output after it
-pub write_parse_order : Offered parse-Call.Kinds.ps parse-Call.Kinds.r parse-Call.Reads.Asked parse-Call.Reads.Learnt
+pub write_parse_order : Offered parse-call.Kinds.ps parse-call.Kinds.r parse-call.Reads.Asked parse-call.Reads.Learnt
 write_parse_order =
     record {
       free = λ κs a. tt;
@@ -273,8 +273,8 @@ pub standing : Offered standing-call.Kinds.ps standing-call.Kinds.r standing-cal
 standing = record { free = λ κs a. tt; one = λ κs a x y after other p q. (both p q, refl) }
 
 -- an old book turned into a new one: the answer and the output after it
-pub new_book_lem : Offered new-book-call.Kinds.ps new-book-call.Kinds.r new-book-call.Reads.Asked new-book-call.Reads.Learnt
-new_book_lem =
+pub new_book : Offered new-book-call.Kinds.ps new-book-call.Kinds.r new-book-call.Reads.Asked new-book-call.Reads.Learnt
+new_book =
     record {
       free = λ κs a. tt;
       one = λ κs a x y after other p q.
@@ -282,8 +282,8 @@ new_book_lem =
     }
 
 -- a new book turned into an old one
-pub old_book_lem : Offered old-book-call.Kinds.ps old-book-call.Kinds.r old-book-call.Reads.Asked old-book-call.Reads.Learnt
-old_book_lem =
+pub old_book : Offered old-book-call.Kinds.ps old-book-call.Kinds.r old-book-call.Reads.Asked old-book-call.Reads.Learnt
+old_book =
     record {
       free = λ κs a. tt;
       one = λ κs a x y after other p q.
