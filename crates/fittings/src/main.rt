@@ -3,13 +3,13 @@
 // counts. Where the two loads differ, the line says so.
 #![tactic(auto)]
 
-ghost use Rattle.std.specs.Prelude.{◌+◌, ◌≤◌, length};
+ghost use Rattle.std.specs.Prelude.{◌+◌, ◌≤◌, length, IfOk};
 ghost use Rattle.spec.specs.Load.{lent, room_in, Covers};
 ghost use Rattle.spec.specs.Fittings.{fittings, room_for};
 ghost use Rattle.fittings.specs.Told.{Told, Shows};
 
-use libc::{STDIN_FILENO, STDOUT_FILENO};
 use spec::{Counts, Loaded};
+use std::io;
 
 // How many words a type entry has.
 const ENTRY: usize = 3;
@@ -116,89 +116,101 @@ fn same_bytes(a: &[u8], b: &[u8]) -> bool {
 // A LINE
 
 // Writes some text.
-fn say(text: &[u8]) {
-    io::write_all(STDOUT_FILENO, text);
+fn say(rt: &impl Print, text: &str) -> io::Result<()> {
+    print!(rt; "{text}")
 }
 
 // Writes a number after a space.
-fn number(n: u64) {
-    say(b" ");
-    io::print_decimal(STDOUT_FILENO, n);
+fn number(rt: &impl Print, n: u64) -> io::Result<()> {
+    print!(rt; " {n}")
 }
 
 // Writes a word after a space.
-fn word(w: u32) {
-    number(w as u64);
+fn word(rt: &impl Print, w: u32) -> io::Result<()> {
+    number(rt, w as u64)?;
+    Ok(())
 }
 
 // Writes a byte after a space.
-fn byte(b: u8) {
-    number(b as u64);
+fn byte(rt: &impl Print, b: u8) -> io::Result<()> {
+    number(rt, b as u64)?;
+    Ok(())
 }
 
 // Writes the words of the first n records of a store, of so many words each.
-fn words(s: &[u32], size: usize, n: usize)
+fn words(rt: &impl Print, s: &[u32], size: usize, n: usize) -> io::Result<()>
     requires { 1 ≤ size }
 {
-    say(b" |");
+    say(rt, " |")?;
     let mut i = 0;
     while i < s.len() {
         if n <= i / size {
-            return;
+            return Ok(());
         }
-        word(s[i]);
+        word(rt, s[i])?;
         i += 1;
     }
+    Ok(())
 }
 
 // Writes the first n bytes of a store.
-fn bytes(s: &[u8], n: usize) {
-    say(b" |");
+fn bytes(rt: &impl Print, s: &[u8], n: usize) -> io::Result<()> {
+    say(rt, " |")?;
     let mut i = 0;
     while i < s.len() {
         if n <= i {
-            return;
+            return Ok(());
         }
-        byte(s[i]);
+        byte(rt, s[i])?;
         i += 1;
     }
+    Ok(())
 }
 
 // Writes an answer: number, offset, index, value; header words; counts; 1 for plain, and what breaks it.
-fn answer(x: Loaded) {
+fn answer(rt: &impl Print, x: Loaded) -> io::Result<()> {
     let h = x.header;
     let c = x.counts;
-    word(x.number);
-    number(x.offset as u64);
-    number(x.index as u64);
-    word(x.value);
-    say(b" |");
-    word(h[0]);
-    word(h[1]);
-    word(h[2]);
-    word(h[3]);
-    word(h[4]);
-    say(b" |");
-    number(c.instructions as u64);
-    number(c.log as u64);
-    number(c.strings as u64);
-    number(c.types as u64);
-    say(b" |");
+    word(rt, x.number)?;
+    number(rt, x.offset as u64)?;
+    number(rt, x.index as u64)?;
+    word(rt, x.value)?;
+    say(rt, " |")?;
+    word(rt, h[0])?;
+    word(rt, h[1])?;
+    word(rt, h[2])?;
+    word(rt, h[3])?;
+    word(rt, h[4])?;
+    say(rt, " |")?;
+    number(rt, c.instructions as u64)?;
+    number(rt, c.log as u64)?;
+    number(rt, c.strings as u64)?;
+    number(rt, c.types as u64)?;
+    say(rt, " |")?;
     if x.plain {
-        number(1);
+        number(rt, 1)?;
     } else {
-        number(0);
+        number(rt, 0)?;
     }
-    number(x.breaks as u64);
+    number(rt, x.breaks as u64)?;
+    Ok(())
 }
 
 // Writes an answer, and the stores up to its counts.
-fn show(x: Loaded, instructions: &[u32], log: &[u8], strings: &[u8], types: &[u32]) {
-    answer(x);
-    words(instructions, records::RECORD, x.counts.instructions);
-    bytes(log, x.counts.log);
-    bytes(strings, x.counts.strings);
-    words(types, ENTRY, x.counts.types);
+fn show(
+    rt: &impl Print,
+    x: Loaded,
+    instructions: &[u32],
+    log: &[u8],
+    strings: &[u8],
+    types: &[u32],
+) -> io::Result<()> {
+    answer(rt, x)?;
+    words(rt, instructions, records::RECORD, x.counts.instructions)?;
+    bytes(rt, log, x.counts.log)?;
+    bytes(rt, strings, x.counts.strings)?;
+    words(rt, types, ENTRY, x.counts.types)?;
+    Ok(())
 }
 
 // Whether the prepared load of a module gives the same answer, and the same stores from empty ones.
@@ -231,7 +243,7 @@ fn agrees(
 }
 
 // Loads a module of at most 255 bytes in both ways, and writes its line.
-fn line(index: usize, module: &[u8])
+fn line(rt: &impl Print, index: usize, module: &[u8]) -> io::Result<()>
     requires { length «module».now ≤ 255 }
 {
     let mut instructions = [0u32; records::RECORD * WORDS];
@@ -245,13 +257,13 @@ fn line(index: usize, module: &[u8])
         &mut strings,
         &mut types,
     );
-    io::print_decimal(STDOUT_FILENO, index as u64);
-    say(b":");
-    show(x, &instructions, &log, &strings, &types);
+    print!(rt; "{index}:")?;
+    show(rt, x, &instructions, &log, &strings, &types)?;
     if !agrees(module, x, &instructions, &log, &strings, &types) {
-        say(b" differ");
+        say(rt, " differ")?;
     }
-    say(b"\n");
+    say(rt, "\n")?;
+    Ok(())
 }
 
 // A byte as a length.
@@ -262,28 +274,29 @@ fn wide(b: u8) -> usize
 }
 
 // Loads the module that starts at a place, and answers where it ends; a module that is cut short is left out.
-fn next(text: &[u8], at: usize, index: usize) -> usize
+fn next(rt: &impl Print, text: &[u8], at: usize, index: usize) -> io::Result<usize>
     requires { at + 1 ≤ length text.now }
-    ensures { (at + 1 ≤ result) × (result ≤ length text.now) }
+    ensures { IfOk result (λ end. (at + 1 ≤ end) × (end ≤ length text.now)) }
 {
     let start = at + 1;
     let size = wide(text[at]);
     if text.len() - start < size {
-        return text.len();
+        return Ok(text.len());
     }
     let end = start + size;
-    line(index, &text[start..end]);
-    end
+    line(rt, index, &text[start..end])?;
+    Ok(end)
 }
 
 // The modules of standard input.
-fn main() {
+fn main(rt: HostRuntime) -> io::Result<()> {
     let mut text = [0u8; 4096];
-    let n = io::read_full(STDIN_FILENO, &mut text);
+    let n = reading::read_full(&mut rt.reader(), &mut text)?;
     let mut at = 0;
     let mut index = 1;
     while at < n {
-        at = next(&text[..n], at, index);
+        at = next(&rt, &text[..n], at, index)?;
         index += 1;
     }
+    Ok(())
 }

@@ -3,17 +3,18 @@
 // colon, and the grammar's bytes, each as a space and three decimal digits. The two grammars of the rule on the length are made here.
 #![tactic(auto)]
 
-ghost use Rattle.std.specs.Prelude.{◌≡◌, ◌+◌, ◌*◌, ◌≤◌, length};
+ghost use Rattle.std.specs.Prelude.{◌≡◌, ◌+◌, ◌*◌, ◌≤◌, length, IfOk};
 
-use libc::{STDIN_FILENO, STDOUT_FILENO};
+use std::io;
+use std::io::Write;
 
 // Writes a case in words and what the check says of its grammar.
-fn case(words: &[u8], g: &[u8]) {
-    io::write_all(STDOUT_FILENO, words);
+fn case(rt: &impl Print, words: &[u8], g: &[u8]) -> io::Result<()> {
+    io::writer(rt).write_all(words)?;
     if formed::well_formed(g) {
-        io::write_all(STDOUT_FILENO, b": yes\n");
+        println!(rt; ": yes")
     } else {
-        io::write_all(STDOUT_FILENO, b": no\n");
+        println!(rt; ": no")
     }
 }
 
@@ -47,12 +48,13 @@ fn put_tail(g: &mut [u8], at: usize)
 }
 
 // "at most 65,535 bytes": rows alone; then fewer rows, an enumerant and two parameters.
-fn lengths() {
+fn lengths(rt: &impl Print) -> io::Result<()> {
     let mut g = [0u8; 65536];
     fill_rows(&mut g, 21845);
-    case(b"65,535 bytes", &g[..65535]);
+    case(rt, b"65,535 bytes", &g[..65535])?;
     put_tail(&mut g, 65526);
-    case(b"65,536 bytes", &g[..65536]);
+    case(rt, b"65,536 bytes", &g[..65536])?;
+    Ok(())
 }
 
 // The byte in three decimal digits.
@@ -94,25 +96,26 @@ fn find(text: &[u8], from: usize, b: u8) -> usize
 }
 
 // Tries the case of the line that starts at a place: where that line ends.
-fn line(text: &[u8], at: usize) -> usize
+fn line(rt: &impl Print, text: &[u8], at: usize) -> io::Result<usize>
     requires { at ≤ length text.now }
-    ensures { (at ≤ result) × (result ≤ length text.now) }
+    ensures { IfOk result (λ end. (at ≤ end) × (end ≤ length text.now)) }
 {
     let colon = find(text, at, b':');
     let end = find(text, colon, b'\n');
     let mut g = [0u8; 64];
     let n = bytes_in(&text[colon..end], &mut g);
-    case(&text[at..colon], &g[..n]);
-    end
+    case(rt, &text[at..colon], &g[..n])?;
+    Ok(end)
 }
 
 // The cases on the length, then those of standard input.
-fn main() {
-    lengths();
+fn main(rt: HostRuntime) -> io::Result<()> {
+    lengths(&rt)?;
     let mut text = [0u8; 16384];
-    let n = io::read_full(STDIN_FILENO, &mut text);
+    let n = reading::read_full(&mut rt.reader(), &mut text)?;
     let mut at = 0;
     while at < n {
-        at = line(&text[..n], at) + 1;
+        at = line(&rt, &text[..n], at)? + 1;
     }
+    Ok(())
 }

@@ -1,12 +1,13 @@
 // Lists the module on standard input, of which it reads 4,097 bytes at most: more than 4,096 are too long.
 #![tactic(auto)]
 
-use libc::{STDIN_FILENO, STDOUT_FILENO};
+use std::io;
+use std::io::Write;
 
-fn main() {
+fn main(rt: HostRuntime) -> io::Result<()> {
     let mut module = [0u8; 4097];
-    let n = io::read_full(STDIN_FILENO, &mut module);
+    let n = reading::read_full(&mut rt.reader(), &mut module)?;
     let mut text = [0u8; listed::ROOM];
     let size = listed::listing(&module[..n], &mut text);
-    io::write_all(STDOUT_FILENO, &text[..size]);
+    io::writer(&rt).write_all(&text[..size])
 }

@@ -2,16 +2,16 @@
 // text, and compares all with the answers kept there. Writes a line for each module that differs, then how many there were of both.
 #![tactic(auto)]
 
-ghost use Rattle.std.specs.Prelude.{◌+◌, ◌≤◌, length};
+ghost use Rattle.std.specs.Prelude.{◌+◌, ◌≤◌, length, IfOk};
 ghost use Rattle.replay.specs.Entries.{Follows};
-
-use libc::STDOUT_FILENO;
 
 mod answer;
 mod parts;
 mod stores;
 
 use parts::{HEAD, ends_of, head_at, wide};
+use std::fs::File;
+use std::io;
 use words::word_at;
 
 // What an entry comes to: the sample ends before it does, or where it ends and how many modules differ, which is 1 or 0.
@@ -22,58 +22,51 @@ enum Turn {
 }
 
 // Writes that a module differs: its number in the sample, the first being 1.
-fn say_differs(i: usize) {
-    io::write_all(STDOUT_FILENO, b"module ");
-    io::print_decimal(STDOUT_FILENO, i as u64);
-    io::write_all(STDOUT_FILENO, b" differs\n");
+fn say_differs(rt: &impl Print, i: usize) -> io::Result<()> {
+    println!(rt; "module {i} differs")
 }
 
 // Writes how many modules were replayed and how many differ.
-fn say_all(modules: usize, differences: usize) {
-    io::write_all(STDOUT_FILENO, b"replayed ");
-    io::print_decimal(STDOUT_FILENO, modules as u64);
-    io::write_all(STDOUT_FILENO, b" modules, ");
-    io::print_decimal(STDOUT_FILENO, differences as u64);
-    io::write_all(STDOUT_FILENO, b" differences\n");
+fn say_all(rt: &impl Print, modules: usize, differences: usize) -> io::Result<()> {
+    println!(rt; "replayed {modules} modules, {differences} differences")
 }
 
 // Writes that the sample ends before its last entry does.
-fn say_cut() {
-    io::write_all(STDOUT_FILENO, b"the sample is cut short\n");
+fn say_cut(rt: &impl Print) -> io::Result<()> {
+    println!(rt; "the sample is cut short")
 }
 
 // Writes that the sample goes on after its last entry.
-fn say_long() {
-    io::write_all(STDOUT_FILENO, b"the sample goes on after its last module\n");
+fn say_long(rt: &impl Print) -> io::Result<()> {
+    println!(rt; "the sample goes on after its last module")
 }
 
 // Replays the entry at a place, the i-th of the sample.
-fn entry(s: &[u8], at: usize, i: usize) -> Turn
+fn entry(rt: &impl Print, s: &[u8], at: usize, i: usize) -> io::Result<Turn>
     requires { at ≤ length s.now }
-    ensures { Follows (length s.now) result }
+    ensures { IfOk result (λ turn. Follows (length s.now) turn) }
 {
     if s.len() - at < HEAD {
-        return Turn::Cut;
+        return Ok(Turn::Cut);
     }
     let from = at + HEAD;
     let head = head_at(s, at);
     let ends = ends_of(head);
     let size = ends.text;
     if s.len() - from < size {
-        return Turn::Cut;
+        return Ok(Turn::Cut);
     }
     if answer::same(head, ends, &s[from..]) {
-        return Turn::Next(from + size, 0);
+        return Ok(Turn::Next(from + size, 0));
     }
-    say_differs(i);
-    Turn::Next(from + size, 1)
+    say_differs(rt, i)?;
+    Ok(Turn::Next(from + size, 1))
 }
 
 // Replays the entries of a sample.
-fn replay(s: &[u8]) {
+fn replay(rt: &impl Print, s: &[u8]) -> io::Result<()> {
     if s.len() < 4 {
-        say_cut();
-        return;
+        return say_cut(rt);
     }
     let count = wide(word_at(s, 0));
     let mut at = 4;
@@ -81,24 +74,23 @@ fn replay(s: &[u8]) {
     let mut differences = 0;
     while i < count {
         i = i + 1;
-        let turn = entry(s, at, i);
+        let turn = entry(rt, s, at, i)?;
         let Turn::Next(end, more) = turn else {
-            say_cut();
-            return;
+            return say_cut(rt);
         };
         at = end;
         differences = differences + more;
     }
     if at < s.len() {
-        say_long();
+        say_long(rt)?;
     }
-    say_all(count, differences);
+    say_all(rt, count, differences)
 }
 
 // The sample is the file `sample.bin`, of which 196,608 bytes are read at most.
-fn main() {
-    let file = os::open_read(b"sample.bin");
+fn main(rt: HostRuntime) -> io::Result<()> {
+    let mut file = File::open(&rt, "sample.bin")?;
     let mut sample = [0u8; 196608];
-    let n = io::read_full(file, &mut sample);
-    replay(&sample[..n]);
+    let n = reading::read_full(&mut file, &mut sample)?;
+    replay(&rt, &sample[..n])
 }

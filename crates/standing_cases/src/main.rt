@@ -2,12 +2,12 @@
 // the header. The modules are their bytes, the header's twenty in the first line of each.
 #![tactic(auto)]
 
-use libc::STDOUT_FILENO;
 use spec::{Loaded, refusals};
+use std::io;
 
 // Writes some text.
-fn say(text: &[u8]) {
-    io::write_all(STDOUT_FILENO, text);
+fn say(rt: &impl Print, text: &str) -> io::Result<()> {
+    print!(rt; "{text}")
 }
 
 // Whether two outputs are the same after the header's twenty bytes.
@@ -23,18 +23,31 @@ fn same_after(a: &[u8; 256], b: &[u8; 256]) -> bool {
 }
 
 // Writes whether the records of a load stand.
-fn stands(x: Loaded, instructions: &[u32], log: &[u8], strings: &[u8]) {
+fn stands(
+    rt: &impl Print,
+    x: Loaded,
+    instructions: &[u32],
+    log: &[u8],
+    strings: &[u8],
+) -> io::Result<()> {
     let c = x.counts;
     let s = standing::standing(instructions, log, strings, c.instructions, c.log, c.strings);
     if s.yes {
-        say(b" stands,");
+        say(rt, " stands,")?;
     } else {
-        say(b" does not stand,");
+        say(rt, " does not stand,")?;
     }
+    Ok(())
 }
 
 // Writes the records of a load in both orders, and whether the outputs are the same after the header.
-fn orders(x: Loaded, instructions: &[u32], log: &[u8], strings: &[u8]) {
+fn orders(
+    rt: &impl Print,
+    x: Loaded,
+    instructions: &[u32],
+    log: &[u8],
+    strings: &[u8],
+) -> io::Result<()> {
     let c = x.counts;
     let h = x.header;
     let mut read = [0u8; 256];
@@ -60,18 +73,19 @@ fn orders(x: Loaded, instructions: &[u32], log: &[u8], strings: &[u8]) {
         &mut sorted,
     );
     if (a.number != refusals::ACCEPTED) | (b.number != refusals::ACCEPTED) {
-        say(b" not written\n");
-        return;
+        say(rt, " not written\n")?;
+        return Ok(());
     }
     if (a.bytes == b.bytes) & same_after(&read, &sorted) {
-        say(b" both orders agree\n");
+        say(rt, " both orders agree\n")?;
     } else {
-        say(b" the orders differ\n");
+        say(rt, " the orders differ\n")?;
     }
+    Ok(())
 }
 
 // Loads a module, and writes its line.
-fn case(name: &[u8], module: &[u8]) {
+fn case(rt: &impl Print, name: &str, module: &[u8]) -> io::Result<()> {
     let mut instructions = [0u32; 256];
     let mut log = [0u8; 256];
     let mut strings = [0u8; 256];
@@ -83,29 +97,32 @@ fn case(name: &[u8], module: &[u8]) {
         &mut strings,
         &mut types,
     );
-    say(name);
-    say(b":");
+    say(rt, name)?;
+    say(rt, ":")?;
     if x.number != refusals::ACCEPTED {
-        say(b" refused\n");
-        return;
+        say(rt, " refused\n")?;
+        return Ok(());
     }
-    stands(x, &instructions, &log, &strings);
-    orders(x, &instructions, &log, &strings);
+    stands(rt, x, &instructions, &log, &strings)?;
+    orders(rt, x, &instructions, &log, &strings)?;
+    Ok(())
 }
 
 // Those that stand.
-fn standing() {
+fn standing(rt: &impl Print) -> io::Result<()> {
     // MemoryModel 0 1.
     case(
-        b"fitting 6",
+        rt,
+        "fitting 6",
         b"\
 \x03\x02\x23\x07\x00\x00\x01\x00\x00\x00\x00\x00\x00\x00\x00\x00\x00\x00\x00\x00\
 \x0e\x00\x03\x00\x00\x00\x00\x00\x01\x00\x00\x00",
-    );
+    )?;
     // Capability 1, MemoryModel 0 1, TypeVoid 1, TypeFunction 2 1 1, Function 1 3 0 2, FunctionParameter 1 4, Label 5, Return,
     // FunctionEnd.
     case(
-        b"a function",
+        rt,
+        "a function",
         b"\
 \x03\x02\x23\x07\x00\x00\x01\x00\x00\x00\x00\x00\x10\x00\x00\x00\x00\x00\x00\x00\
 \x11\x00\x02\x00\x01\x00\x00\x00\x0e\x00\x03\x00\x00\x00\x00\x00\x01\x00\x00\x00\
@@ -113,15 +130,17 @@ fn standing() {
 \x01\x00\x00\x00\x36\x00\x05\x00\x01\x00\x00\x00\x03\x00\x00\x00\x00\x00\x00\x00\
 \x02\x00\x00\x00\x37\x00\x03\x00\x01\x00\x00\x00\x04\x00\x00\x00\xf8\x00\x02\x00\
 \x05\x00\x00\x00\xfd\x00\x01\x00\x38\x00\x01\x00",
-    );
+    )?;
+    Ok(())
 }
 
 // Those that stand and have functions without a body.
-fn early_declarations() {
+fn early_declarations(rt: &impl Print) -> io::Result<()> {
     // MemoryModel 0 1, TypeVoid 1, TypeFunction 2 1 1, Function 1 3 0 2, FunctionEnd, Function 1 4 0 2, FunctionParameter 1 5,
     // FunctionEnd.
     case(
-        b"declarations only",
+        rt,
+        "declarations only",
         b"\
 \x03\x02\x23\x07\x00\x00\x01\x00\x00\x00\x00\x00\x10\x00\x00\x00\x00\x00\x00\x00\
 \x0e\x00\x03\x00\x00\x00\x00\x00\x01\x00\x00\x00\x13\x00\x02\x00\x01\x00\x00\x00\
@@ -129,11 +148,12 @@ fn early_declarations() {
 \x01\x00\x00\x00\x03\x00\x00\x00\x00\x00\x00\x00\x02\x00\x00\x00\x38\x00\x01\x00\
 \x36\x00\x05\x00\x01\x00\x00\x00\x04\x00\x00\x00\x00\x00\x00\x00\x02\x00\x00\x00\
 \x37\x00\x03\x00\x01\x00\x00\x00\x05\x00\x00\x00\x38\x00\x01\x00",
-    );
+    )?;
     // MemoryModel 0 1, TypeVoid 1, TypeFunction 2 1 1, Function 1 3 0 2, FunctionParameter 1 4, FunctionEnd, Function 1 5 0 2,
     // Label 6, Return, FunctionEnd.
     case(
-        b"a declaration, then a definition",
+        rt,
+        "a declaration, then a definition",
         b"\
 \x03\x02\x23\x07\x00\x00\x01\x00\x00\x00\x00\x00\x10\x00\x00\x00\x00\x00\x00\x00\
 \x0e\x00\x03\x00\x00\x00\x00\x00\x01\x00\x00\x00\x13\x00\x02\x00\x01\x00\x00\x00\
@@ -142,21 +162,24 @@ fn early_declarations() {
 \x01\x00\x00\x00\x04\x00\x00\x00\x38\x00\x01\x00\x36\x00\x05\x00\x01\x00\x00\x00\
 \x05\x00\x00\x00\x00\x00\x00\x00\x02\x00\x00\x00\xf8\x00\x02\x00\x06\x00\x00\x00\
 \xfd\x00\x01\x00\x38\x00\x01\x00",
-    );
+    )?;
+    Ok(())
 }
 
 // Those whose sections or parameters are out of order.
-fn out_of_order() {
+fn out_of_order(rt: &impl Print) -> io::Result<()> {
     // MemoryModel 0 1, Capability 1.
     case(
-        b"a falling tag",
+        rt,
+        "a falling tag",
         b"\
 \x03\x02\x23\x07\x00\x00\x01\x00\x00\x00\x00\x00\x10\x00\x00\x00\x00\x00\x00\x00\
 \x0e\x00\x03\x00\x00\x00\x00\x00\x01\x00\x00\x00\x11\x00\x02\x00\x01\x00\x00\x00",
-    );
+    )?;
     // MemoryModel 0 1, TypeVoid 1, TypeFunction 2 1 1, Function 1 3 0 2, Line 6 7 8, Label 5, Return, FunctionEnd.
     case(
-        b"a late Line",
+        rt,
+        "a late Line",
         b"\
 \x03\x02\x23\x07\x00\x00\x01\x00\x00\x00\x00\x00\x10\x00\x00\x00\x00\x00\x00\x00\
 \x0e\x00\x03\x00\x00\x00\x00\x00\x01\x00\x00\x00\x13\x00\x02\x00\x01\x00\x00\x00\
@@ -164,10 +187,11 @@ fn out_of_order() {
 \x01\x00\x00\x00\x03\x00\x00\x00\x00\x00\x00\x00\x02\x00\x00\x00\x08\x00\x04\x00\
 \x06\x00\x00\x00\x07\x00\x00\x00\x08\x00\x00\x00\xf8\x00\x02\x00\x05\x00\x00\x00\
 \xfd\x00\x01\x00\x38\x00\x01\x00",
-    );
+    )?;
     // MemoryModel 0 1, TypeVoid 1, TypeFunction 2 1 1, Function 1 3 0 2, Label 5, FunctionParameter 1 4, Return, FunctionEnd.
     case(
-        b"a parameter after a label",
+        rt,
+        "a parameter after a label",
         b"\
 \x03\x02\x23\x07\x00\x00\x01\x00\x00\x00\x00\x00\x10\x00\x00\x00\x00\x00\x00\x00\
 \x0e\x00\x03\x00\x00\x00\x00\x00\x01\x00\x00\x00\x13\x00\x02\x00\x01\x00\x00\x00\
@@ -175,40 +199,46 @@ fn out_of_order() {
 \x01\x00\x00\x00\x03\x00\x00\x00\x00\x00\x00\x00\x02\x00\x00\x00\xf8\x00\x02\x00\
 \x05\x00\x00\x00\x37\x00\x03\x00\x01\x00\x00\x00\x04\x00\x00\x00\xfd\x00\x01\x00\
 \x38\x00\x01\x00",
-    );
+    )?;
+    Ok(())
 }
 
 // Those that have not one MemoryModel.
-fn not_one_model() {
+fn not_one_model(rt: &impl Print) -> io::Result<()> {
     // No instruction.
     case(
-        b"a header alone",
+        rt,
+        "a header alone",
         b"\
 \x03\x02\x23\x07\x00\x00\x01\x00\x00\x00\x00\x00\x10\x00\x00\x00\x00\x00\x00\x00",
-    );
+    )?;
     // Capability 1.
     case(
-        b"no MemoryModel",
+        rt,
+        "no MemoryModel",
         b"\
 \x03\x02\x23\x07\x00\x00\x01\x00\x00\x00\x00\x00\x10\x00\x00\x00\x00\x00\x00\x00\
 \x11\x00\x02\x00\x01\x00\x00\x00",
-    );
+    )?;
     // MemoryModel 0 1, twice.
     case(
-        b"two MemoryModels",
+        rt,
+        "two MemoryModels",
         b"\
 \x03\x02\x23\x07\x00\x00\x01\x00\x00\x00\x00\x00\x10\x00\x00\x00\x00\x00\x00\x00\
 \x0e\x00\x03\x00\x00\x00\x00\x00\x01\x00\x00\x00\x0e\x00\x03\x00\x00\x00\x00\x00\
 \x01\x00\x00\x00",
-    );
+    )?;
+    Ok(())
 }
 
 // Those that have a function without a body after one with a body.
-fn late_declaration() {
+fn late_declaration(rt: &impl Print) -> io::Result<()> {
     // MemoryModel 0 1, TypeVoid 1, TypeFunction 2 1 1, Function 1 3 0 2, Label 4, Return, FunctionEnd, Function 1 5 0 2,
     // FunctionEnd.
     case(
-        b"a declaration after a definition",
+        rt,
+        "a declaration after a definition",
         b"\
 \x03\x02\x23\x07\x00\x00\x01\x00\x00\x00\x00\x00\x10\x00\x00\x00\x00\x00\x00\x00\
 \x0e\x00\x03\x00\x00\x00\x00\x00\x01\x00\x00\x00\x13\x00\x02\x00\x01\x00\x00\x00\
@@ -216,11 +246,12 @@ fn late_declaration() {
 \x01\x00\x00\x00\x03\x00\x00\x00\x00\x00\x00\x00\x02\x00\x00\x00\xf8\x00\x02\x00\
 \x04\x00\x00\x00\xfd\x00\x01\x00\x38\x00\x01\x00\x36\x00\x05\x00\x01\x00\x00\x00\
 \x05\x00\x00\x00\x00\x00\x00\x00\x02\x00\x00\x00\x38\x00\x01\x00",
-    );
+    )?;
     // MemoryModel 0 1, TypeVoid 1, TypeFunction 2 1 1, Function 1 3 0 2, Label 4, Return, FunctionEnd, Function 1 5 0 2,
     // FunctionParameter 1 6, FunctionEnd, Function 1 7 0 2, Label 8, Return, FunctionEnd.
     case(
-        b"a declaration between two definitions",
+        rt,
+        "a declaration between two definitions",
         b"\
 \x03\x02\x23\x07\x00\x00\x01\x00\x00\x00\x00\x00\x10\x00\x00\x00\x00\x00\x00\x00\
 \x0e\x00\x03\x00\x00\x00\x00\x00\x01\x00\x00\x00\x13\x00\x02\x00\x01\x00\x00\x00\
@@ -231,13 +262,14 @@ fn late_declaration() {
 \x06\x00\x00\x00\x38\x00\x01\x00\x36\x00\x05\x00\x01\x00\x00\x00\x07\x00\x00\x00\
 \x00\x00\x00\x00\x02\x00\x00\x00\xf8\x00\x02\x00\x08\x00\x00\x00\xfd\x00\x01\x00\
 \x38\x00\x01\x00",
-    );
+    )?;
+    Ok(())
 }
 
-fn main() {
-    standing();
-    early_declarations();
-    out_of_order();
-    not_one_model();
-    late_declaration();
+fn main(rt: HostRuntime) -> io::Result<()> {
+    standing(&rt)?;
+    early_declarations(&rt)?;
+    out_of_order(&rt)?;
+    not_one_model(&rt)?;
+    late_declaration(&rt)
 }

@@ -15,4 +15,4 @@ by_bytes_spec =
     (λ c. search rules)
     (λ c. search rules)
     (λ c. search rules)
-    (λ c. let at_load = c.before.before.before.before.before.before.before.before in let at_table = at_load.before.before.before.before.before.before in let at-start = at_table.before.before.before.before.before.before in told _ _ at-start.requires at_table.table.ensures at_load.load.ensures))
+    (λ c. let at_load = c.before.before.before.before.before.before.before.before in let at_table = at_load.before.before.before.before.before.before in let at-start = at_table.before.before.before.before.before.before in told _ _ at-start.requires at_table.table-table.ensures at_load.load.ensures))

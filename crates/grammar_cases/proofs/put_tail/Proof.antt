@@ -6,18 +6,18 @@ use borrow.Author.Rules.{rules}
 use Rattle.grammar_cases.proofs.put_tail.Statement.{statement}
 use Rattle.grammar_cases.proofs.put_tail.Tie as tie
 
-abbrev invariant-loop : tie.invariant-loop
-invariant-loop g₀ at tail i₀ g i = (i ≤ 10) × (length g ≡ length g₀) × (length tail ≡ 10)
+abbrev invariant-loop-i : tie.invariant-loop-i
+invariant-loop-i g₀ at tail i₀ g i = (i ≤ 10) × (length g ≡ length g₀) × (length tail ≡ 10)
 
-abbrev decreases-loop : tie.decreases-loop
-decreases-loop g₀ at tail i₀ g i = 10 - i
+abbrev decreases-loop-i : tie.decreases-loop-i
+decreases-loop-i g₀ at tail i₀ g i = 10 - i
 
 pub put_tail_spec : {M : Type 1} → statement M
 put_tail_spec =
     tie.close
     (tie.spec
-    invariant-loop
-    decreases-loop
+    invariant-loop-i
+    decreases-loop-i
     (λ c. search rules)
     (λ c. search rules)
     (λ c. search rules)

@@ -5,18 +5,18 @@ use borrow.Author.Rules.{rules}
 use Rattle.replay.proofs.stores.rest_of_words_is_lent.Statement.{statement}
 use Rattle.replay.proofs.stores.rest_of_words_is_lent.Tie as tie
 
-abbrev invariant-loop : tie.invariant-loop
-invariant-loop store from i₀ i = from ≤ i
+abbrev invariant-loop-i : tie.invariant-loop-i
+invariant-loop-i store from i₀ i = from ≤ i
 
-abbrev decreases-loop : tie.decreases-loop
-decreases-loop store from i₀ i = length store - i
+abbrev decreases-loop-i : tie.decreases-loop-i
+decreases-loop-i store from i₀ i = length store - i
 
 pub rest_of_words_is_lent_spec : {M : Type 1} → statement M
 rest_of_words_is_lent_spec =
     tie.close
     (tie.spec
-    invariant-loop
-    decreases-loop
+    invariant-loop-i
+    decreases-loop-i
     (λ c. search rules)
     (λ c. search rules)
     (λ c. search rules)
