@@ -1,6 +1,6 @@
 /* kollafrin: a SPIR-V module into records in lent stores, and back into bytes.
  *
- * The functions are in libkollafrin.a (`rt staticlib kollafrin`). docs/REFERENCE.md has all that a caller has to know on one page:
+ * The functions are in libkollafrin.a (`tools/archive`). docs/REFERENCE.md has all that a caller has to know on one page:
  * the stores, the kinds of operands, grammars, what is refused and in which order, and what to do about it.
  *
  * Each function is proved against its contract in crates/kollafrin/src/lib.rt: the number that it returns, each word of `answer` and

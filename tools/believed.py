@@ -12,7 +12,7 @@ TOKEN = re.compile(r"[^\s(){}\[\],;.λ⌜⌝⟦⟧«»←]+")
 def imports(text):
     """The names that `use` lines bring in: each with the module it stands for and the name there ('' for the module itself)."""
     names = {}
-    for path, group, alias in re.findall(r"^(?:ghost )?use (Rattle·\S+?)(?:\.\{([^}]*)\})?(?: as (\S+?))?;?$", text, re.M):
+    for path, group, alias in re.findall(r"^(?:ghost )?use (Rattle\.\S+?)(?:\.\{([^}]*)\})?(?: as (\S+?))?;?$", text, re.M):
         if not group:
             names[alias or path.split(".")[-1]] = (path, "")
         for item in filter(None, (i.strip() for i in group.split(","))):
@@ -23,10 +23,10 @@ def imports(text):
 
 def module_file(path):
     """The file of a module of definitions; None for declared types, which stand in the code."""
-    crate, _, rest = path.removeprefix("Rattle·").partition(".")
-    if not rest.startswith("specs.") or rest.startswith("specs.declared."):
+    crate, _, rest = path.removeprefix("Rattle.").partition(".")
+    if crate == "std" or not rest.startswith("specs.") or rest.startswith("specs.declared."):
         return None
-    return ROOT / "crates" / crate.removesuffix("·specs") / "specs" / (rest.removeprefix("specs.").replace(".", "/") + ".antt")
+    return ROOT / "crates" / crate / "specs" / (rest.removeprefix("specs.").replace(".", "/") + ".antt")
 
 
 class File:
@@ -48,10 +48,10 @@ class File:
 
 
 def said(text, names):
-    """Those of some names that a text has: a name with gaps, as if_then_else_, by its parts; `do` has `_>>=_`."""
+    """Those of some names that a text has: a name with gaps, as if◌then◌else◌, by its parts; `do` has `◌>>=◌`."""
     tokens = set(TOKEN.findall(text))
     tokens |= {">>="} if "do" in tokens else set()
-    return [name for name in names if name in tokens or "_" in name and set(filter(None, name.split("_"))) <= tokens]
+    return [name for name in names if name in tokens or "◌" in name and set(filter(None, name.split("◌"))) <= tokens]
 
 
 def offered():
@@ -65,9 +65,9 @@ def contract(crate, name):
     """The clauses of a function, and what its file brings in."""
     for path in sorted((ROOT / "crates" / crate / "src").glob("*.rt")):
         text = path.read_text()
-        found = re.search(r"^ *pub (?:extern \"C\" )?fn " + name + r"\(.*?^ *\{$", text, re.M | re.S)
+        found = re.search(r"^ *pub fn " + name + r"\(.*?^ *\{$", text, re.M | re.S)
         if found:
-            return "".join(re.findall(r"(?:requires|ensures).*?⌝ \}", found[0], re.S)), imports(text)
+            return "".join(re.findall(r"^ *(?:requires|ensures)\b.*", found[0], re.M | re.S)), imports(text)
     raise SystemExit(f"believed: {crate} has no {name}")
 
 

@@ -28,11 +28,11 @@ def bytes_of(word):
 # What the table cites of other files of the definition, and of the library.
 KNOWN = {
     "ascii": (1, lambda text: list(text.encode("ascii"))),
-    "bytesOf": (1, bytes_of),
-    "longBytes": (1, lambda v: list(v.to_bytes(8, "little"))),
+    "bytes_of": (1, bytes_of),
+    "long_bytes": (1, lambda v: list(v.to_bytes(8, "little"))),
     "joined": (2, lambda f, xs: [b for x in xs for b in apply(f, [x])]),
     "take": (2, lambda n, xs: xs[:n]),
-    "noWords": (0, lambda: [0] * 5),
+    "no_words": (0, lambda: [0] * 5),
     "counts": (4, lambda *c: list(c)),
     "lent": (4, lambda *s: dict(zip(("instructions", "log", "strings", "types"), s))),
     "fitting": (2, lambda s, x: (s, x)),

@@ -29,6 +29,7 @@ import pathlib
 import re
 import struct
 import sys
+import textwrap
 
 sys.dont_write_bytecode = True  # the import leaves no file beside the tools
 from make_table import deliver, expect, fail, first_names, read, read_kinds, read_rows, read_values
@@ -51,10 +52,9 @@ HEAD = """\
 -- the extended instructions of GLSL.std.450 (46) and OpenCL.std (47). A mask has a name for each bit, and None for 0; a bit that the grammar
 -- has under two names has both.
 -- Made by tools/make_names.py from the files of the crate rspirv 0.11.0+1.5.4. Not to be changed by hand.
-use Prim.Native.Nat.{ℕ}
+use Rattle.std.specs.Prelude.{ℕ, List, [], ◌∷◌}
 use Prim.Native.String.{String}
-use mathlib.Core.List.{List, [], _∷_}
-use Rattle·spec·specs.specs.Base.{ascii}
+use Rattle.spec.specs.Base.{ascii}
 
 -- a name: its set, its number there, and its text
 pub record Name : Type 0 where
@@ -67,19 +67,19 @@ abbrev pub name : ℕ → ℕ → String → Name
 name s n t = record { set = s; number = n; text = ascii t }
 
 -- the names, rising by set and number
-unfoldable pub nameTable : List Name
-nameTable =
+unfoldable pub name_table : List Name
+name_table =
 """
 
 CODE = """\
 // The names as bytes, a line for each. Made by tools/make_names.py from the files of the crate rspirv 0.11.0+1.5.4. Not to be changed by
 // hand.
-ghost use mathlib.Core.Path.{_≡_};
-ghost use Rattle·lookup.specs.Run.{nameRun};
+ghost use Rattle.std.specs.Prelude.{◌≡◌};
+ghost use Rattle.lookup.specs.Run.{name_run};
 
 // The names as one run of bytes: of each its set, its number, the length of its text, and its text.
 pub fn table() -> [u8; %d]
-    ensures { λ r. ⌜ r ≡ nameRun ⌝ }
+    ensures { result ≡ name_run }
 {
     *b"\\
 %s"
@@ -88,7 +88,7 @@ pub fn table() -> [u8; %d]
 
 INDEX = """\
 // The index of the names, prepared. Made by tools/make_names.py from the files of the crate rspirv 0.11.0+1.5.4. Not to be changed by hand.
-ghost use Rattle·lookup.specs.Run.{nameRun, Indexed};
+ghost use Rattle.lookup.specs.Run.{name_run, Indexed};
 
 const INDEX: [u16; %d] = [
 %s
@@ -96,7 +96,7 @@ const INDEX: [u16; %d] = [
 
 // The index of the names: a shift for each set, then slots with places.
 pub fn prepared() -> [u16; %d]
-    ensures { λ r. ⌜ Indexed nameRun r ⌝ }
+    ensures { Indexed name_run result }
 {
     INDEX
 }
@@ -189,7 +189,9 @@ def make_index(sets, items):
         slots[(shifts[number] + value) % SLOTS] = at
         at += len(key) + len(text)
     made = shifts + slots
-    shown = "\n".join(f"    {number}," for number in made)
+    # as the layout has it: lines of 99 at most
+    numbers = ", ".join(map(str, made)) + ","
+    shown = textwrap.fill(numbers, 99, initial_indent="    ", subsequent_indent="    ")
     return (INDEX % (len(made), shown, len(made))).encode("utf-8")
 
 

@@ -27,6 +27,7 @@ import pathlib
 import re
 import struct
 import sys
+import textwrap
 
 # An item of the grammar: its first byte, and the layout of all its bytes.
 LAYOUT = {
@@ -57,8 +58,8 @@ HEAD = """\
 -- The built-in grammar (SPIR-V 1.5 revision 4), item by item: every row with its operands, then kind by kind
 -- every enumerant with its parameters. Quantifiers: 0 One, 1 ZeroOrOne, 2 ZeroOrMore. The names are the crate's.
 -- Made by tools/make_table.py from the files of the crate rspirv 0.11.0+1.5.4. Not to be changed by hand.
-use mathlib.Core.List.{List, [], _∷_}
-use Rattle·spec·specs.specs.Grammar.{Item, row, operand, enumerant, parameter}
+use Rattle.std.specs.Prelude.{List, [], ◌∷◌}
+use Rattle.spec.specs.Grammar.{Item, row, operand, enumerant, parameter}
 
 -- the built-in grammar's items
 unfoldable pub table : List Item
@@ -69,12 +70,12 @@ table =
 CODE = """\
 // The built-in grammar's bytes. Made by tools/make_table.py from the files of the crate rspirv 0.11.0+1.5.4. Not to be
 // changed by hand.
-ghost use mathlib.Core.Path.{_≡_};
-ghost use Rattle·spec.specs.Builtin.{builtin};
+ghost use Rattle.std.specs.Prelude.{◌≡◌};
+ghost use Rattle.spec.specs.Builtin.{builtin};
 
 // The built-in grammar as one run of bytes.
 pub fn table() -> [u8; %d]
-    ensures { λ r. ⌜ r ≡ builtin ⌝ }
+    ensures { result ≡ builtin }
 {
     *b"\\
 %s"
@@ -84,8 +85,8 @@ pub fn table() -> [u8; %d]
 INDEX = """\
 // The built-in grammar's index, prepared. Made by tools/make_table.py from the files of the crate rspirv 0.11.0+1.5.4. Not to be
 // changed by hand.
-ghost use Rattle·spec.specs.Builtin.{builtin};
-ghost use Rattle·grammar.specs.Index.{Indexed};
+ghost use Rattle.spec.specs.Builtin.{builtin};
+ghost use Rattle.grammar.specs.Index.{Indexed};
 
 const INDEX: [u16; %d] = [
 %s
@@ -93,7 +94,7 @@ const INDEX: [u16; %d] = [
 
 // The index of the built-in grammar: guesses, the count of rows and enumerants, and their places.
 pub fn prepared() -> [u16; %d]
-    ensures { λ r. ⌜ Indexed builtin r ⌝ }
+    ensures { Indexed builtin result }
 {
     INDEX
 }
@@ -227,7 +228,9 @@ def make_index(lines):
             places.append(at)
         at += struct.calcsize(LAYOUT[name][1])
     made = guesses + [len(places)] + places
-    shown = "\n".join(f"    {number}," for number in made)
+    # as the layout has it: lines of 99 at most
+    numbers = ", ".join(map(str, made)) + ","
+    shown = textwrap.fill(numbers, 99, initial_indent="    ", subsequent_indent="    ")
     return (INDEX % (len(made), shown, len(made))).encode("utf-8")
 
 

@@ -14,15 +14,15 @@ function call(type,    word, x) {
     word = type; sub(/ .*/, "", word)
     x = type; sub(/^[^ ]* /, "", x); sub(/\..*/, "", x)
     if (!(x in of) || !(word in brought)) return ""
-    if (word == "OfferedLent") return type == word " " x ".ended (λ M. " x ".clauses)" ? of[x] : ""
+    if (word == "OfferedLent") return type == word " " x ".ended (λ M 𝓤. " x ".clauses)" ? of[x] : ""
     return type == word " " x ".Kinds.ps " x ".Kinds.r " x ".Reads.Asked " x ".Reads.Learnt" ? of[x] : ""
 }
 
 # a `use` line that brings in the module of a call under a name: which call
 function bring(path, name,    crate) {
-    sub(/^Rattle·/, "", path)
+    sub(/^Rattle\./, "", path)
     crate = path; sub(/\..*/, "", crate)
-    sub(/^[^.]*\.proofs\./, "", path); gsub(/\./, "::", path)
+    sub(/^[^.]*\.(proofs|specs\.contracts)\./, "", path); gsub(/\./, "::", path)
     if (name in of) { bad(name " is brought in twice, for " of[name] " and for " crate " " path); twice[of[name]] = 1 }
     of[name] = crate " " path
 }
@@ -36,8 +36,8 @@ function declare(name, i) {
 # reads an item: a line at the left edge with those that go on from it
 function read_item(i, text,    w, k, j) {
     k = split(text, w, /[ (){},;]+/)
-    for (j = 1; j <= k; j++) { bare[w[j]]++; if (w[j] ~ /^Rattle·[^.]*$/) bad("the name of a crate is bound: " cut(text)) }
-    if (text ~ /^use Rattle·[a-z_]+\.proofs\.[A-Za-z0-9_.]+ as [^ ]+$/) bring(w[2], w[4])
+    for (j = 1; j <= k; j++) { bare[w[j]]++; if (w[j] ~ /^Rattle(\.[^.]*)?$/) bad("the name of a crate is bound: " cut(text)) }
+    if (text ~ /^use Rattle\.[a-z_]+\.(proofs|specs\.contracts)\.[A-Za-z0-9_.]+ as [^ ]+$/) bring(w[2], w[4])
     else if (text ~ imports) {
         imported++
         for (j = 3; j <= k; j++) if (w[j] == "as") bad("a name of Offered.antt is changed: " cut(text)); else brought[w[j]] = 1
@@ -59,7 +59,7 @@ function read_statement(i, text,    type, word) {
     else { word = type; sub(/ .*/, "", word); about[i] = call(type); says[i] = word }
 }
 
-BEGIN { imports = "^use Rattle·pledge·proofs\\.proofs\\.Offered\\.\\{[^{}]*\\}$" }
+BEGIN { imports = "^use Rattle\\.pledge\\.proofs\\.Offered\\.\\{[^{}]*\\}$" }
 /^ *--/ || /^ *$/ { next }
 { gsub(/«|»/, "") }
 /--|\{-|"|[\t\r\f\v]/ { bad("a comment, a text or a mark within a line: " cut($0)) }

@@ -24,7 +24,7 @@ fn the_oracle(oracle: &Path) {
     fs::write(out.join("oracle.rs"), full).expect("oracle.rs is written");
 }
 
-/// KOLLAFRIN_LIB, the archive or its folder, else what `rt staticlib kollafrin` writes. Only the driver needs it.
+/// KOLLAFRIN_LIB, the archive or its folder, else what `tools/archive` writes. Only the driver needs it.
 fn the_archive(here: &Path) {
     println!("cargo:rerun-if-env-changed=KOLLAFRIN_LIB");
     let given = env::var_os("KOLLAFRIN_LIB").filter(|given| !given.is_empty()).map(PathBuf::from);

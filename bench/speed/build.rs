@@ -1,4 +1,4 @@
-//! Links the library's archive: KOLLAFRIN_LIB, the archive or its folder, else what `rt staticlib kollafrin` writes.
+//! Links the library's archive: KOLLAFRIN_LIB, the archive or its folder, else what `tools/archive` writes.
 
 use std::env;
 use std::path::PathBuf;

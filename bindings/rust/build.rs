@@ -1,5 +1,5 @@
 //! Finds the archive `libkollafrin.a`: in KOLLAFRIN_LIB, the archive or the folder it lies in, else in target/staticlib of the
-//! repository, where `rt staticlib kollafrin` writes it.
+//! repository, where `tools/archive` writes it.
 
 use std::env;
 use std::path::PathBuf;
@@ -21,7 +21,7 @@ fn main() {
     let archive = folder.join("libkollafrin.a");
     println!("cargo:rerun-if-changed={}", archive.display());
     if !archive.is_file() {
-        println!("cargo:warning=no libkollafrin.a in {}: run `rt staticlib kollafrin`, or set KOLLAFRIN_LIB", folder.display());
+        println!("cargo:warning=no libkollafrin.a in {}: run `tools/archive`, or set KOLLAFRIN_LIB", folder.display());
     }
     println!("cargo:rustc-link-search=native={}", folder.display());
     println!("cargo:rustc-link-lib=static=kollafrin");

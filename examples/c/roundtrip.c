@@ -2,7 +2,7 @@
  *
  * From the repository's root, on x86-64 Linux:
  *
- *     rt staticlib kollafrin
+ *     tools/archive
  *     cc -std=c99 -O2 -Iinclude examples/c/roundtrip.c -Ltarget/staticlib -lkollafrin -o target/roundtrip
  *     target/roundtrip in.spv out.spv
  *

@@ -30,7 +30,7 @@
 //! [`Module::disassemble`], 60,000 for [`join`], 500 for any other function of the library; this crate's own functions come on top. A
 //! thread that has less left ends with a fault.
 //!
-//! Linking needs the archive `libkollafrin.a`, made by `rt staticlib kollafrin` for x86-64. It is looked for in the folder
+//! Linking needs the archive `libkollafrin.a`, made by `tools/archive` for x86-64. It is looked for in the folder
 //! `target/staticlib` of the repository, or where the environment variable `KOLLAFRIN_LIB` says.
 //!
 //! The stores, the kinds of operands, grammars, the order of faults, both orders of writing and what to do about each refusal are

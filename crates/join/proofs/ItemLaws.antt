@@ -8,7 +8,7 @@ use borrow.Author.Tests.{eqb-true}
 use lib.Dec.{leb, eqb}
 use lib.ListN.{get_or, drop}
 use Rattle.spec.specs.Base.{if◌then◌else◌, has, every, joined}
-use Rattle.spec.specs.Words.{AllBytes, four, four_at, bytes_of}
+use Rattle.spec.specs.Words.{AllBytes, four_at, bytes_of}
 use Rattle.spec.specs.Grammar.{Item, row, operand, enumerant, parameter, broken, body_length, item_of, items_from, items}
 use Rattle.spec.specs.Builtin.{item_bytes}
 use Rattle.spec.proofs.Choice.{left, right}

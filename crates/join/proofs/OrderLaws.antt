@@ -15,7 +15,7 @@ use Rattle.spec.specs.Words.{AllBytes}
 use Rattle.spec.specs.Grammar.{items, items_from, rules_from, enumerants_of, all_flat, well_formed_items, well_formed}
 use Rattle.spec.specs.Load.{laid_over}
 use Rattle.spec.specs.Join.{Piece, pieces_of, pieces, piece_bytes, found, merged, clash, union, Joining, put_union, unless_clash, join}
-use Rattle.spec.proofs.Choice.{left, right, both}
+use Rattle.spec.proofs.Choice.{both}
 use Rattle.grammar.proofs.IndexLaws.{well_told}
 use Rattle.join.specs.Made.{made_by, made}
 use Rattle.join.specs.Steps.{Joins}

@@ -2,7 +2,7 @@
 use Rattle.std.specs.Prelude.{ℕ, ◌≤◌, ◌≡◌, false, List, length}
 use Rattle.std.proofs.Math.Option.{some}
 use Rattle.spec.specs.Kinds.{is_mask}
-use Rattle.spec.specs.Grammar.{grammar_of, parameters_for, listed}
+use Rattle.spec.specs.Grammar.{grammar_of, parameters_for}
 use Rattle.spec.specs.Reader.{got, refused}
 use Rattle.spec.specs.Match.{known, read_enumerant}
 use Rattle.decoder.specs.declared.Decoder.{Decoder}

@@ -5,7 +5,6 @@ use Rattle.formed.specs.Check.{Entered}
 use mathlib.Core.Bool.{false≢true}
 use mathlib.Core.Path.{refl, ◌∙◌}
 use lib.ListN.{length-set}
-use Prim.Native.Nat.{◌-◌}
 use native.Mathlib.Omega.{arith}
 use Rattle.formed.proofs.pass.Goals as goal
 

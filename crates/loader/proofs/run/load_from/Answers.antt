@@ -2,7 +2,6 @@
 use Rattle.tracker.proofs.Hinting.{marks_leave}
 use Rattle.steps.proofs.Judging.{fair, moderate, verdict}
 use Rattle.loader.proofs.Running.{start, same_instructions, same_log, same_strings, same_types, few_kept, ends, halts, here, more, operands_fit, record_fits, entries_fit, fewer, goes_on_lem}
-use Prim.Native.Nat.{◌-◌}
 use native.Mathlib.Omega.{arith}
 use Rattle.loader.proofs.run.load_from.Goals as goal
 

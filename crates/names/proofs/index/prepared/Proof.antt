@@ -1,7 +1,7 @@
 -- `names::prepared` meets its contract: that each name has its slot, and each slot a name's place, is computed over the definition's names.
 use mathlib.Core.Path.{refl}
 use Rattle.spec.specs.NameTable.{name_table}
-use Rattle.lookup.specs.Run.{name_run, place_in, slotted, places_from, has_place, placed}
+use Rattle.lookup.specs.Run.{place_in, slotted, places_from, has_place, placed}
 use Rattle.names.proofs.index.prepared.Statement.{statement}
 use Rattle.names.proofs.index.prepared.Tie as tie
 

@@ -3,7 +3,6 @@
 use mathlib.Core.Path.{sym}
 use Rattle.pieces.proofs.Put.{room_first, room_next, wrote_both, wrote_as, room_as}
 use Rattle.pieces.proofs.Texts.{narrow_id, narrow_number, narrow_float, narrow_name}
-use borrow.Author.Rules.{rules}
 use Rattle.pieces.proofs.operands.put_narrow.Goals as goal
 
 pub put_id-requires : goal.put_id-requires

@@ -1,7 +1,6 @@
 -- `pieces::operands::put_string` meets its contract: a quote, each byte, a quote.
 -- Assumes nothing.
 use mathlib.Core.Path.{refl, sym, ◌∙◌}
-use Prim.Native.Nat.{◌-◌}
 use Rattle.pieces.proofs.Put.{room_first, room_next, wrote_both, wrote_as, room_as, going_starts, going_length, going_room, going_on, going_ends}
 use Rattle.pieces.proofs.Texts.{string_starts, string_more, string_ends}
 use native.Mathlib.Omega.{arith}

@@ -3,7 +3,6 @@
 use mathlib.Core.Path.{sym}
 use Rattle.pieces.proofs.Put.{room_first, room_next, wrote_both, wrote_as, room_as}
 use Rattle.pieces.proofs.Texts.{byte_marked, byte_plain, byte_hex}
-use borrow.Author.Rules.{rules}
 use Rattle.pieces.proofs.operands.put_string_byte.Goals as goal
 
 pub put_byte-next-requires : goal.put_byte-next-requires

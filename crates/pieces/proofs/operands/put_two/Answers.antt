@@ -3,7 +3,6 @@
 use mathlib.Core.Path.{sym}
 use Rattle.pieces.proofs.Put.{room_first, room_next, wrote_both, wrote_as, room_as}
 use Rattle.pieces.proofs.Texts.{string_text_lem, long_text, double_text, text_inside}
-use borrow.Author.Rules.{rules}
 use native.Mathlib.Omega.{arith}
 use Rattle.pieces.proofs.operands.put_two.Goals as goal
 

@@ -1,7 +1,6 @@
 -- `tracker::TypeTracker::new` meets its contract.
 use mathlib.Core.Path.{ap}
 use Prim.Native.Nat.{ℕ}
-use borrow.Author.Rules.{rules}
 use Rattle.tracker.proofs.TypeTracker.new.Statement.{statement}
 use Rattle.tracker.proofs.TypeTracker.new.Tie as tie
 

@@ -1,5 +1,4 @@
 -- `tracker::index::guess_for` meets its contract.
-use native.Mathlib.Omega.{arith}
 use borrow.Author.Rules.{rules}
 use Rattle.tracker.proofs.Hinting.{guess_soon, guess_late}
 use Rattle.tracker.proofs.index.guess_for.Statement.{statement}
