@@ -169,11 +169,11 @@ enum kollafrin_kind {
 };
 
 /* The bytes of stack that a call takes at most on x86-64, for every input: the frames of the function and of all that it calls, return
- * addresses included, as counted in the compiled library and rounded up; for C's memset and memcpy, which the loads call, 4,096 are
- * counted. _SHORT is for a module of 16,384 bytes or less. */
+ * addresses included, as counted in the compiled library and rounded up; for C's memset and memcpy, which the loads and
+ * kollafrin_builtin call, 4,096 are counted. _SHORT is for a module of 16,384 bytes or less. */
 enum kollafrin_stack {
     KOLLAFRIN_STACK_VERSION = 500,
-    KOLLAFRIN_STACK_BUILTIN = 500,
+    KOLLAFRIN_STACK_BUILTIN = 5000,
     KOLLAFRIN_STACK_LOAD = 120000,
     KOLLAFRIN_STACK_LOAD_SHORT = 60000,
     KOLLAFRIN_STACK_LOAD_BUILTIN = 92000,

@@ -5,7 +5,7 @@ usage: python3 tools/respell.py [--table]      at the top; --table prints the ro
 
 A dash between two small words becomes an underscore, and a hump as in 'frontOf' too. A type keeps its capital, and the dash beside
 it, as in 'AllBytes-append'. Comments turn in code spans, and where the name has a hump. Strings stay. A name stays where its new
-spelling stands in a file that has the old one; the script says so. A second run changes nothing.
+spelling stands in a file that has the old one; the script says so. It was run once, before any proof had the names of goals.
 """
 
 import glob

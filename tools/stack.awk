@@ -72,7 +72,7 @@ function moved(f, op, d,    last) {
     sub(/^.*[ ,]/, "", last)
     if (op ~ /^(leave|enter|xchg.*%rsp|pop.*%rsp)/) fail(f ": the stack pointer moves by what is not a number: " op)
     if (op ~ /^push/) return d + 8
-    if (op ~ /^pop/) return d - 8
+    if (op ~ /^popq? /) return d - 8
     if (op ~ /^sub +\$0x[0-9a-f]+,%rsp$/) return d + amount(op)
     if (op ~ /^add +\$0x[0-9a-f]+,%rsp$/) return d - amount(op)
     if (op ~ /^mov +%rsp,%r11$/) limit = d

@@ -27,8 +27,8 @@
 //!
 //! A call takes stack, on x86-64 up to 120,000 bytes for [`Module::load`] and 92,000 for [`Module::load_builtin`] (60,000 and 32,000
 //! for a module of 16,384 bytes or less), 1,500 for the writers, [`Module::standing`], [`new_book`] and [`old_book`], 47,000 for
-//! [`Module::disassemble`], 60,000 for [`join`], 500 for any other function of the library; this crate's own functions come on top. A
-//! thread that has less left ends with a fault.
+//! [`Module::disassemble`], 60,000 for [`join`], 5,000 for the built-in grammar's bytes, 500 for any other function of the library; this
+//! crate's own functions come on top. A thread that has less left ends with a fault.
 //!
 //! Linking needs the archive `libkollafrin.a`, made by `tools/archive` for x86-64. It is looked for in the folder
 //! `target/staticlib` of the repository, or where the environment variable `KOLLAFRIN_LIB` says.

@@ -10,7 +10,8 @@ use lib.ListN.{length, take, get_or, set, length-append, drop_of_length-le}
 use lib.Seq.{sets, length-take-le, take-length, drop-cons}
 use Rattle.spec.specs.declared.Written.{Written}
 use Rattle.spec.specs.declared.State.TheVariants.{Outside}
-use Rattle.spec.specs.Base.{if◌then◌else◌, joined}
+use Rattle.std.specs.Prelude.{if◌then◌else◌}
+use Rattle.spec.specs.Base.{joined}
 use Rattle.spec.specs.Words.{bytes_of, major, minor}
 use Rattle.spec.specs.Records.{Placed, record_size}
 use Rattle.spec.specs.Load.{laid_over}

@@ -10,7 +10,8 @@ use borrow.Author.Tests.{eqb-true, ltb-false}
 use lib.Dec.{ltb, eqb}
 use lib.ListN.{length, drop, length-drop}
 use Rattle.spec.specs.declared.Turned.{Turned}
-use Rattle.spec.specs.Base.{if◌then◌else◌, joined, has}
+use Rattle.std.specs.Prelude.{if◌then◌else◌}
+use Rattle.spec.specs.Base.{joined, has}
 use Rattle.spec.specs.Records.{field_size, field_words, fields_at, record_size, called_for, numbered}
 use Rattle.spec.specs.Load.{laid_over}
 use Rattle.spec.specs.Check.{Given, records_of, missing, records_in, fault_of}

@@ -2,9 +2,9 @@
 // refusals, then one pass that writes.
 #![tactic(auto)]
 
-ghost use Rattle.std.specs.Prelude.{◌≡◌, ◌&&◌, ◌+◌, ◌*◌, ◌/◌, ◌<◌, ◌≤◌, ltb, eqb, length};
+ghost use Rattle.std.specs.Prelude.{◌≡◌, ◌&&◌, ◌+◌, ◌*◌, ◌/◌, ◌<◌, ◌≤◌, ltb, eqb, length, if◌then◌else◌};
 ghost use Rattle.std.proofs.Math.Option.{none, some};
-ghost use Rattle.spec.specs.Base.{if◌then◌else◌, joined};
+ghost use Rattle.spec.specs.Base.{joined};
 ghost use Rattle.spec.specs.Records.{field_size, field_words, record_size, called_for, numbered};
 ghost use Rattle.spec.specs.Load.{laid_over};
 ghost use Rattle.spec.specs.Check.{records_of};

@@ -15,7 +15,7 @@ use Rattle.spec.specs.declared.Limit.{Limit}
 use Rattle.spec.specs.declared.Limit.TheVariants.{Unlimited, Words}
 use Rattle.spec.specs.declared.Refusal.{Refusal}
 use Rattle.spec.specs.declared.Found.TheVariants.{At, Nothing}
-use Rattle.spec.specs.Base.{if◌then◌else◌}
+use Rattle.std.specs.Prelude.{if◌then◌else◌}
 use Rattle.spec.specs.Text.{until_zero, text_words, not_zero, text_break, is_utf8}
 use Rattle.spec.specs.Words.{Front, front_of, four_at, long}
 use Rattle.spec.specs.Reader.{Read, got, refused, after, give, refusal, stream_word, word_at, read_word, read_long, reader_at, less, limit_past, searched, no_zero, text_found, read_text, read_text_at}

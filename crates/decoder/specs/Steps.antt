@@ -1,7 +1,6 @@
 -- What the decoder's inner steps come to.
-use Rattle.std.specs.Prelude.{ℕ, List, length}
+use Rattle.std.specs.Prelude.{ℕ, List, length, if◌then◌else◌}
 use Rattle.std.proofs.Math.Option.{Option, none, some}
-use Rattle.spec.specs.Base.{if◌then◌else◌}
 use Rattle.spec.specs.Text.{until_zero, is_utf8}
 use Rattle.spec.specs.Reader.{less}
 use Rattle.decoder.specs.declared.Decoder.{Decoder}

@@ -9,7 +9,8 @@ use borrow.Author.Tests.{ltb-false}
 use lib.Dec.{ltb}
 use lib.ListN.{length, drop, length-append}
 use lib.Seq.{drop-append-le}
-use Rattle.spec.specs.Base.{if◌then◌else◌, joined}
+use Rattle.std.specs.Prelude.{if◌then◌else◌}
+use Rattle.spec.specs.Base.{joined}
 use Rattle.spec.specs.Words.{bytes_of}
 use Rattle.spec.specs.Records.{Placed, record_size}
 use Rattle.spec.specs.Load.{laid_over}

@@ -10,7 +10,7 @@ use lib.ListN.{length}
 use Rattle.spec.specs.declared.State.{State}
 use Rattle.spec.specs.declared.State.TheVariants.{Outside, Function, Block}
 use Rattle.spec.specs.declared.Counts.{Counts}
-use Rattle.spec.specs.Base.{if◌then◌else◌}
+use Rattle.std.specs.Prelude.{if◌then◌else◌}
 use Rattle.spec.specs.Grammar.{Grammar, grammar_of, well_formed}
 use Rattle.spec.specs.Layout.{end_number}
 use Rattle.spec.specs.Load.{room_fault, Book, Outcome, load}

@@ -11,7 +11,7 @@ use lib.Dec.{eqb-suc-zero}
 use lib.ListN.{length, length-append}
 use Rattle.spec.specs.declared.Limit.TheVariants.{Words}
 use Rattle.spec.specs.declared.Refusal.{Refusal}
-use Rattle.spec.specs.Base.{if◌then◌else◌}
+use Rattle.std.specs.Prelude.{if◌then◌else◌}
 use Rattle.spec.specs.Reader.{Reader, reader, Read, got, refused, Parse, after, ◌>>=◌, ◌into◌, give, refuse, here, spent}
 use Rattle.spec.specs.Words.{AllBytes}
 use Rattle.demands.proofs.Choice.{either}

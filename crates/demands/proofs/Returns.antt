@@ -11,7 +11,8 @@ use lib.ListN.{length, take, drop, length-append, length-drop, take-append-drop}
 use lib.Seq.{take-add, take_at, length-take-le}
 use Rattle.spec.specs.declared.State.{State}
 use Rattle.spec.specs.declared.Counts.{Counts}
-use Rattle.spec.specs.Base.{if◌then◌else◌, joined}
+use Rattle.std.specs.Prelude.{if◌then◌else◌}
+use Rattle.spec.specs.Base.{joined}
 use Rattle.spec.specs.Words.{bytes_of, AllBytes}
 use Rattle.spec.specs.Records.{Placed}
 use Rattle.spec.specs.Header.{header_from}

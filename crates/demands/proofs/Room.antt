@@ -10,7 +10,8 @@ use borrow.Author.Tests.{eqb-true, eqb-false, ltb-false, lt-leb, le-ltb}
 use lib.Dec.{ltb, eqb}
 use lib.ListN.{length, drop, length-drop, length-append}
 use Rattle.spec.specs.declared.Counts.{Counts}
-use Rattle.spec.specs.Base.{if◌then◌else◌, within}
+use Rattle.std.specs.Prelude.{if◌then◌else◌}
+use Rattle.spec.specs.Base.{within}
 use Rattle.spec.specs.Words.{bytes_of}
 use Rattle.spec.specs.Records.{Operand, narrow, wide, text, Instr, Entry, entry, operand_size, operands_size, operand_log, operand_string, operands_log}
 use Rattle.spec.specs.Grammar.{Grammar, well_formed}

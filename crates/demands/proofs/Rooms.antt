@@ -10,7 +10,8 @@ use Rattle.spec.specs.declared.Limit.TheVariants.{Unlimited}
 use Rattle.spec.specs.declared.Cell.{Cell}
 use Rattle.spec.specs.declared.Cell.TheVariants.{Tagged, Refuses}
 use Rattle.spec.specs.declared.Counts.{Counts}
-use Rattle.spec.specs.Base.{if◌then◌else◌, has, within}
+use Rattle.std.specs.Prelude.{if◌then◌else◌}
+use Rattle.spec.specs.Base.{has, within}
 use Rattle.spec.specs.Records.{Instr}
 use Rattle.spec.specs.Reader.{Reader, reader, Read, got, refused, Parse, after, ◌>>=◌}
 use Rattle.spec.specs.Header.{header_from}

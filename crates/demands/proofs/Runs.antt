@@ -14,7 +14,8 @@ use Rattle.spec.specs.declared.State.{State}
 use Rattle.spec.specs.declared.Cell.{Cell}
 use Rattle.spec.specs.declared.Cell.TheVariants.{Tagged, Refuses}
 use Rattle.spec.specs.declared.Counts.{Counts}
-use Rattle.spec.specs.Base.{if◌then◌else◌, has}
+use Rattle.std.specs.Prelude.{if◌then◌else◌}
+use Rattle.spec.specs.Base.{has}
 use Rattle.spec.specs.Records.{Instr, Placed}
 use Rattle.spec.specs.Reader.{Reader, reader, Read, got, refused, after, ◌>>=◌, give, refuse}
 use Rattle.spec.specs.Grammar.{Grammar}

@@ -12,7 +12,8 @@ use lib.Seq.{drop_at}
 use Rattle.spec.specs.declared.State.{State}
 use Rattle.spec.specs.declared.State.TheVariants.{Outside, Function, Block}
 use Rattle.spec.specs.declared.Fields.{Fields}
-use Rattle.spec.specs.Base.{if◌then◌else◌, within, joined, only}
+use Rattle.std.specs.Prelude.{if◌then◌else◌}
+use Rattle.spec.specs.Base.{within, joined, only}
 use Rattle.spec.specs.Words.{bytes_of}
 use Rattle.spec.specs.Layout.{layout_of}
 use Rattle.spec.specs.Records.{Placed, record_size}

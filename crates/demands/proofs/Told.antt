@@ -9,7 +9,8 @@ use borrow.Author.Tests.{eqb-true, not-true, le-ltb, ltb-false}
 use lib.Dec.{ltb, eqb}
 use lib.ListN.{length, replicate, length-append}
 use lib.Seq.{take_at, take_all, drop_at, drop-append_seam}
-use Rattle.spec.specs.Base.{if◌then◌else◌, joined}
+use Rattle.std.specs.Prelude.{if◌then◌else◌}
+use Rattle.spec.specs.Base.{joined}
 use Rattle.spec.specs.Words.{bytes_of, four_at, AllBytes}
 use Rattle.spec.specs.Text.{text_words, padded, not_zero, text_break, is_utf8}
 use Rattle.spec.specs.Kinds.{is_long}

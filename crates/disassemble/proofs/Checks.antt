@@ -16,7 +16,8 @@ use Rattle.spec.specs.declared.Cell.{Cell}
 use Rattle.spec.specs.declared.Cell.TheVariants.{Tagged, Refuses}
 use Rattle.spec.specs.declared.Fields.{Fields}
 use Rattle.spec.specs.declared.Written.{Written}
-use Rattle.spec.specs.Base.{if◌then◌else◌, has, implies}
+use Rattle.std.specs.Prelude.{if◌then◌else◌}
+use Rattle.spec.specs.Base.{has, implies}
 use Rattle.spec.specs.Layout.{layout_of, end_number}
 use Rattle.spec.specs.Records.{Operand, Placed, record_size, fields_at}
 use Rattle.spec.specs.Check.{Given, lower, records_of, missing, fields_good, fields_fault, Left, take_operands, take_record, Scan, on_record, scan_from, on_tag, tags_fault, records_in, scan_of, fault_of, Checked, bad, good}

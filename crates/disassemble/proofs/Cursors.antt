@@ -8,7 +8,8 @@ use borrow.Author.Tests.{eq-eqb, ne_eqb, lt-ltb, le-ltb, ltb-true, ltb-false}
 use lib.Dec.{ltb, eqb}
 use lib.ListN.{take, drop, take-append-drop}
 use Rattle.spec.specs.declared.Fields.{Fields}
-use Rattle.spec.specs.Base.{if◌then◌else◌, only}
+use Rattle.std.specs.Prelude.{if◌then◌else◌}
+use Rattle.spec.specs.Base.{only}
 use Rattle.spec.specs.Records.{Placed}
 use Rattle.spec.specs.Write.{has_tag, section_of, parameters_in, functions, module_order}
 use Rattle.spelled.specs.Spelled.{said_by}

@@ -10,7 +10,8 @@ use lib.Dec.{leb, eqb}
 use lib.ListN.{length, drop, get_or, length-drop}
 use lib.Seq.{drop-drop}
 use Rattle.spec.specs.declared.Fields.{Fields}
-use Rattle.spec.specs.Base.{if◌then◌else◌, every}
+use Rattle.std.specs.Prelude.{if◌then◌else◌}
+use Rattle.spec.specs.Base.{every}
 use Rattle.spec.specs.Words.{four_at, bits_from, bits_of}
 use Rattle.spec.specs.Kinds.{is_long}
 use Rattle.spec.specs.Names.{name_of}

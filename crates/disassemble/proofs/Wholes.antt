@@ -10,7 +10,8 @@ use lib.ListN.{length, get_or, length-append}
 use lib.Seq.{sets}
 use Rattle.spec.specs.declared.Fields.{Fields}
 use Rattle.spec.specs.declared.Written.{Written}
-use Rattle.spec.specs.Base.{if◌then◌else◌, joined, ascii}
+use Rattle.std.specs.Prelude.{if◌then◌else◌}
+use Rattle.spec.specs.Base.{joined, ascii}
 use Rattle.spec.specs.Words.{major, minor}
 use Rattle.spec.specs.Digits.{decimal}
 use Rattle.spec.specs.Records.{Placed, record_size}

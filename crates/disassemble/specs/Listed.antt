@@ -1,6 +1,5 @@
 -- Records read by their places, their names and module order, as the code goes through them.
-use Rattle.std.specs.Prelude.{ℕ, zero, suc, ◌+◌, ◌-◌, ◌<◌, ◌≤◌, ◌≡◌, List, [], ◌∷◌, ◌++◌, reverse, ltb, eqb, length, take, drop}
-use Rattle.spec.specs.Base.{if◌then◌else◌}
+use Rattle.std.specs.Prelude.{ℕ, zero, suc, ◌+◌, ◌-◌, ◌<◌, ◌≤◌, ◌≡◌, List, [], ◌∷◌, ◌++◌, reverse, ltb, eqb, length, take, drop, if◌then◌else◌}
 use Rattle.spec.specs.Records.{Placed, record_size, fields_at}
 use Rattle.spec.specs.Write.{parameters_in, functions, Writing, put_or}
 use Rattle.spec.specs.Disassembly.{is_named}

@@ -1,7 +1,7 @@
 // The call: first the check of the records and their names (30), then the text's length against the output (32), then the text.
 ghost use Rattle.std.specs.Prelude.{◌≡◌, ◌∷◌, [], ◌≤◌};
 ghost use Rattle.spec.specs.Write.{module_order};
-ghost use Rattle.spec.specs.Disassembly.{header_text, lines_text, module_text, disassemble as disassembleOf};
+ghost use Rattle.spec.specs.Disassembly.{header_text, lines_text, module_text, disassemble as disassemble_of};
 ghost use Rattle.lookup.specs.Run.{Indexed};
 ghost use Rattle.records.specs.Steps.{given};
 ghost use Rattle.spelled.specs.Placing.{GoodStores, instrs_of};
@@ -180,7 +180,7 @@ pub fn disassemble(
     string_count: usize,
     out: &mut [u8],
 ) -> Written
-    ensures { Writes (disassembleOf header (given instructions.now log.now strings.now instruction_count log_count string_count) out.old) out.new result }
+    ensures { Writes (disassemble_of header (given instructions.now log.now strings.now instruction_count log_count string_count) out.old) out.new result }
 {
     let run = names::table();
     let index = names::prepared();

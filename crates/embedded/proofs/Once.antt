@@ -10,7 +10,8 @@ use lib.Dec.{eqb, ltb}
 use Rattle.spec.specs.declared.Found.{Found}
 use Rattle.spec.specs.declared.Found.TheVariants.{At, Nothing}
 use Rattle.spec.specs.declared.Refusal.{Refusal}
-use Rattle.spec.specs.Base.{if◌then◌else◌, every}
+use Rattle.std.specs.Prelude.{if◌then◌else◌}
+use Rattle.spec.specs.Base.{every}
 use Rattle.spec.proofs.Choice.{cases}
 use Rattle.spec.specs.Kinds.{is_result, may_be_operand, may_embed}
 use Rattle.spec.specs.Records.{Operand, narrow}

@@ -1,8 +1,8 @@
 // Embedded operations: the row of an operation inside OpSpecConstantOp, each operand once.
 #![tactic(auto)]
 
-ghost use Rattle.std.specs.Prelude.{◌≡◌, true, ◌%◌, ◌≤◌, ltb, length};
-ghost use Rattle.spec.specs.Base.{if◌then◌else◌, every};
+ghost use Rattle.std.specs.Prelude.{◌≡◌, true, ◌%◌, ◌≤◌, ltb, length, if◌then◌else◌};
+ghost use Rattle.spec.specs.Base.{every};
 ghost use Rattle.spec.specs.Plain.{first_break};
 ghost use Rattle.spec.specs.Grammar.{grammar_of};
 ghost use Rattle.spec.specs.Match.{embeds, read_once, read_embedded};

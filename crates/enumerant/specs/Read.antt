@@ -1,6 +1,5 @@
 -- An enumerant's word, read with a decoder and any grammar.
-use Rattle.std.specs.Prelude.{ℕ, List}
-use Rattle.spec.specs.Base.{if◌then◌else◌}
+use Rattle.std.specs.Prelude.{ℕ, List, if◌then◌else◌}
 use Rattle.spec.specs.Reader.{◌into◌, refusal}
 use Rattle.spec.specs.Grammar.{grammar_of, well_formed}
 use Rattle.spec.specs.Match.{read_enumerant, value_of}

@@ -12,7 +12,8 @@ use lib.ListN.{length, get_or, drop, set, replicate, length-set, length-drop}
 use lib.Seq.{get_or-set_same, length-take-le}
 use Rattle.spec.specs.declared.Found.{Found}
 use Rattle.spec.specs.declared.Found.TheVariants.{At, Nothing}
-use Rattle.spec.specs.Base.{if◌then◌else◌, has, is_in}
+use Rattle.std.specs.Prelude.{if◌then◌else◌}
+use Rattle.spec.specs.Base.{has, is_in}
 use Rattle.spec.specs.Kinds.{is_enum}
 use Rattle.spec.specs.Grammar.{Item, row, operand, enumerant, parameter, broken, Slot, slot, items, start, in_row, in_enumerant, operand_rule, row_end, enumerant_rule, parameter_rule, rises, rule, next, rules_from, Enumerant, parameters_of, enumerants_of, well_formed_items, well_formed}
 use Rattle.spec.proofs.Choice.{left, right}

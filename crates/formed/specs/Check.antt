@@ -1,8 +1,8 @@
 -- The pass that checks a grammar and fills its index: what holds at each place that it comes to.
-use Rattle.std.specs.Prelude.{ℕ, ◌+◌, ◌*◌, ◌≤◌, ◌<◌, ◌≡◌, Bool, true, false, not, ◌&&◌, ◌||◌, List, [], ◌∷◌, ◌++◌, eqb, length, get_or, drop}
+use Rattle.std.specs.Prelude.{ℕ, ◌+◌, ◌*◌, ◌≤◌, ◌<◌, ◌≡◌, Bool, true, false, not, ◌&&◌, ◌||◌, List, [], ◌∷◌, ◌++◌, eqb, length, get_or, drop, if◌then◌else◌}
 use Rattle.spec.specs.declared.Found.{Found}
 use Rattle.spec.specs.declared.Found.TheVariants.{At, Nothing}
-use Rattle.spec.specs.Base.{if◌then◌else◌, has, is_in, joined, every}
+use Rattle.spec.specs.Base.{has, is_in, joined, every}
 use Rattle.spec.specs.Grammar.{Item, row, operand, enumerant, parameter, broken, items, start, in_row, in_enumerant, enumerant_rule, rules_from, Enumerant, parameters_of, enumerants_of, parameterless}
 use Rattle.grammar.specs.declared.index.Mark.{Mark}
 use Rattle.grammar.specs.Index.{marks_from, marks_of, places_of, places_in}

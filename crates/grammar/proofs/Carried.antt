@@ -7,7 +7,8 @@ use Prim.Native.Nat.{ℕ}
 use native.Mathlib.Omega.{arith}
 use borrow.Author.Tests.{eqb-true, ltb-true}
 use lib.Dec.{eqb, ltb}
-use Rattle.spec.specs.Base.{if◌then◌else◌, every, implies}
+use Rattle.std.specs.Prelude.{if◌then◌else◌}
+use Rattle.spec.specs.Base.{every, implies}
 use Rattle.spec.specs.Kinds.{is_mask, may_be_parameter}
 use Rattle.spec.specs.Grammar.{Item, row, operand, enumerant, parameter, broken, items, Slot, slot, Before, start, in_row, in_enumerant, row_end, enumerant_rule, parameter_rule, rule, next, rules_from, slots_of, parameters_of, rows_of, enumerants_of, Enumerant, parameterless, all_flat, row_of, listed, grammar_by, grammar_of, well_formed}
 use Rattle.grammar.specs.Find.{row_good, row_good_from}

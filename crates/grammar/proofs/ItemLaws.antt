@@ -10,7 +10,8 @@ use borrow.Author.Tests.{le-leb, lt-leb, ne_eqb}
 use lib.Dec.{leb, eqb, lit≤, leb-zero, leb-suc-zero, leb-suc-suc}
 use lib.ListN.{length, get_or, drop, length-drop, drop_of_length-le}
 use lib.Seq.{drop-cons, drop-drop, get_or-drop}
-use Rattle.spec.specs.Base.{if◌then◌else◌, has}
+use Rattle.std.specs.Prelude.{if◌then◌else◌}
+use Rattle.spec.specs.Base.{has}
 use Rattle.spec.specs.Words.{four_at}
 use Rattle.spec.specs.Grammar.{body_length, item_of, items_from, items}
 use Rattle.spec.specs.Grammar

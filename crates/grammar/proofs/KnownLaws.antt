@@ -10,7 +10,7 @@ use borrow.Author.Tests.{eq-eqb, ne_eqb, not-true, not-false}
 use lib.Dec.{eqb}
 use Rattle.spec.specs.declared.Found.{Found}
 use Rattle.spec.specs.declared.Found.TheVariants.{At, Nothing}
-use Rattle.spec.specs.Base.{if◌then◌else◌}
+use Rattle.std.specs.Prelude.{if◌then◌else◌}
 use Rattle.spec.specs.Words.{bits_from, bits_of}
 use Rattle.spec.specs.Kinds.{is_mask}
 use Rattle.spec.specs.Grammar.{Enumerant, Grammar, listed, both_listed, bits_listed, parameters_for}

@@ -11,7 +11,8 @@ use lib.Dec.{leb, ltb, eqb}
 use lib.ListN.{length, get_or, drop, length-drop}
 use Rattle.spec.specs.declared.Found.{Found}
 use Rattle.spec.specs.declared.Found.TheVariants.{At}
-use Rattle.spec.specs.Base.{if◌then◌else◌, has, every, within, implies}
+use Rattle.std.specs.Prelude.{if◌then◌else◌}
+use Rattle.spec.specs.Base.{has, every, within, implies}
 use Rattle.spec.specs.Words.{bits_of}
 use Rattle.spec.specs.Kinds.{is_enum, is_mask}
 use Rattle.spec.specs.Grammar.{Item, row, operand, enumerant, parameter, broken, body_length, item_of, items, Before, start, in_row, in_enumerant, row_end, enumerant_rule, rises, rule, next, with_slot, rules_from, slots_of, parameters_of, rows_of, enumerants_of, row_of, listed}

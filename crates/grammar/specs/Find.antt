@@ -1,9 +1,8 @@
 -- What the lookups find, and what is read on from there.
-use Rattle.std.specs.Prelude.{ℕ, ◌+◌, Bool, true, false, ◌&&◌, List, [], ◌∷◌, ◌++◌, eqb, drop}
+use Rattle.std.specs.Prelude.{ℕ, ◌+◌, Bool, true, false, ◌&&◌, List, [], ◌∷◌, ◌++◌, eqb, drop, if◌then◌else◌}
 use Rattle.std.proofs.Math.Option.{Option, none, some}
 use Rattle.spec.specs.declared.Found.{Found}
 use Rattle.spec.specs.declared.Found.TheVariants.{At, Nothing}
-use Rattle.spec.specs.Base.{if◌then◌else◌}
 use Rattle.spec.specs.Grammar.{Slot, slot, items, slots_of, parameters_of, operand_rule, row_end, Enumerant, listed}
 use Rattle.grammar.specs.declared.find.SlotAt.{SlotAt}
 use Rattle.grammar.specs.declared.find.SlotAt.TheVariants.{Slot as ASlot, End as NoSlot}

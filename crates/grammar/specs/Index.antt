@@ -1,8 +1,7 @@
 -- The index of a grammar: its rows and enumerants in their order, and where their items stand.
-use Rattle.std.specs.Prelude.{ℕ, ◌+◌, ◌≤◌, ◌≡◌, Bool, true, false, ◌&&◌, List, [], ◌∷◌, map, eqb, length, get_or, take, drop}
+use Rattle.std.specs.Prelude.{ℕ, ◌+◌, ◌≤◌, ◌≡◌, Bool, true, false, ◌&&◌, List, [], ◌∷◌, map, eqb, length, get_or, take, drop, if◌then◌else◌}
 use Rattle.spec.specs.declared.Found.{Found}
 use Rattle.spec.specs.declared.Found.TheVariants.{At, Nothing}
-use Rattle.spec.specs.Base.{if◌then◌else◌}
 use Rattle.spec.specs.Grammar.{Item, row, operand, enumerant, parameter, broken, items, well_formed}
 use Rattle.grammar.specs.declared.index.Mark.{Mark}
 

@@ -10,7 +10,8 @@ use lib.Dec.{leb, ltb, eqb}
 use lib.ListN.{length, take, drop, get_or, drop_of_length-le}
 use lib.Seq.{drop-cons}
 use Rattle.spec.specs.declared.Fields.{Fields}
-use Rattle.spec.specs.Base.{if◌then◌else◌, or_zero, or_else, same, ascii}
+use Rattle.std.specs.Prelude.{if◌then◌else◌}
+use Rattle.spec.specs.Base.{or_zero, or_else, same, ascii}
 use Rattle.spec.specs.Words.{four_at}
 use Rattle.spec.specs.Kinds.{is_long, is_text}
 use Rattle.spec.specs.Records.{Operand, narrow, wide, text, Placed, record_size, fields_at}

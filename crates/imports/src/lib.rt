@@ -2,7 +2,7 @@
 #![tactic(auto)]
 
 ghost use Rattle.std.specs.Prelude.{◌≡◌, ◌*◌, ◌≤◌, length};
-ghost use Rattle.spec.specs.Base.{or_zero, same as sameAs};
+ghost use Rattle.spec.specs.Base.{or_zero, same as same_as};
 ghost use Rattle.spec.specs.Records.{record_size};
 ghost use Rattle.spec.specs.Disassembly.{set_named, import_of, set_of};
 ghost use Rattle.spelled.specs.Spelled.{AllReadable, said_by};
@@ -30,7 +30,7 @@ pub fn imports_end(instructions: &[u32], count: usize) -> usize
 
 // Whether two texts agree.
 fn same(s: &[u8], t: &[u8]) -> bool
-    ensures { result ≡ sameAs s.now t.now }
+    ensures { result ≡ same_as s.now t.now }
 {
     if s.len() != t.len() {
         return false;

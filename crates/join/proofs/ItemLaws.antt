@@ -7,7 +7,8 @@ use native.Mathlib.Omega.{arith}
 use borrow.Author.Tests.{eqb-true}
 use lib.Dec.{leb, eqb}
 use lib.ListN.{get_or, drop}
-use Rattle.spec.specs.Base.{if◌then◌else◌, has, every, joined}
+use Rattle.std.specs.Prelude.{if◌then◌else◌}
+use Rattle.spec.specs.Base.{has, every, joined}
 use Rattle.spec.specs.Words.{AllBytes, four_at, bytes_of}
 use Rattle.spec.specs.Grammar.{Item, row, operand, enumerant, parameter, broken, body_length, item_of, items_from, items}
 use Rattle.spec.specs.Builtin.{item_bytes}

@@ -9,7 +9,7 @@ use borrow.Author.Tests.{le-leb, lt-leb, lt-ltb, le-ltb}
 use lib.Dec.{leb, ltb}
 use lib.ListN.{length}
 use Rattle.spec.specs.declared.Joined.{Joined}
-use Rattle.spec.specs.Base.{if◌then◌else◌}
+use Rattle.std.specs.Prelude.{if◌then◌else◌}
 use Rattle.spec.specs.Words.{AllBytes}
 use Rattle.spec.specs.Grammar.{well_formed}
 use Rattle.spec.specs.Load.{laid_over}

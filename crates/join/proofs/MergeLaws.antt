@@ -7,7 +7,8 @@ use mathlib.Core.Option.{Option, none, some}
 use native.Mathlib.Omega.{arith}
 use borrow.Author.Tests.{lt-ltb, le-ltb, eq-eqb, ne_eqb, ltb-true, ltb-false, eqb-true, eqb-false}
 use lib.Dec.{ltb, eqb}
-use Rattle.spec.specs.Base.{if◌then◌else◌, or_else, same}
+use Rattle.std.specs.Prelude.{if◌then◌else◌}
+use Rattle.spec.specs.Base.{or_else, same}
 use Rattle.spec.specs.Grammar.{Item, items}
 use Rattle.spec.specs.Join.{Piece, piece_items, piece_bytes, key, found, put_in, merged, differs, clash}
 use Rattle.spec.proofs.Choice.{cases, left, right, fails}

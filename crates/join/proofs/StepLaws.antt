@@ -13,7 +13,8 @@ use borrow.Author.Tests.{lt-ltb, le-ltb, ltb-true}
 use lib.Dec.{ltb, eqb}
 use lib.ListN.{length, take, drop, length-drop, length-append}
 use lib.Seq.{take-append_seam}
-use Rattle.spec.specs.Base.{if◌then◌else◌, same, joined, every}
+use Rattle.std.specs.Prelude.{if◌then◌else◌}
+use Rattle.spec.specs.Base.{same, joined, every}
 use Rattle.spec.specs.Words.{AllBytes}
 use Rattle.spec.specs.Grammar.{Item, row, operand, enumerant, parameter, broken, items, start, rules_from}
 use Rattle.spec.specs.Builtin.{item_bytes}

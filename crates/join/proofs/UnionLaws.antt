@@ -8,7 +8,8 @@ use native.Mathlib.Omega.{arith}
 use borrow.Author.Tests.{eq-eqb, ne_eqb, eqb-true, eqb-false}
 use lib.Dec.{leb, eqb}
 use lib.ListN.{length}
-use Rattle.spec.specs.Base.{if◌then◌else◌, has, or_else, joined, every, implies}
+use Rattle.std.specs.Prelude.{if◌then◌else◌}
+use Rattle.spec.specs.Base.{has, or_else, joined, every, implies}
 use Rattle.spec.specs.Words.{AllBytes}
 use Rattle.spec.specs.Kinds.{is_enum}
 use Rattle.spec.specs.Grammar.{Item, row, operand, enumerant, parameter, broken, items, Slot, slot, start, rules_from, Enumerant, slots_of, parameters_of, rows_of, enumerants_of, grammar_by, grammar_of, parameterless, all_flat, well_formed_items, well_formed, row_of, listed}

@@ -1,8 +1,7 @@
 -- What an accepted joining made: what the laws of joining in any order speak of.
-use Rattle.std.specs.Prelude.{ℕ, List, eqb, take}
+use Rattle.std.specs.Prelude.{ℕ, List, eqb, take, if◌then◌else◌}
 use Rattle.std.proofs.Math.Option.{Option, none, some}
 use Rattle.spec.specs.declared.Joined.{Joined}
-use Rattle.spec.specs.Base.{if◌then◌else◌}
 use Rattle.spec.specs.Join.{Joining}
 
 -- the grammar that stands in an output after an answer: so many bytes, where the number is 0

@@ -1,7 +1,6 @@
 -- The walk over two grammars, lowest piece first: what holds where a piece ends, after each step, and at the end.
-use Rattle.std.specs.Prelude.{ℕ, ◌+◌, ◌-◌, ◌≤◌, ◌<◌, ◌≡◌, Bool, true, false, ◌&&◌, List, ◌∷◌, ◌++◌, ltb, length, take, drop}
+use Rattle.std.specs.Prelude.{ℕ, ◌+◌, ◌-◌, ◌≤◌, ◌<◌, ◌≡◌, Bool, true, false, ◌&&◌, List, ◌∷◌, ◌++◌, ltb, length, take, drop, if◌then◌else◌}
 use Rattle.std.proofs.Math.Option.{none, some}
-use Rattle.spec.specs.Base.{if◌then◌else◌}
 use Rattle.spec.specs.Grammar.{Item, row, operand, enumerant, parameter, broken, items, start, rules_from, enumerants_of}
 use Rattle.spec.specs.declared.Joined.{Joined}
 use Rattle.spec.specs.Join.{Piece, pieces, piece_bytes, clash, union, Joining}

@@ -1,11 +1,10 @@
 -- The answers as the words that a caller is lent, what each call answers and leaves, and a store that bytes are put into where they fit.
-use Rattle.std.specs.Prelude.{ℕ, ◌/◌, ◌%◌, ◌≡◌, List, [], ◌∷◌, leb, length, get_or}
+use Rattle.std.specs.Prelude.{ℕ, ◌/◌, ◌%◌, ◌≡◌, List, [], ◌∷◌, leb, length, get_or, if◌then◌else◌}
 use Rattle.spec.specs.declared.Loaded.{Loaded}
 use Rattle.spec.specs.declared.Written.{Written}
 use Rattle.spec.specs.declared.Stands.{Stands}
 use Rattle.spec.specs.declared.Turned.{Turned}
 use Rattle.spec.specs.declared.Joined.{Joined}
-use Rattle.spec.specs.Base.{if◌then◌else◌}
 use Rattle.spec.specs.Words.{AllBytes}
 use Rattle.spec.specs.Load.{Stores, stores_of, laid_over, laid_on}
 use Rattle.spec.specs.Write.{Writing}

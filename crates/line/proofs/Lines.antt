@@ -9,7 +9,8 @@ use borrow.Author.Tests.{eqb-true, eqb-false, ne_eqb, ltb-true, ltb-false, lt-lt
 use lib.Dec.{leb, ltb, eqb}
 use lib.ListN.{length, take, drop, get_or}
 use Rattle.spec.specs.declared.Fields.{Fields}
-use Rattle.spec.specs.Base.{if◌then◌else◌, has, or_zero, and_then, ascii}
+use Rattle.std.specs.Prelude.{if◌then◌else◌}
+use Rattle.spec.specs.Base.{has, or_zero, and_then, ascii}
 use Rattle.spec.specs.Words.{four_at}
 use Rattle.spec.specs.Kinds.{is_long}
 use Rattle.spec.specs.Names.{name_of}

@@ -1,7 +1,6 @@
 -- The name of an extended instruction.
-use Rattle.std.specs.Prelude.{ℕ, ◌&&◌, List, eqb}
+use Rattle.std.specs.Prelude.{ℕ, ◌&&◌, List, eqb, if◌then◌else◌}
 use Rattle.std.proofs.Math.Option.{Option, none}
-use Rattle.spec.specs.Base.{if◌then◌else◌}
 use Rattle.spec.specs.Records.{Placed}
 use Rattle.spec.specs.Write.{has_tag}
 use Rattle.spec.specs.Disassembly.{ext_name}

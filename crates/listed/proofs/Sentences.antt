@@ -12,7 +12,8 @@ use lib.ListN.{length, get_or, drop, length-append}
 use lib.Seq.{drop-drop}
 use Rattle.spec.specs.declared.Fields.{Fields}
 use Rattle.spec.specs.declared.Loaded.{Loaded}
-use Rattle.spec.specs.Base.{if◌then◌else◌, every}
+use Rattle.std.specs.Prelude.{if◌then◌else◌}
+use Rattle.spec.specs.Base.{every}
 use Rattle.spec.specs.Words.{major, minor}
 use Rattle.spec.specs.Records.{Placed, record_size, fields_at}
 use Rattle.spec.specs.Listing.{numbers_line, version_line, module_line, record_lines, accepted_line, refused_line, last_line}

@@ -6,7 +6,7 @@ ghost use Rattle.spec.specs.Base.{every};
 ghost use Rattle.spec.specs.Records.{record_size};
 ghost use Rattle.spec.specs.Load.{laid_over};
 ghost use Rattle.spec.specs.Listing.{version_line, module_line, accepted_line, refused_line, last_line};
-ghost use Rattle.spec.specs.Listing.{listing as listingOf};
+ghost use Rattle.spec.specs.Listing.{listing as listing_of};
 ghost use Rattle.texts.specs.Wrote.{Wrote};
 ghost use Rattle.listed.specs.Lines.{number_then, record_line, lines_of};
 
@@ -148,8 +148,8 @@ fn load_text(out: &mut [u8], instructions: &[u32], l: Loaded) -> usize
 // The listing of a module of at most 4,096 bytes, or "too long": its length, and its text at the start of the buffer.
 pub fn listing(module: &[u8], out: &mut [u8]) -> usize
     requires { 107142 ≤ length out.old }
-    ensures value { result ≡ length (listingOf «module».now) }
-    ensures out_after { out.new ≡ laid_over out.old (listingOf «module».now) }
+    ensures value { result ≡ length (listing_of «module».now) }
+    ensures out_after { out.new ≡ laid_over out.old (listing_of «module».now) }
 {
     if 4096 < module.len() {
         return put_text(out, 0, b"too long\n");

@@ -18,7 +18,8 @@ use Rattle.spec.specs.declared.Counts.{Counts}
 use Rattle.spec.specs.declared.Loaded.{Loaded}
 use Rattle.spec.specs.declared.Fields.{Fields}
 use Rattle.spec.specs.declared.Numbers.{Numbers}
-use Rattle.spec.specs.Base.{if◌then◌else◌, has, joined}
+use Rattle.std.specs.Prelude.{if◌then◌else◌}
+use Rattle.spec.specs.Base.{has, joined}
 use Rattle.spec.specs.Numbers.{no_numbers}
 use Rattle.spec.specs.Records.{Instr, Placed, Entry, entry_words, operands_log, operands_strings, record_size, entry_size, fields_of, fields_from, record_words, records_with, numbered, instruction_store, log_from, string_store}
 use Rattle.spec.specs.Reader.{got, refusal, reader_at}

@@ -162,11 +162,12 @@ fn load_with(
 //
 // All that a load works with lies in the frame of one of the next two functions, which differ in their hints alone. They are two because
 // a frame has room for everything that its function declares, whichever branch is taken: one function for both would have a short
-// module pay for the long hints. The compiler keeps them apart from their callers because each is called from two places and, with
-// its tables, is too long to be put in line there; tools/stack sees to it that this stays so. Scratch and spare are lent from here
-// too: as locals of `load_from` they would be copied from by a call, which for a few bytes takes longer than a loop.
+// module pay for the long hints. The compiler is told to keep them apart from their callers, and tools/stack sees to it that it does.
+// Scratch and spare are lent from here too: as locals of `load_from` they would be copied from by a call, which for a few bytes takes
+// longer than a loop.
 
 // A load of a short module: a long table of hints would take more time to clear than it saves.
+#[inline(never)]
 pub fn load_few(
     s: &[u8],
     g: &[u8],
@@ -203,6 +204,7 @@ pub fn load_few(
 }
 
 // A load of any module.
+#[inline(never)]
 pub fn load_many(
     s: &[u8],
     g: &[u8],

@@ -8,7 +8,7 @@ use lib.Dec.{eqb}
 use lib.ListN.{length}
 use Rattle.spec.specs.declared.Fields.{Fields}
 use Rattle.spec.specs.declared.Numbers.{Numbers}
-use Rattle.spec.specs.Base.{if◌then◌else◌}
+use Rattle.std.specs.Prelude.{if◌then◌else◌}
 use Rattle.spec.specs.Numbers.{in_function, no_numbers, onward, numbers_of, numbers_from}
 use Rattle.spec.specs.Records.{record_words, records_with, called_for, numbered}
 use Rattle.demands.proofs.Stores.{called_length}

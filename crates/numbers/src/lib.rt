@@ -2,7 +2,7 @@
 #![tactic(auto)]
 
 ghost use Rattle.std.specs.Prelude.{◌≡◌, ◌<◌};
-ghost use Rattle.spec.specs.Numbers.{in_function, onward as onwardBy, numbers_of};
+ghost use Rattle.spec.specs.Numbers.{in_function, onward as onward_by, numbers_of};
 ghost use Rattle.numbers.specs.Counting.{step_of};
 
 use spec::{Numbers, tags};
@@ -24,7 +24,7 @@ fn in_function(function: u32) -> Numbers
 // How many functions have begun, and how many blocks of the last of them, with a record of a tag more.
 fn onward(tag: u32, n: Numbers) -> Numbers
     requires { (n.function < 4294967295) × (n.block < 4294967295) }
-    ensures { result ≡ onwardBy tag n }
+    ensures { result ≡ onward_by tag n }
 {
     if tag == tags::FUNCTION {
         let function = n.function + 1;

@@ -13,7 +13,7 @@ use Rattle.spec.specs.declared.Found.TheVariants.{At, Nothing}
 use Rattle.spec.specs.declared.Limit.{Limit}
 use Rattle.spec.specs.declared.Limit.TheVariants.{Unlimited, Words}
 use Rattle.spec.specs.declared.Refusal.{Refusal}
-use Rattle.spec.specs.Base.{if◌then◌else◌}
+use Rattle.std.specs.Prelude.{if◌then◌else◌}
 use Rattle.spec.specs.Grammar.{Slot, row_of, grammar_of}
 use Rattle.spec.specs.Records.{Operand, Instr, Entry}
 use Rattle.spec.specs.Reader.{Reader, Read, got, refused, after, refuse, refusal, reached, read_word, reader_at}

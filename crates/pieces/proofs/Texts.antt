@@ -10,7 +10,8 @@ use borrow.Author.Tests.{eqb-true, eq-eqb, ne_eqb}
 use lib.Dec.{leb, eqb}
 use lib.ListN.{length, take, drop, get_or, drop_of_length-le}
 use lib.Seq.{drop-cons}
-use Rattle.spec.specs.Base.{if◌then◌else◌, joined, ascii}
+use Rattle.std.specs.Prelude.{if◌then◌else◌}
+use Rattle.spec.specs.Base.{joined, ascii}
 use Rattle.spec.specs.Words.{four_at, bits_from, bits_of}
 use Rattle.spec.specs.Digits.{decimal, hex_digits}
 use Rattle.spec.specs.Kinds.{is_mask, is_long, is_text}

@@ -1,7 +1,7 @@
 -- Text placed in an output: the room it needs, and what was written or only measured; and pieces of text that the code makes one by one.
-use Rattle.std.specs.Prelude.{ℕ, ◌+◌, ◌<◌, ◌≤◌, min, ◌≡◌, Bool, true, false, not, ◌&&◌, List, [], ◌++◌, eqb, length}
+use Rattle.std.specs.Prelude.{ℕ, ◌+◌, ◌<◌, ◌≤◌, min, ◌≡◌, Bool, true, false, not, ◌&&◌, List, [], ◌++◌, eqb, length, if◌then◌else◌}
 use Rattle.std.proofs.Math.Option.{Option, none, some}
-use Rattle.spec.specs.Base.{if◌then◌else◌, joined, ascii}
+use Rattle.spec.specs.Base.{joined, ascii}
 use Rattle.spec.specs.Kinds.{is_mask}
 use Rattle.spec.specs.Names.{name_of}
 use Rattle.spec.specs.Disassembly.{id_text, is_there, name_text, barred}

@@ -66,7 +66,7 @@ use Rattle.room.proofs.room_in as room-in-call
 use Rattle.room.proofs.room_fault as room-fault-call
 use Rattle.steps.proofs.end_number as end-number-call
 use Rattle.steps.proofs.no_instruction as no-instruction-call
-use Rattle.steps.proofs.stopped as stopped_call
+use Rattle.steps.proofs.stopped as stopped-call
 use Rattle.steps.proofs.admit as admit-call
 use Rattle.steps.proofs.keep_operands as keep-operands-call
 use Rattle.words.proofs.put_word as put-word-call
@@ -93,7 +93,7 @@ use Rattle.pieces.proofs.put_number as put-number-call
 use Rattle.pieces.proofs.put_id as put-id-call
 use Rattle.pieces.proofs.put_name as put-name-call
 use Rattle.pieces.proofs.put_operands as put-operands-call
-use Rattle.pieces.proofs.after as after_call
+use Rattle.pieces.proofs.after as after-call
 use Rattle.pieces.proofs.has_bits as has-bits-call
 use Rattle.pieces.proofs.set_of_kind as set-of-kind-call
 use Rattle.imports.proofs.set_of as set-of-call
@@ -317,7 +317,7 @@ end_number = λ κs a x y after other ask p q. (both p q, refl)
 pub no_instruction : Determined no-instruction-call.Kinds.ps no-instruction-call.Kinds.r no-instruction-call.Reads.Asked no-instruction-call.Reads.Learnt
 no_instruction = λ κs a x y after other ask p q. (both p q, refl)
 
-pub stopped : Determined stopped_call.Kinds.ps stopped_call.Kinds.r stopped_call.Reads.Asked stopped_call.Reads.Learnt
+pub stopped : Determined stopped-call.Kinds.ps stopped-call.Kinds.r stopped-call.Reads.Asked stopped-call.Reads.Learnt
 stopped = λ κs a x y after other ask p q. (both p q, refl)
 
 -- what becomes of an instruction
@@ -420,7 +420,7 @@ pub put_operands : Determined put-operands-call.Kinds.ps put-operands-call.Kinds
 put_operands = λ κs a x y after other ask p q. (both p.place q.place, and refl (and refl (and refl (and refl (and refl (and refl (and (both p.stored q.stored) refl)))))))
 
 -- the place after an operand
-pub operand_after : Determined after_call.Kinds.ps after_call.Kinds.r after_call.Reads.Asked after_call.Reads.Learnt
+pub operand_after : Determined after-call.Kinds.ps after-call.Kinds.r after-call.Reads.Asked after-call.Reads.Learnt
 operand_after = λ κs a x y after other ask p q. (both p q, refl)
 
 -- whether a value's text is that of its bits, and the set that it is named in

@@ -9,7 +9,8 @@ use lib.ListN.{length, get_or}
 use lib.Seq.{take_at}
 use Rattle.spec.specs.declared.Loaded.{Loaded}
 use Rattle.spec.specs.declared.Written.{Written}
-use Rattle.spec.specs.Base.{joined, if◌then◌else◌}
+use Rattle.std.specs.Prelude.{if◌then◌else◌}
+use Rattle.spec.specs.Base.{joined}
 use Rattle.spec.specs.Records.{Placed, record_size, instruction_store, log_from, string_store, entry_size, entry_words}
 use Rattle.spec.specs.Load.{Outcome, load, Stores, stores_of, room_in}
 use Rattle.spec.specs.Check.{Checked, bad, good}

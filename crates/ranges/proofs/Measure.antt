@@ -11,7 +11,8 @@ use lib.ListN.{length, take, drop, take-append-drop, length-append}
 use Rattle.spec.specs.declared.Fields.{Fields}
 use Rattle.spec.specs.declared.State.{State}
 use Rattle.spec.specs.declared.State.TheVariants.{Outside, Function, Block}
-use Rattle.spec.specs.Base.{if◌then◌else◌, within, only}
+use Rattle.std.specs.Prelude.{if◌then◌else◌}
+use Rattle.spec.specs.Base.{within, only}
 use Rattle.spec.specs.Records.{Placed, record_size}
 use Rattle.spec.specs.Check.{scan_of, checked_by, check}
 use Rattle.spec.specs.Write.{bytes_of_all, has_tag, section_of, parameters_in, functions, module_order}

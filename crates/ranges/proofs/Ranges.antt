@@ -9,7 +9,7 @@ use lib.Dec.{eqb}
 use lib.ListN.{length, take, drop, get_or, set, replicate, get_or-replicate, length-append, drop_of_length-le}
 use lib.Seq.{drop-append-le, drop-append_seam, take-add, take_all, length-take-le, get_or-set_same, get_or-set_other}
 use Rattle.spec.specs.declared.Fields.{Fields}
-use Rattle.spec.specs.Base.{if◌then◌else◌}
+use Rattle.std.specs.Prelude.{if◌then◌else◌}
 use Rattle.spec.specs.Records.{Placed}
 use Rattle.spec.specs.Check.{placed_of}
 use Rattle.spec.specs.Write.{section_of}

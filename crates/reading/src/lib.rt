@@ -11,7 +11,7 @@ pub fn read_full<R: Read>(reader: &mut R, buf: &mut [u8]) -> io::Result<usize>
     ensures { IfOk result (λ n. n ≤ length buf.new) }
 {
     let mut n = 0;
-    for _ in 0..u64::MAX {
+    while n < buf.len() {
         let more = reader.read(&mut buf[n..])?;
         if more == 0 {
             break;

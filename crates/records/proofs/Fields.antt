@@ -17,7 +17,8 @@ use Rattle.spec.specs.declared.Fields.{Fields}
 use Rattle.spec.specs.declared.Numbers.{Numbers}
 use Rattle.spec.specs.declared.Found.{Found}
 use Rattle.spec.specs.declared.Found.TheVariants.{At, Nothing}
-use Rattle.spec.specs.Base.{if◌then◌else◌, every}
+use Rattle.std.specs.Prelude.{if◌then◌else◌}
+use Rattle.spec.specs.Base.{every}
 use Rattle.spec.specs.Text.{until_zero, is_utf8}
 use Rattle.spec.specs.Records.{field_words, fields_at, record_words}
 use Rattle.spec.specs.Layout.{layout_of}

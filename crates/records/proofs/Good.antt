@@ -10,7 +10,8 @@ use lib.Dec.{eqb}
 use lib.ListN.{length, take, drop, get_or, length-drop, length-take}
 use lib.Seq.{drop-nil, drop-drop}
 use Rattle.spec.specs.declared.Fields.{Fields}
-use Rattle.spec.specs.Base.{if◌then◌else◌, has}
+use Rattle.std.specs.Prelude.{if◌then◌else◌}
+use Rattle.spec.specs.Base.{has}
 use Rattle.spec.specs.Kinds.{is_long}
 use Rattle.spec.specs.Records.{Placed, record_size, fields_at}
 use Rattle.spec.specs.Check.{Given, records_of, missing, fields_good, fields_fault, Left, records_in, scan_of, fault_of, check, checked_by, good, bad}

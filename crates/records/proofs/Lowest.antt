@@ -13,7 +13,8 @@ use Rattle.spec.specs.declared.State.{State}
 use Rattle.spec.specs.declared.Cell.{Cell}
 use Rattle.spec.specs.declared.Cell.TheVariants.{Tagged, Refuses}
 use Rattle.spec.specs.declared.Fields.{Fields}
-use Rattle.spec.specs.Base.{if◌then◌else◌, implies}
+use Rattle.std.specs.Prelude.{if◌then◌else◌}
+use Rattle.spec.specs.Base.{implies}
 use Rattle.spec.specs.Layout.{layout_of, end_number}
 use Rattle.spec.specs.Records.{Placed}
 use Rattle.spec.specs.Check.{lower, fields_good, fields_fault, Left, take_record, Scan, on_record, scan_from, on_tag, tags_fault}

@@ -11,7 +11,8 @@ use lib.Dec.{leb, eqb}
 use lib.ListN.{length, take, drop, get_or, length-drop}
 use lib.Seq.{get_or-drop, drop-drop, length-take-le}
 use Rattle.spec.specs.declared.Fields.{Fields}
-use Rattle.spec.specs.Base.{if◌then◌else◌, has, and_then}
+use Rattle.std.specs.Prelude.{if◌then◌else◌}
+use Rattle.spec.specs.Base.{has, and_then}
 use Rattle.spec.specs.Words.{four_at, long}
 use Rattle.spec.specs.Text.{text_words}
 use Rattle.spec.specs.Kinds.{is_logged, is_long, is_text}

@@ -15,7 +15,7 @@ use Rattle.spec.specs.declared.State.TheVariants.{Outside}
 use Rattle.spec.specs.declared.Cell.{Cell}
 use Rattle.spec.specs.declared.Cell.TheVariants.{Tagged, Refuses}
 use Rattle.spec.specs.declared.Fields.{Fields}
-use Rattle.spec.specs.Base.{if◌then◌else◌}
+use Rattle.std.specs.Prelude.{if◌then◌else◌}
 use Rattle.spec.specs.Records.{Placed, field_size, fields_at}
 use Rattle.spec.specs.Layout.{layout_of, end_number}
 use Rattle.spec.specs.Check.{lower, records_of, missing, fields_good, fields_fault, Left, take_record, on_record, scan_from, on_tag, tags_fault, fault_of}

@@ -1,12 +1,12 @@
 -- The check as one pass over the records: what each of its three steps answers for a record, by the definitions of spec/Check.
-use Rattle.std.specs.Prelude.{ℕ, ◌+◌, ◌*◌, ◌%◌, Bool, true, false, not, ◌&&◌, List, leb, ltb, eqb, length, take, drop}
+use Rattle.std.specs.Prelude.{ℕ, ◌+◌, ◌*◌, ◌%◌, Bool, true, false, not, ◌&&◌, List, leb, ltb, eqb, length, take, drop, if◌then◌else◌}
 use Rattle.std.proofs.Math.Option.{Option, none, some}
 use Rattle.spec.specs.declared.State.{State}
 use Rattle.spec.specs.declared.State.TheVariants.{Outside}
 use Rattle.spec.specs.declared.Cell.{Cell}
 use Rattle.spec.specs.declared.Cell.TheVariants.{Tagged, Refuses}
 use Rattle.spec.specs.declared.Fields.{Fields}
-use Rattle.spec.specs.Base.{if◌then◌else◌, implies, has, every}
+use Rattle.spec.specs.Base.{implies, has, every}
 use Rattle.spec.specs.Text.{is_utf8, text_words}
 use Rattle.spec.specs.Records.{Operand, operand_size, operands_size}
 use Rattle.spec.specs.Layout.{layout_of, end_number}

@@ -8,7 +8,8 @@ use native.Mathlib.Nat.{zero-add, add-zero, add-suc, suc-add}
 use lib.Dec.{T, eqb, eqb→eq}
 use lib.ListN.{length, get_or}
 use mir.Facts.{and_yes}
-use Rattle.spec.specs.Base.{if◌then◌else◌, is_in, every}
+use Rattle.std.specs.Prelude.{if◌then◌else◌}
+use Rattle.spec.specs.Base.{is_in, every}
 use Rattle.spec.specs.declared.State.{State}
 use Rattle.spec.specs.declared.State.TheVariants.{Outside, Function, Block}
 use Rattle.spec.specs.declared.Cell.{Cell}

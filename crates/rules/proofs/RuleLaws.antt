@@ -12,7 +12,8 @@ use lib.Dec.{leb, eqb}
 use lib.ListN.{length, get_or}
 use lib.Pow.{shr_lt}
 use lib.Count.{ones, ones_step}
-use Rattle.spec.specs.Base.{if◌then◌else◌, implies}
+use Rattle.std.specs.Prelude.{if◌then◌else◌}
+use Rattle.spec.specs.Base.{implies}
 use Rattle.spec.specs.Words.{bits_from, bits_of}
 use Rattle.spec.specs.Kinds.{is_result, may_be_operand}
 use Rattle.spec.specs.Grammar.{Slot, slot, is_slot, is_first, after_type, typed, selects, result_rule, literal_rule, fixed_row, fixed_next, operand_rule}

@@ -1,6 +1,6 @@
 -- What the check keeps of a row's operands, and the kinds and rows that most rules pass by.
-use Rattle.std.specs.Prelude.{ℕ, ◌+◌, Bool, true, not, ◌&&◌, ◌||◌, List, [], ◌∷◌, leb, ltb, eqb}
-use Rattle.spec.specs.Base.{if◌then◌else◌, within}
+use Rattle.std.specs.Prelude.{ℕ, ◌+◌, Bool, true, not, ◌&&◌, ◌||◌, List, [], ◌∷◌, leb, ltb, eqb, if◌then◌else◌}
+use Rattle.spec.specs.Base.{within}
 use Rattle.spec.specs.Kinds.{is_result, may_be_parameter}
 use Rattle.spec.specs.Grammar.{Slot, slot, is_slot, typed, rises}
 use Rattle.rules.specs.declared.rules.Passed.{Passed}

@@ -7,7 +7,7 @@ use mathlib.Core.Option.{some}
 use native.Mathlib.Omega.{arith}
 use lib.Dec.{eqb}
 use lib.ListN.{length}
-use Rattle.spec.specs.Base.{if◌then◌else◌}
+use Rattle.std.specs.Prelude.{if◌then◌else◌}
 use Rattle.spec.specs.Kinds.{is_result}
 use Rattle.spec.proofs.Choice.{fails, either, in_range}
 use Rattle.spec.specs.Records.{Operand, Entry}

@@ -9,7 +9,7 @@ use borrow.Author.Tests.{eqb-true, eqb-false}
 use lib.Dec.{ltb, eqb}
 use lib.ListN.{length, take, drop, length-drop, length-take}
 use lib.Seq.{drop-drop}
-use Rattle.spec.specs.Base.{if◌then◌else◌}
+use Rattle.std.specs.Prelude.{if◌then◌else◌}
 use Rattle.spec.specs.Words.{four_at}
 use Rattle.spec.specs.Text.{text_words, not_zero, text_break}
 use Rattle.spec.specs.Records.{Operand, narrow, wide, text, Instr, Placed, operand_size, operands_size}

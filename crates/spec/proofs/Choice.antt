@@ -5,7 +5,8 @@ use mathlib.Core.Bool.{Bool, true, false, ◌&&◌, ◌||◌, and-eq-true_iff, t
 use mathlib.Core.Option.{Option, none, some}
 use borrow.Author.Tests.{leb-true}
 use lib.Dec.{leb}
-use Rattle.spec.specs.Base.{if◌then◌else◌, implies, within, and_then}
+use Rattle.std.specs.Prelude.{if◌then◌else◌}
+use Rattle.spec.specs.Base.{implies, within, and_then}
 
 -- the first of two tests that both hold
 pub left : (a b : Bool) → (a && b) ≡ true → a ≡ true

@@ -12,7 +12,8 @@ use Rattle.spec.specs.declared.State.TheVariants.{Outside}
 use Rattle.spec.specs.declared.Cell.{Cell}
 use Rattle.spec.specs.declared.Cell.TheVariants.{Tagged, Refuses}
 use Rattle.spec.specs.declared.Fields.{Fields}
-use Rattle.spec.specs.Base.{if◌then◌else◌, implies}
+use Rattle.std.specs.Prelude.{if◌then◌else◌}
+use Rattle.spec.specs.Base.{implies}
 use Rattle.spec.specs.Records.{Operand, Placed}
 use Rattle.spec.specs.Layout.{layout_of}
 use Rattle.spec.specs.Check.{Given, lower, missing, bits_in, fields_good, fields_fault, Left, take_operands, placed_of, words_good, take_record, Scan, on_record, scan_from, on_tag, tags_fault, records_in, scan_of, fault_of, good, checked_by, check}

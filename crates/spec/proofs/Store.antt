@@ -17,10 +17,10 @@ module _ {A : Type 0} where
       ∙ sets_append a b (set l i x) (suc i)
 
   -- what stands before the run stays
-  pub get_d_sets_before : (vs l : List A) (i k : ℕ) (d : A) → k < i → get_or (sets l i vs) k d ≡ get_or l k d
-  get_d_sets_before [] l i k d h = refl
-  get_d_sets_before (x ∷ vs) l i k d h =
-      get_d_sets_before vs (set l i x) (suc i) k d (omega arith) ∙ get_or-set_other l i k x d (λ e. omega arith)
+  pub get_or_sets_before : (vs l : List A) (i k : ℕ) (d : A) → k < i → get_or (sets l i vs) k d ≡ get_or l k d
+  get_or_sets_before [] l i k d h = refl
+  get_or_sets_before (x ∷ vs) l i k d h =
+      get_or_sets_before vs (set l i x) (suc i) k d (omega arith) ∙ get_or-set_other l i k x d (λ e. omega arith)
 
   -- so does the part before it
   pub take_sets : (vs l : List A) (i n : ℕ) → n ≤ i → take n (sets l i vs) ≡ take n l
@@ -33,14 +33,14 @@ module _ {A : Type 0} where
   drop_sets (x ∷ vs) l i n h = drop_sets vs (set l i x) (suc i) n (omega arith) ∙ drop-set-lt n l i x (omega arith)
 
   -- in the run stand its elements
-  pub get_d_sets : (l : List A) (i : ℕ) (vs : List A) (k : ℕ) (d : A) → i + length vs ≤ length l → k < length vs
+  pub get_or_sets : (l : List A) (i : ℕ) (vs : List A) (k : ℕ) (d : A) → i + length vs ≤ length l → k < length vs
       → get_or (sets l i vs) (i + k) d ≡ get_or vs k d
-  get_d_sets l i [] k d h hk = absurd (omega arith)
-  get_d_sets l i (x ∷ vs) zero d h hk =
-      rw add-zero (get_d_sets_before vs (set l i x) (suc i) i d (omega arith) ∙ get_or-set_same l i x d (omega arith))
-  get_d_sets l i (x ∷ vs) (suc k) d h hk =
+  get_or_sets l i [] k d h hk = absurd (omega arith)
+  get_or_sets l i (x ∷ vs) zero d h hk =
+      rw add-zero (get_or_sets_before vs (set l i x) (suc i) i d (omega arith) ∙ get_or-set_same l i x d (omega arith))
+  get_or_sets l i (x ∷ vs) (suc k) d h hk =
       ap (λ (j : ℕ). get_or (sets (set l i x) (suc i) vs) j d) (add-suc i k ∙ sym (suc-add i k))
-      ∙ get_d_sets (set l i x) (suc i) vs k d (simp length-set (omega arith)) (omega arith)
+      ∙ get_or_sets (set l i x) (suc i) vs k d (simp length-set (omega arith)) (omega arith)
 
   -- a run of stores into the rest of a list is a run of stores into the list
   pub sets_rest : (b l : List A) (a j : ℕ) → take a l ++ sets (drop a l) j b ≡ sets l (a + j) b

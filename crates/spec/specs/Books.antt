@@ -1,10 +1,10 @@
 -- Last season's books: records of eight words turned into records of ten, and back. "Only the instruction store is turned, into a second
 -- buffer"; log, strings and counts are looked at alone.
-use Rattle.std.specs.Prelude.{ℕ, suc, ◌+◌, ◌/◌, Bool, false, ◌&&◌, List, [], ◌∷◌, ltb, eqb, length, drop, get_or}
+use Rattle.std.specs.Prelude.{ℕ, suc, ◌+◌, ◌/◌, Bool, false, ◌&&◌, List, [], ◌∷◌, ltb, eqb, length, drop, get_or, if◌then◌else◌}
 use Rattle.std.proofs.Math.Option.{Option, none, some}
 use Rattle.spec.specs.declared.Numbers.{Numbers}
 use Rattle.spec.specs.declared.Turned.{Turned}
-use Rattle.spec.specs.Base.{if◌then◌else◌, joined}
+use Rattle.spec.specs.Base.{joined}
 use Rattle.spec.specs.Records.{field_size, field_words, record_size, called_for, numbered}
 use Rattle.spec.specs.Load.{laid_over}
 use Rattle.spec.specs.Check.{Given, records_in, fault_of}

@@ -3,7 +3,7 @@
 -- Three folds over the records, each with its own running state, name the first record that each finds bad. A record is bad when one
 -- of them finds it so, and each judges it by itself and the records before it: so the first bad record is the lowest that they name.
 -- How many words a record has is a number that the check is given; `record_size` is that of the records that a load keeps.
-use Rattle.std.specs.Prelude.{ℕ, zero, suc, ◌+◌, ◌*◌, ◌/◌, ◌%◌, Bool, true, false, not, ◌&&◌, ◌||◌, List, [], ◌∷◌, leb, ltb, eqb, length, take, drop, get_or}
+use Rattle.std.specs.Prelude.{ℕ, zero, suc, ◌+◌, ◌*◌, ◌/◌, ◌%◌, Bool, true, false, not, ◌&&◌, ◌||◌, List, [], ◌∷◌, leb, ltb, eqb, length, take, drop, get_or, if◌then◌else◌}
 use Rattle.std.proofs.Math.Option.{Option, none, some}
 use Rattle.spec.specs.declared.State.{State}
 use Rattle.spec.specs.declared.State.TheVariants.{Outside}
@@ -11,7 +11,7 @@ use Rattle.spec.specs.declared.Cell.{Cell}
 use Rattle.spec.specs.declared.Cell.TheVariants.{Tagged, Refuses}
 use Rattle.spec.specs.declared.Fields.{Fields}
 use Rattle.spec.specs.declared.Counts.{Counts}
-use Rattle.spec.specs.Base.{if◌then◌else◌, implies, has, every, and_then as ◌>>=◌}
+use Rattle.spec.specs.Base.{implies, has, every, and_then as ◌>>=◌}
 use Rattle.spec.specs.Words.{four_at, long}
 use Rattle.spec.specs.Text.{is_utf8}
 use Rattle.spec.specs.Kinds.{is_logged, is_long, is_text}

@@ -2,9 +2,9 @@
 --
 -- Names come from the table of names alone (`name_of`). An instruction that lacks one is refused before any text is made, so that the
 -- text need not say what stands there: a name that is missing is left out.
-use Rattle.std.specs.Prelude.{ℕ, suc, ◌≡◌, refl, Bool, true, false, ◌&&◌, ◌||◌, List, [], ◌∷◌, ◌++◌, eqb, take, drop, get_or}
+use Rattle.std.specs.Prelude.{ℕ, suc, ◌≡◌, refl, Bool, true, false, ◌&&◌, ◌||◌, List, [], ◌∷◌, ◌++◌, eqb, take, drop, get_or, if◌then◌else◌}
 use Rattle.std.proofs.Math.Option.{Option, none, some}
-use Rattle.spec.specs.Base.{if◌then◌else◌, within, is_in, has, and_then as ◌>>=◌, or_else, same, joined, every, ascii}
+use Rattle.spec.specs.Base.{within, is_in, has, and_then as ◌>>=◌, or_else, same, joined, every, ascii}
 use Rattle.spec.specs.Words.{major, minor, bits_from, bits_of}
 use Rattle.spec.specs.Digits.{digits_from, decimal, hex_digit, hex_digits}
 use Rattle.spec.specs.Kinds.{is_mask}

@@ -1,9 +1,9 @@
 -- The fourteen fittings: one table, one statement, computed with the built-in grammar.
-use Rattle.std.specs.Prelude.{ℕ, ◌-◌, ◌/◌, ◌≡◌, refl, Bool, true, false, List, [], ◌∷◌, ◌++◌, length, take}
+use Rattle.std.specs.Prelude.{ℕ, ◌-◌, ◌/◌, ◌≡◌, refl, Bool, true, false, List, [], ◌∷◌, ◌++◌, length, take, if◌then◌else◌}
 use Rattle.std.proofs.Common.{ap, ◌∙◌}
 use Rattle.spec.specs.declared.Counts.{Counts}
 use Rattle.spec.specs.declared.Loaded.{Loaded}
-use Rattle.spec.specs.Base.{if◌then◌else◌, joined, ascii}
+use Rattle.spec.specs.Base.{joined, ascii}
 use Rattle.spec.specs.Words
 use Rattle.spec.specs.Words.{bytes_of}
 use Rattle.spec.specs.Text

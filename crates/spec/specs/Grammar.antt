@@ -1,7 +1,7 @@
 -- A grammar's bytes as items, the rules that make it well-formed, and its rows and enumerants.
-use Rattle.std.specs.Prelude.{ℕ, zero, suc, ◌+◌, ◌*◌, Bool, true, false, not, ◌&&◌, ◌||◌, List, [], ◌∷◌, ◌++◌, leb, ltb, eqb, length, get_or}
+use Rattle.std.specs.Prelude.{ℕ, zero, suc, ◌+◌, ◌*◌, Bool, true, false, not, ◌&&◌, ◌||◌, List, [], ◌∷◌, ◌++◌, leb, ltb, eqb, length, get_or, if◌then◌else◌}
 use Rattle.std.proofs.Math.Option.{Option, none, some}
-use Rattle.spec.specs.Base.{if◌then◌else◌, implies, has, every}
+use Rattle.spec.specs.Base.{implies, has, every}
 use Rattle.spec.specs.Words.{four_at, bits_of}
 use Rattle.spec.specs.Kinds.{is_mask, is_enum, may_be_operand, may_be_parameter, is_result}
 

@@ -1,7 +1,6 @@
 -- The header: "magic 07230203, version, generator, bound, reserved. The five header words come back together, by value."
-use Rattle.std.specs.Prelude.{ℕ, ◌*◌, ◌/◌, List, [], ◌∷◌, ltb, eqb, length, take}
+use Rattle.std.specs.Prelude.{ℕ, ◌*◌, ◌/◌, List, [], ◌∷◌, ltb, eqb, length, take, if◌then◌else◌}
 use Rattle.spec.specs.declared.HeaderRead.{HeaderRead}
-use Rattle.spec.specs.Base.{if◌then◌else◌}
 use Rattle.spec.specs.Words.{words_of}
 use Rattle.spec.specs.Reader.{refusal}
 

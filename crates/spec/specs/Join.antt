@@ -1,8 +1,8 @@
 -- Two grammars joined into one: their rows and enumerants in document 01's layout, those that are in both taken once.
-use Rattle.std.specs.Prelude.{ℕ, ◌+◌, ◌*◌, ◌/◌, ◌%◌, ◌≡◌, refl, Bool, true, false, not, List, [], ◌∷◌, ltb, eqb, length}
+use Rattle.std.specs.Prelude.{ℕ, ◌+◌, ◌*◌, ◌/◌, ◌%◌, ◌≡◌, refl, Bool, true, false, not, List, [], ◌∷◌, ltb, eqb, length, if◌then◌else◌}
 use Rattle.std.proofs.Math.Option.{Option, none, some}
 use Rattle.spec.specs.declared.Joined.{Joined}
-use Rattle.spec.specs.Base.{if◌then◌else◌, same, joined}
+use Rattle.spec.specs.Base.{same, joined}
 use Rattle.spec.specs.Words.{bytes_of, bits_from, bits_of}
 use Rattle.spec.specs.Grammar.{Item, row, operand, enumerant, parameter, broken, items, items_from, rule, next, rules_from, parameters_of, enumerants_of, parameterless, all_flat, well_formed, well_formed_items}
 use Rattle.spec.specs.Table.{table}

@@ -1,10 +1,10 @@
 -- The layout: "a fixed table of nineteen kinds against three states" (the standard, 2.4, as reflect.rs and loader.rs read it).
-use Rattle.std.specs.Prelude.{ℕ, suc, ◌-◌, List, [], ◌∷◌, ◌++◌, get_or}
+use Rattle.std.specs.Prelude.{ℕ, suc, ◌-◌, List, [], ◌∷◌, ◌++◌, get_or, if◌then◌else◌}
 use Rattle.spec.specs.declared.State.{State}
 use Rattle.spec.specs.declared.State.TheVariants.{Outside, Function, Block}
 use Rattle.spec.specs.declared.Cell.{Cell}
 use Rattle.spec.specs.declared.Cell.TheVariants.{Tagged, Refuses}
-use Rattle.spec.specs.Base.{if◌then◌else◌, is_in}
+use Rattle.spec.specs.Base.{is_in}
 
 -- OPCODES
 

@@ -1,7 +1,7 @@
 -- The listing program's text: "index, offset, tag, opcode, words" of each record, then how the load ended.
-use Rattle.std.specs.Prelude.{ℕ, suc, List, [], ◌∷◌, ◌++◌, ltb, eqb, length, get_or}
+use Rattle.std.specs.Prelude.{ℕ, suc, List, [], ◌∷◌, ◌++◌, ltb, eqb, length, get_or, if◌then◌else◌}
 use Rattle.spec.specs.declared.Loaded.{Loaded}
-use Rattle.spec.specs.Base.{if◌then◌else◌, every, ascii}
+use Rattle.spec.specs.Base.{every, ascii}
 use Rattle.spec.specs.Words.{major, minor}
 use Rattle.spec.specs.Digits.{decimal}
 use Rattle.spec.specs.Records.{Placed}

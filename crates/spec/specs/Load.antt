@@ -1,5 +1,5 @@
 -- Loading a module: the first refusals, the header, the instructions, the end, and the stores afterwards.
-use Rattle.std.specs.Prelude.{ℕ, zero, suc, ◌+◌, ◌*◌, ◌/◌, ◌≤◌, ◌<◌, ◌≡◌, Bool, false, ◌&&◌, List, [], ◌∷◌, ◌++◌, ltb, eqb, length, drop}
+use Rattle.std.specs.Prelude.{ℕ, zero, suc, ◌+◌, ◌*◌, ◌/◌, ◌≤◌, ◌<◌, ◌≡◌, Bool, false, ◌&&◌, List, [], ◌∷◌, ◌++◌, ltb, eqb, length, drop, if◌then◌else◌}
 use Rattle.std.proofs.lemmas.List.Edits.{sets}
 use Rattle.spec.specs.declared.Limit.TheVariants.{Unlimited}
 use Rattle.spec.specs.declared.HeaderRead.{HeaderRead}
@@ -9,7 +9,7 @@ use Rattle.spec.specs.declared.Cell.{Cell}
 use Rattle.spec.specs.declared.Cell.TheVariants.{Tagged, Refuses}
 use Rattle.spec.specs.declared.Counts.{Counts}
 use Rattle.spec.specs.declared.Loaded.{Loaded}
-use Rattle.spec.specs.Base.{if◌then◌else◌, within, has, joined}
+use Rattle.spec.specs.Base.{within, has, joined}
 use Rattle.spec.specs.Records.{Instr, Placed, Entry, operands_log, operands_strings, record_size, instruction_store, log_from, string_store, entry_size, entry_words}
 use Rattle.spec.specs.Reader.{Reader, reader, Read, got, refused, Parse, give, refuse, ◌>>=◌}
 use Rattle.spec.specs.Header.{no_words, header_from}

@@ -1,8 +1,8 @@
 -- Matching: the operands of an instruction against the row of its opcode ("Matching"; the standard, 2.3 and 3).
-use Rattle.std.specs.Prelude.{ℕ, zero, suc, ◌-◌, ◌/◌, ◌%◌, Bool, List, [], ◌∷◌, ◌++◌, eqb}
+use Rattle.std.specs.Prelude.{ℕ, zero, suc, ◌-◌, ◌/◌, ◌%◌, Bool, List, [], ◌∷◌, ◌++◌, eqb, if◌then◌else◌}
 use Rattle.std.proofs.Math.Option.{Option, none, some}
 use Rattle.spec.specs.declared.Limit.TheVariants.{Unlimited, Words}
-use Rattle.spec.specs.Base.{if◌then◌else◌, is_in, every}
+use Rattle.spec.specs.Base.{is_in, every}
 use Rattle.spec.specs.Kinds.{is_enum, is_result, may_embed, is_long, is_text}
 use Rattle.spec.specs.Reader.{Parse, ◌>>=◌, ◌into◌, give, refuse, refuse_with, here, spent, with_limit, read_word, read_long, read_text}
 use Rattle.spec.specs.Grammar.{Slot, slot, Grammar, row_of, parameters_for}

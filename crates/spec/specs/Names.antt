@@ -1,7 +1,6 @@
 -- Names: "opcode and enumerant names as constant tables", and the names of extended instructions.
-use Rattle.std.specs.Prelude.{ℕ, Bool, ◌&&◌, List, [], ◌∷◌, eqb}
+use Rattle.std.specs.Prelude.{ℕ, Bool, ◌&&◌, List, [], ◌∷◌, eqb, if◌then◌else◌}
 use Rattle.std.proofs.Math.Option.{Option, none, some}
-use Rattle.spec.specs.Base.{if◌then◌else◌}
 use Rattle.spec.specs.NameTable.{Name, name_table}
 
 -- THE SETS: the enumerants of an operand kind are the set of its number, and there are three more

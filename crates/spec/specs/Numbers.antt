@@ -1,7 +1,7 @@
 -- Which function, which block: "function number and block number", both from 1, by the section tags of the records alone.
-use Rattle.std.specs.Prelude.{ℕ, ◌+◌, List, [], ◌∷◌, eqb}
+use Rattle.std.specs.Prelude.{ℕ, ◌+◌, List, [], ◌∷◌, eqb, if◌then◌else◌}
 use Rattle.spec.specs.declared.Numbers.{Numbers}
-use Rattle.spec.specs.Base.{if◌then◌else◌, within}
+use Rattle.spec.specs.Base.{within}
 
 -- in a function, in none of its blocks
 abbrev pub in_function : ℕ → Numbers

@@ -1,8 +1,7 @@
 -- Plain form: nothing in the bytes that the header words and records do not say; and the lowest offset of what breaks it. No operand
 -- stands at offset 0, so 0 is none.
-use Rattle.std.specs.Prelude.{ℕ, ◌+◌, ◌*◌, ◌/◌, ◌%◌, ◌&&◌, List, [], ◌∷◌, ◌++◌, ltb, eqb, length, drop}
+use Rattle.std.specs.Prelude.{ℕ, ◌+◌, ◌*◌, ◌/◌, ◌%◌, ◌&&◌, List, [], ◌∷◌, ◌++◌, ltb, eqb, length, drop, if◌then◌else◌}
 use Rattle.std.proofs.Math.Option.{Option, none, some}
-use Rattle.spec.specs.Base.{if◌then◌else◌}
 use Rattle.spec.specs.Words.{four_at}
 use Rattle.spec.specs.Text.{text_break}
 use Rattle.spec.specs.Records.{Operand, narrow, wide, text, Instr, Placed, operand_size}

@@ -1,10 +1,9 @@
 -- Reading: a position, a limit, and the bytes from the position on ("The decoder is a position and a limit").
-use Rattle.std.specs.Prelude.{ℕ, zero, suc, ◌+◌, ◌*◌, ◌-◌, Bool, false, List, ltb, eqb, length, take, drop}
+use Rattle.std.specs.Prelude.{ℕ, zero, suc, ◌+◌, ◌*◌, ◌-◌, Bool, false, List, ltb, eqb, length, take, drop, if◌then◌else◌}
 use Rattle.std.proofs.Math.Option.{Option, none, some}
 use Rattle.spec.specs.declared.Limit.{Limit}
 use Rattle.spec.specs.declared.Limit.TheVariants.{Unlimited, Words}
 use Rattle.spec.specs.declared.Refusal.{Refusal}
-use Rattle.spec.specs.Base.{if◌then◌else◌}
 use Rattle.spec.specs.Words.{Front, short, front, front_of, long}
 use Rattle.spec.specs.Text.{until_zero, text_words, is_utf8}
 

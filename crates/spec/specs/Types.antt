@@ -1,7 +1,7 @@
 -- The types of ids, as `TypeTracker::track` keeps them.
-use Rattle.std.specs.Prelude.{ℕ, Bool, List, [], ◌∷◌, eqb}
+use Rattle.std.specs.Prelude.{ℕ, Bool, List, [], ◌∷◌, eqb, if◌then◌else◌}
 use Rattle.std.proofs.Math.Option.{Option, none, some}
-use Rattle.spec.specs.Base.{if◌then◌else◌, is_in}
+use Rattle.spec.specs.Base.{is_in}
 use Rattle.spec.specs.Records.{Operand, narrow, wide, text, Instr, Entry, entry}
 
 -- `is_type`: the opcodes whose results `track` takes for types

@@ -1,6 +1,5 @@
 -- Words: four bytes, low byte first (the standard, 3.1: the magic number tells the order of bytes; here it is low byte first).
-use Rattle.std.specs.Prelude.{ℕ, zero, suc, ◌+◌, ◌*◌, ◌/◌, ◌%◌, ◌<◌, List, [], ◌∷◌, eqb, get_or}
-use Rattle.spec.specs.Base.{if◌then◌else◌}
+use Rattle.std.specs.Prelude.{ℕ, zero, suc, ◌+◌, ◌*◌, ◌/◌, ◌%◌, ◌<◌, List, [], ◌∷◌, eqb, get_or, if◌then◌else◌}
 
 -- each number is a byte, as every slice of bytes has it
 abbrev pub AllBytes : List ℕ → Type 0

@@ -1,8 +1,8 @@
 -- Writing in both orders, and standing.
-use Rattle.std.specs.Prelude.{ℕ, ◌+◌, ◌*◌, Bool, true, false, not, ◌&&◌, ◌||◌, List, [], ◌∷◌, ◌++◌, reverse, leb, ltb, eqb, length, take, drop, get_or}
+use Rattle.std.specs.Prelude.{ℕ, ◌+◌, ◌*◌, Bool, true, false, not, ◌&&◌, ◌||◌, List, [], ◌∷◌, ◌++◌, reverse, leb, ltb, eqb, length, take, drop, get_or, if◌then◌else◌}
 use Rattle.spec.specs.declared.Written.{Written}
 use Rattle.spec.specs.declared.Stands.{Stands}
-use Rattle.spec.specs.Base.{if◌then◌else◌, joined, only}
+use Rattle.spec.specs.Base.{joined, only}
 use Rattle.spec.specs.Words.{bytes_of, major, minor}
 use Rattle.spec.specs.Records.{Placed, instr_bytes, record_size}
 use Rattle.spec.specs.Load.{Outcome, laid_over}

@@ -11,7 +11,8 @@ use lib.Dec.{leb, eqb}
 use lib.ListN.{length, take, drop, take-append-drop, drop_of_length-le}
 use lib.Seq.{sets, drop-drop, take-add}
 use Rattle.spec.specs.declared.Fields.{Fields}
-use Rattle.spec.specs.Base.{if◌then◌else◌, only}
+use Rattle.std.specs.Prelude.{if◌then◌else◌}
+use Rattle.spec.specs.Base.{only}
 use Rattle.spec.specs.Records.{Placed, instr_bytes}
 use Rattle.spec.specs.Check.{placed_of}
 use Rattle.spec.specs.Write.{bytes_of_all, has_tag, section_of, sections, parameters_in, functions, module_order}

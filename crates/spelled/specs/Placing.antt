@@ -1,7 +1,7 @@
 -- Instructions placed in an output: the ranges that their tags stand in, the room they need, and what was written.
-use Rattle.std.specs.Prelude.{ℕ, ◌+◌, ◌<◌, ◌≤◌, ◌≡◌, Bool, true, false, ◌||◌, List, [], ◌∷◌, ◌++◌, leb, eqb, length, take, drop, get_or}
+use Rattle.std.specs.Prelude.{ℕ, ◌+◌, ◌<◌, ◌≤◌, ◌≡◌, Bool, true, false, ◌||◌, List, [], ◌∷◌, ◌++◌, leb, eqb, length, take, drop, get_or, if◌then◌else◌}
 use Rattle.std.proofs.lemmas.List.Edits.{sets}
-use Rattle.spec.specs.Base.{if◌then◌else◌, joined, only}
+use Rattle.spec.specs.Base.{joined, only}
 use Rattle.spec.specs.Words.{bytes_of}
 use Rattle.spec.specs.Records.{Placed, record_size}
 use Rattle.spec.specs.Check.{Given, scan_of, check}

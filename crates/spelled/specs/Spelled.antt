@@ -1,7 +1,6 @@
 -- What the record of an instruction spells, read from log and strings by place.
-use Rattle.std.specs.Prelude.{ℕ, zero, suc, ◌+◌, ◌*◌, ◌%◌, ◌≤◌, ◌≡◌, true, List, [], ◌∷◌, ◌++◌, leb, eqb, length, get_or}
+use Rattle.std.specs.Prelude.{ℕ, zero, suc, ◌+◌, ◌*◌, ◌%◌, ◌≤◌, ◌≡◌, true, List, [], ◌∷◌, ◌++◌, leb, eqb, length, get_or, if◌then◌else◌}
 use Rattle.spec.specs.declared.Fields.{Fields}
-use Rattle.spec.specs.Base.{if◌then◌else◌}
 use Rattle.spec.specs.Words.{bytes_of, four_at}
 use Rattle.spec.specs.Kinds.{is_text}
 use Rattle.spec.specs.Records.{Operand, Placed, operands_size, id_bytes}

@@ -11,7 +11,8 @@ use lib.Dec.{leb, eqb}
 use lib.ListN.{length, drop}
 use lib.Seq.{drop-length}
 use Rattle.spec.specs.declared.Fields.{Fields}
-use Rattle.spec.specs.Base.{if◌then◌else◌, only}
+use Rattle.std.specs.Prelude.{if◌then◌else◌}
+use Rattle.spec.specs.Base.{only}
 use Rattle.spec.specs.Records.{Placed, record_size, fields_at}
 use Rattle.spec.specs.Check.{Given, good, check, fault_of, placed_of, scan_of}
 use Rattle.spec.specs.Write.{has_tag, never_falls, parameters_first, bodies, declarations_first, is_standing, standing}

@@ -1,6 +1,6 @@
 -- Standing as one pass over the tags.
-use Rattle.std.specs.Prelude.{ℕ, Bool, not, ◌&&◌, ◌||◌, List, leb, eqb, length}
-use Rattle.spec.specs.Base.{if◌then◌else◌, only}
+use Rattle.std.specs.Prelude.{ℕ, Bool, not, ◌&&◌, ◌||◌, List, leb, eqb, length, if◌then◌else◌}
+use Rattle.spec.specs.Base.{only}
 use Rattle.spec.specs.Records.{Placed}
 use Rattle.spec.specs.Write.{has_tag, never_falls, parameters_first, bodies, declarations_first}
 use Rattle.standing.specs.declared.Order.{Order}

@@ -3,7 +3,7 @@
 #![tactic(auto)]
 
 ghost use Rattle.std.specs.Prelude.{◌≡◌};
-ghost use Rattle.spec.specs.Write.{standing as standingOf};
+ghost use Rattle.spec.specs.Write.{standing as standing_of};
 ghost use Rattle.records.specs.Steps.{given};
 ghost use Rattle.standing.specs.Stand.{may_come, order_after};
 
@@ -62,7 +62,7 @@ pub fn standing(
     log_count: usize,
     string_count: usize,
 ) -> Stands
-    ensures { result ≡ standingOf (given instructions.now log.now strings.now instruction_count log_count string_count) }
+    ensures { result ≡ standing_of (given instructions.now log.now strings.now instruction_count log_count string_count) }
 {
     let checked = records::check(
         true,

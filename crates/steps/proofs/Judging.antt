@@ -14,7 +14,8 @@ use Rattle.spec.specs.declared.Cell.{Cell}
 use Rattle.spec.specs.declared.Cell.TheVariants.{Tagged, Refuses}
 use Rattle.spec.specs.declared.Counts.{Counts}
 use Rattle.spec.specs.declared.Fields.{Fields}
-use Rattle.spec.specs.Base.{if◌then◌else◌, or_zero, has}
+use Rattle.std.specs.Prelude.{if◌then◌else◌}
+use Rattle.spec.specs.Base.{or_zero, has}
 use Rattle.spec.specs.Records.{Instr, Placed, Entry, operands_log, operands_strings, presence, fields_of}
 use Rattle.spec.specs.Reader.{refusal, reader_at}
 use Rattle.spec.specs.Grammar.{grammar_of}

@@ -1,5 +1,5 @@
 -- A load by steps: where it stands, what becomes of the next instruction, and what is stored of it.
-use Rattle.std.specs.Prelude.{ℕ, ◌+◌, ◌*◌, ◌≤◌, ◌≡◌, ◌&&◌, List, eqb, length}
+use Rattle.std.specs.Prelude.{ℕ, ◌+◌, ◌*◌, ◌≤◌, ◌≡◌, ◌&&◌, List, eqb, length, if◌then◌else◌}
 use Rattle.std.proofs.lemmas.List.Edits.{sets}
 use Rattle.spec.specs.declared.Limit.TheVariants.{Unlimited}
 use Rattle.spec.specs.declared.State.{State}
@@ -8,7 +8,7 @@ use Rattle.spec.specs.declared.Cell.TheVariants.{Tagged, Refuses}
 use Rattle.spec.specs.declared.Counts.{Counts}
 use Rattle.spec.specs.declared.Fields.{Fields}
 use Rattle.spec.specs.declared.Loaded.{Loaded}
-use Rattle.spec.specs.Base.{if◌then◌else◌, or_zero}
+use Rattle.spec.specs.Base.{or_zero}
 use Rattle.spec.specs.Records.{Instr, Entry, operands_log, operands_strings, presence, record_size, record_words, entry_size}
 use Rattle.spec.specs.Reader.{Reader, Read, got, refusal, reader_at}
 use Rattle.spec.specs.Grammar.{grammar_of}

@@ -10,7 +10,8 @@ use lib.Dec.{T, leb, ltb, leb→le, ltb→lt, eqb}
 use lib.ListN.{length, take, drop, get_or, drop_of_length-le}
 use lib.Ieee.Fits.{and_i}
 use mir.Facts.{and_yes}
-use Rattle.spec.specs.Base.{if◌then◌else◌, every}
+use Rattle.std.specs.Prelude.{if◌then◌else◌}
+use Rattle.spec.specs.Base.{every}
 use Rattle.spec.specs.Text.{Due, due, utf8_table, lead_of, due_after, on_due, utf8_from, is_utf8}
 use Rattle.text.specs.AsciiText.{is_ascii_text}
 use Rattle.text.proofs.Laws.{rest}

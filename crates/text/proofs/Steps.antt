@@ -9,7 +9,8 @@ use native.Mathlib.Numerals.{add-one}
 use borrow.Author.Tests.{ne_eqb}
 use lib.Dec.{eqb}
 use lib.ListN.{length, drop, get_or, drop_of_length-le}
-use Rattle.spec.specs.Base.{if◌then◌else◌, within}
+use Rattle.std.specs.Prelude.{if◌then◌else◌}
+use Rattle.spec.specs.Base.{within}
 use Rattle.spec.specs.Text.{Utf8Row, lead, Due, due, utf8_table, lead_of, due_after, on_due, utf8_from, is_utf8}
 use Rattle.text.specs.declared.Pending.{Pending}
 use Rattle.text.specs.declared.Step.{Step}

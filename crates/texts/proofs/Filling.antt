@@ -8,7 +8,7 @@ use borrow.Author.Tests.{ltb-true, lt-ltb, le-ltb}
 use lib.Dec.{ltb}
 use lib.ListN.{length, length-append, set}
 use lib.Seq.{sets, length-sets, set_comm}
-use Rattle.spec.specs.Base.{if◌then◌else◌}
+use Rattle.std.specs.Prelude.{if◌then◌else◌}
 use Rattle.spec.specs.Digits.{digits_from, decimal, hex_digit, hex_digits}
 use Rattle.texts.specs.Wrote.{Wrote}
 use Rattle.texts.proofs.Laws.{digits_few, decimal_few}

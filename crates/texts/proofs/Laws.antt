@@ -8,7 +8,7 @@ use native.Mathlib.Nat.{add-zero}
 use lib.Dec.{ltb}
 use lib.ListN.{length, length-append}
 use lib.Seq.{sets, length-sets}
-use Rattle.spec.specs.Base.{if◌then◌else◌}
+use Rattle.std.specs.Prelude.{if◌then◌else◌}
 use Rattle.spec.specs.Digits.{digits_from, decimal}
 use Rattle.spec.proofs.Store.{sets_append}
 use Rattle.texts.specs.Wrote.{Wrote}

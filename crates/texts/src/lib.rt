@@ -2,7 +2,7 @@
 #![tactic(auto)]
 
 ghost use Rattle.std.specs.Prelude.{◌≡◌, ◌∷◌, [], ◌+◌, ◌≤◌, ◌<◌, length};
-ghost use Rattle.spec.specs.Digits.{decimal as decimalOf, hex_digit as hexDigitOf, hex_digits};
+ghost use Rattle.spec.specs.Digits.{decimal as decimal_of, hex_digit as hex_digit_of, hex_digits};
 ghost use Rattle.texts.specs.Wrote.{Wrote};
 
 // A byte.
@@ -16,7 +16,7 @@ pub fn put(out: &mut [u8], at: usize, b: u8) -> usize
 
 // How many decimal digits a number has.
 pub fn digit_count(v: u64) -> usize
-    ensures { result ≡ length (decimalOf v) }
+    ensures { result ≡ length (decimal_of v) }
 {
     let mut n = 1;
     let mut rest = v;
@@ -29,9 +29,9 @@ pub fn digit_count(v: u64) -> usize
 
 // A number's decimal digits, n of them as it has so many: the last first.
 pub fn digits(out: &mut [u8], at: usize, n: usize, v: u64) -> usize
-    requires n_value { n ≡ length (decimalOf v) }
+    requires n_value { n ≡ length (decimal_of v) }
     requires n_in_bounds { at + n ≤ length out.old }
-    ensures { Wrote out.old out.new at result (decimalOf v) }
+    ensures { Wrote out.old out.new at result (decimal_of v) }
 {
     let mut rest = v;
     let mut i = n;
@@ -46,7 +46,7 @@ pub fn digits(out: &mut [u8], at: usize, n: usize, v: u64) -> usize
 // A number in decimal.
 pub fn decimal(out: &mut [u8], at: usize, v: u64) -> usize
     requires { at + 20 ≤ length out.old }
-    ensures { Wrote out.old out.new at result (decimalOf v) }
+    ensures { Wrote out.old out.new at result (decimal_of v) }
 {
     digits(out, at, digit_count(v), v)
 }
@@ -54,7 +54,7 @@ pub fn decimal(out: &mut [u8], at: usize, v: u64) -> usize
 // A hexadecimal digit.
 fn hex_digit(d: u8) -> u8
     requires { d < 16 }
-    ensures { result ≡ hexDigitOf d }
+    ensures { result ≡ hex_digit_of d }
 {
     if d < 10 {
         return 48 + d;

@@ -6,7 +6,7 @@ use mathlib.Core.Option.{Option, none, some}
 use native.Mathlib.Omega.{arith}
 use lib.Dec.{leb, eqb}
 use lib.ListN.{length}
-use Rattle.spec.specs.Base.{if◌then◌else◌}
+use Rattle.std.specs.Prelude.{if◌then◌else◌}
 use Rattle.spec.specs.Records.{Entry, entry}
 use Rattle.spec.specs.Types.{is_type, entry_of, define, define_int, define_float, inherit, track_value}
 use Rattle.tracker.specs.Entries.{entries_of}

@@ -6,7 +6,7 @@ use mathlib.Core.Option.{Option, none, some}
 use native.Mathlib.Omega.{arith}
 use lib.ListN.{length}
 use borrow.Author.Tests.{le-leb, lt-leb}
-use Rattle.spec.specs.Base.{if◌then◌else◌}
+use Rattle.std.specs.Prelude.{if◌then◌else◌}
 use Rattle.spec.specs.Records.{Operand, Instr, Entry}
 use Rattle.spec.specs.Types.{is_type, literal_int, track_int, track_float, track_type, track_value, track_result, track}
 use Rattle.tracker.specs.Track.{int_of, float_of, type_of, track_of, Literals}

@@ -8,7 +8,7 @@ use native.Mathlib.Omega.{arith}
 use lib.Dec.{eqb}
 use lib.ListN.{length}
 use borrow.Author.Tests.{le-leb, lt-leb, eq-eqb, ne_eqb}
-use Rattle.spec.specs.Base.{if◌then◌else◌}
+use Rattle.std.specs.Prelude.{if◌then◌else◌}
 use Rattle.spec.specs.Records.{Entry, entry}
 use Rattle.spec.specs.Types.{is_type, entry_of, define, inherit, track_value}
 use Rattle.tracker.specs.declared.Id.{Id}

@@ -1,9 +1,9 @@
 -- The entries of a type store: what its words say, where an id stands among them, and what a look-up answers.
-use Rattle.std.specs.Prelude.{ℕ, zero, suc, ◌+◌, ◌*◌, List, [], ◌∷◌, eqb, get_or, drop}
+use Rattle.std.specs.Prelude.{ℕ, zero, suc, ◌+◌, ◌*◌, List, [], ◌∷◌, eqb, get_or, drop, if◌then◌else◌}
 use Rattle.std.proofs.Math.Option.{Option, none, some}
 use Rattle.spec.specs.declared.Found.{Found}
 use Rattle.spec.specs.declared.Found.TheVariants.{At, Nothing}
-use Rattle.spec.specs.Base.{if◌then◌else◌, joined}
+use Rattle.spec.specs.Base.{joined}
 use Rattle.spec.specs.Records.{Entry, entry, entry_words}
 use Rattle.spec.specs.Match.{type_of}
 use Rattle.spec.specs.Load.{laid_over}

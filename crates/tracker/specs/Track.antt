@@ -1,7 +1,6 @@
 -- Tracking over what an instruction is handed on as: ids, how many operands, and the first two.
-use Rattle.std.specs.Prelude.{ℕ, ◌≤◌, ◌≡◌, List, [], ◌∷◌, leb, eqb, length}
+use Rattle.std.specs.Prelude.{ℕ, ◌≤◌, ◌≡◌, List, [], ◌∷◌, leb, eqb, length, if◌then◌else◌}
 use Rattle.std.proofs.Math.Option.{Option, none, some}
-use Rattle.spec.specs.Base.{if◌then◌else◌}
 use Rattle.spec.specs.Records as records
 use Rattle.spec.specs.Records.{Entry}
 use Rattle.spec.specs.Types.{is_type, define, literal_int, define_int, define_float, track_value}

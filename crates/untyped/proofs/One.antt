@@ -12,7 +12,7 @@ use lib.ListN.{length, drop, length-drop}
 use lib.Seq.{slice, length-slice, get_or-drop}
 use Rattle.spec.specs.declared.Limit.TheVariants.{Words}
 use Rattle.spec.specs.declared.Refusal.{Refusal}
-use Rattle.spec.specs.Base.{if◌then◌else◌}
+use Rattle.std.specs.Prelude.{if◌then◌else◌}
 use Rattle.spec.specs.Words.{bytes_of, four_at}
 use Rattle.spec.specs.Text.{text_words, text_break}
 use Rattle.spec.specs.declared.Found.{Found}

@@ -10,7 +10,8 @@ use lib.ListN.{length, drop, length-drop}
 use Rattle.spec.specs.declared.Limit.{Limit}
 use Rattle.spec.specs.declared.Limit.TheVariants.{Words}
 use Rattle.spec.specs.declared.Refusal.{Refusal}
-use Rattle.spec.specs.Base.{if◌then◌else◌, has}
+use Rattle.std.specs.Prelude.{if◌then◌else◌}
+use Rattle.spec.specs.Base.{has}
 use Rattle.spec.proofs.Choice.{cases, either}
 use Rattle.spec.specs.Kinds.{may_be_operand}
 use Rattle.spec.specs.Records.{operands_log, operands_strings, Entry}

@@ -8,7 +8,8 @@ use native.Mathlib.Omega.{arith}
 use borrow.Author.Tests.{eq-eqb, ne_eqb, eqb-true}
 use lib.Dec.{eqb}
 use Rattle.spec.specs.declared.Refusal.{Refusal}
-use Rattle.spec.specs.Base.{if◌then◌else◌, within}
+use Rattle.std.specs.Prelude.{if◌then◌else◌}
+use Rattle.spec.specs.Base.{within}
 use Rattle.spec.specs.Kinds.{is_result}
 use Rattle.spec.specs.Records.{Operand, narrow, wide, text, Entry}
 use Rattle.spec.specs.Plain.{as_ids}

@@ -11,7 +11,8 @@ use lib.ListN.{length, drop, drop_of_length-le}
 use Rattle.spec.specs.declared.Found.{Found}
 use Rattle.spec.specs.declared.Found.TheVariants.{At, Nothing}
 use Rattle.spec.specs.declared.Refusal.{Refusal}
-use Rattle.spec.specs.Base.{if◌then◌else◌, every}
+use Rattle.std.specs.Prelude.{if◌then◌else◌}
+use Rattle.spec.specs.Base.{every}
 use Rattle.spec.specs.Words.{bits_from, bits_of}
 use Rattle.spec.specs.Kinds.{is_mask, is_enum}
 use Rattle.spec.specs.Records.{Operand, narrow}

@@ -1,8 +1,8 @@
 // Operands: one record of a kind, enumerants with their parameters, and pairs.
 #![tactic(auto)]
 
-ghost use Rattle.std.specs.Prelude.{◌≡◌, true, false, List, ◌∷◌, [], ℕ, ◌≤◌, ◌+◌, ◌*◌, eqb, length};
-ghost use Rattle.spec.specs.Base.{every, if◌then◌else◌};
+ghost use Rattle.std.specs.Prelude.{◌≡◌, true, false, List, ◌∷◌, [], ℕ, ◌≤◌, ◌+◌, ◌*◌, eqb, length, if◌then◌else◌};
+ghost use Rattle.spec.specs.Base.{every};
 ghost use Rattle.spec.specs.Kinds.{is_mask};
 ghost use Rattle.spec.specs.Reader.{refusal};
 ghost use Rattle.spec.specs.Words.{bits_of};

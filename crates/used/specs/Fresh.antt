@@ -1,6 +1,5 @@
 -- What is in use where an instruction begins, and with a result more.
-use Rattle.std.specs.Prelude.{ℕ, ◌+◌, ◌*◌, ◌≤◌, ◌≡◌, eqb}
-use Rattle.spec.specs.Base.{if◌then◌else◌}
+use Rattle.std.specs.Prelude.{ℕ, ◌+◌, ◌*◌, ◌≤◌, ◌≡◌, eqb, if◌then◌else◌}
 use Rattle.used.specs.declared.used.Used.{Used}
 
 -- what is in use before the first operand, from these places on, with so many string bytes before those of the store, where this breaks

@@ -1,9 +1,9 @@
 -- The parser's answers, and the stores after those that are good, as what the reader of `spec` comes to.
-use Rattle.std.specs.Prelude.{ℕ, ◌+◌, ◌*◌, ◌-◌, ◌%◌, ◌≤◌, ◌≡◌, Bool, true, ◌&&◌, ◌||◌, List, [], ◌∷◌, ◌++◌, eqb, ltb, length, drop}
+use Rattle.std.specs.Prelude.{ℕ, ◌+◌, ◌*◌, ◌-◌, ◌%◌, ◌≤◌, ◌≡◌, Bool, true, ◌&&◌, ◌||◌, List, [], ◌∷◌, ◌++◌, eqb, ltb, length, drop, if◌then◌else◌}
 use Rattle.std.proofs.Math.Option.{Option, none, some}
 use Rattle.spec.specs.declared.Limit.{Limit}
 use Rattle.spec.specs.declared.Limit.TheVariants.{Unlimited, Words}
-use Rattle.spec.specs.Base.{if◌then◌else◌, within}
+use Rattle.spec.specs.Base.{within}
 use Rattle.spec.specs.Words.{bits_of}
 use Rattle.spec.specs.Kinds.{is_mask, is_result, may_be_operand, may_be_parameter, may_embed}
 use Rattle.spec.specs.Grammar.{Grammar, Enumerant, Slot, slot, listed, parameters_of, slots_of, items}

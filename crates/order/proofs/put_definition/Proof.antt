@@ -1,4 +1,4 @@
--- `walk::put_definition` meets its contract: the parameters follow the definition.
+-- `order::put_definition` meets its contract: the parameters follow the definition.
 -- Assumes nothing.
 use Rattle.spelled.proofs.Place.{room_first, room_next, wrote_both}
 use borrow.Author.Rules.{rules}

@@ -1,4 +1,4 @@
--- `walk::put_functions` meets its contract: what some instructions add is placed, and the rest is known.
+-- `order::put_functions` meets its contract: what some instructions add is placed, and the rest is known.
 -- Assumes nothing.
 use native.Mathlib.Omega.{arith}
 use Prim.Native.Nat.{◌-◌}

@@ -1,4 +1,4 @@
--- `walk::put_module` meets its contract: the functions follow the sections.
+-- `order::put_module` meets its contract: the functions follow the sections.
 -- Assumes nothing.
 use Rattle.spelled.proofs.Place.{room_first, room_next}
 use native.Mathlib.Omega.{arith}

@@ -1,4 +1,4 @@
--- `walk::put_one` meets its contract: its record can be written.
+-- `order::put_one` meets its contract: its record can be written.
 -- Assumes nothing.
 use native.Mathlib.Omega.{arith}
 use Rattle.spelled.proofs.Spell.{lent_room}

@@ -1,4 +1,4 @@
--- `walk::put_parameters` meets its contract: some parameters are placed, and the rest is known.
+-- `order::put_parameters` meets its contract: some parameters are placed, and the rest is known.
 -- Assumes nothing.
 use native.Mathlib.Omega.{arith}
 use Prim.Native.Nat.{◌-◌}

@@ -1,4 +1,4 @@
--- `walk::put_part` meets its contract: by the tag.
+-- `order::put_part` meets its contract: by the tag.
 -- Assumes nothing.
 use mathlib.Core.Path.{sym}
 use Rattle.spelled.proofs.Place.{room_as, wrote_as, wrote_none}

@@ -1,4 +1,4 @@
--- `walk::put_read` meets its contract: each instruction is put behind those before it.
+-- `order::put_read` meets its contract: each instruction is put behind those before it.
 -- Assumes nothing.
 use Prim.Native.Nat.{◌-◌}
 use mathlib.Core.Path.{◌≡◌}

@@ -1,4 +1,4 @@
--- `walk::put_section` meets its contract: some of those with the tag are placed, and the rest is known.
+-- `order::put_section` meets its contract: some of those with the tag are placed, and the rest is known.
 -- Assumes nothing.
 use native.Mathlib.Omega.{arith}
 use Prim.Native.Nat.{◌-◌, ◌≤◌}

@@ -1,4 +1,4 @@
--- `walk::put_sections` meets its contract: some sections are placed, and the rest is known.
+-- `order::put_sections` meets its contract: some sections are placed, and the rest is known.
 -- Assumes nothing.
 use native.Mathlib.Omega.{arith}
 use Prim.Native.Nat.{◌-◌}

@@ -1,4 +1,4 @@
--- `walk::put_tagged` meets its contract: by its tag.
+-- `order::put_tagged` meets its contract: by its tag.
 -- Assumes nothing.
 use mathlib.Core.Path.{sym}
 use Rattle.spelled.proofs.Place.{room_as, wrote_as, wrote_none}

@@ -1,6 +1,9 @@
--- What was read is within the buffer.
-use Rattle.std.proofs.Common.{◌≤◌, length}
+-- What was read is within the buffer, and each turn reads more.
+use Rattle.std.proofs.Common.{◌≤◌, ◌-◌, length}
 use Rattle.reading.proofs.read_full.Given as goal
 
-abbrev pub invariant-loop : goal.invariant-loop
-invariant-loop g l = l.n ≤ length l.buf
+abbrev pub invariant-loop-n : goal.invariant-loop-n
+invariant-loop-n g l = l.n ≤ length l.buf
+
+abbrev pub decreases-loop-n : goal.decreases-loop-n
+decreases-loop-n g l = length l.buf - l.n
