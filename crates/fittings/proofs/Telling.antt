@@ -12,7 +12,8 @@ use Rattle.spec.specs.Base.{every}
 use Rattle.spec.specs.Words.{bytes_of}
 use Rattle.spec.specs.Builtin.{builtin}
 use Rattle.spec.specs.Load.{Outcome, enough, load, Stores, stores_of, room_in, laid_on, Covers}
-use Rattle.spec.specs.Fittings.{Shown, Fitting, fitting, shown, room_for, found, claimed, fittings, fittings_hold}
+use Rattle.spec.specs.Fittings.{Shown, Fitting, fitting, shown, room_for, found, claimed, fittings}
+use Rattle.spec.proofs.Fittings.{fittings_hold}
 use Rattle.loader.specs.Loading.{loading, Loads}
 use Rattle.demands.proofs.Choice.{left, right}
 use Rattle.demands.proofs.Room.{load_roomy}

@@ -1,5 +1,6 @@
 pub mod Breaks
 pub mod Choice
 pub mod Faultless
+pub mod Fittings
 pub mod Range
 pub mod Store
