@@ -125,7 +125,7 @@ def defined(names, parameters, tokens):
 
 def table():
     text = TABLE.read_text()
-    text = text[text.index("-- THE TABLE") : text.index("-- THE STATEMENT")]
+    text = text[text.index("-- THE TABLE") : text.index('-- "Fitting 6 prints')]
     text = re.sub(r"--.*", "", text)
     names = dict(KNOWN)
     for piece in re.split(r"(?m)^(?:abbrev|unfoldable) pub .*$", text)[1:]:
