@@ -3,7 +3,8 @@ use Prim.Native.Nat.{ℕ, zero, suc, ◌+◌, ◌*◌, ◌/◌, ◌<◌, ◌≤�
 use mathlib.Core.Path.{◌≡◌, refl, ap, sym, subst, ◌∙◌}
 use mathlib.Core.Bool.{Bool, true, false}
 use mathlib.Core.List.{List, [], ◌∷◌, ◌++◌}
-use mathlib.Core.Option.{Option, none, some, some-ne-none}
+use Rattle.std.specs.Prelude.{Option, None, Some}
+use Rattle.std.proofs.lemmas.Option.{none-some}
 use native.Mathlib.Nat.{le-div_iff_mul-le}
 use native.Mathlib.Omega.{arith}
 use borrow.Author.Tests.{eq-eqb, eqb-true, le-ltb}
@@ -91,7 +92,7 @@ fields_words (suc n) ws e =
 
 -- the words of a new book that has its numbers are those of its fields and numbers
 numbers_words : (n index : ℕ) (ns : List Numbers) (ws : List ℕ) → length (records_of record_size n ws) ≡ n → length ns ≡ n
-    → misnumbered index ns ws ≡ none → take (record_size * n) ws ≡ records_with (records_of record_size n ws) ns
+    → misnumbered index ns ws ≡ None → take (record_size * n) ws ≡ records_with (records_of record_size n ws) ns
 unfolding records_of records_with misnumbered
 numbers_words zero index ns ws e l m = refl
 numbers_words (suc n) index [] ws e l m = absurd (omega arith)
@@ -107,7 +108,7 @@ numbers_words (suc n) index (a ∷ ns) ws e l m =
 
 -- records that have their numbers
 numbers_there : (index : ℕ) (fs : List Fields) (ns : List Numbers) → length ns ≡ length fs → (more : List ℕ)
-    → misnumbered index ns (records_with fs ns ++ more) ≡ none
+    → misnumbered index ns (records_with fs ns ++ more) ≡ None
 unfolding misnumbered records_with record_words field_words
 numbers_there index [] [] e more = refl
 numbers_there index [] (n ∷ ns) e more = absurd (omega arith)
@@ -118,7 +119,7 @@ numbers_there index (f ∷ fs) (n ∷ ns) e more =
 -- A BOOK THAT IS TAKEN
 
 -- an output with room for so many records
-unfit_none : (size count : ℕ) (out : List ℕ) → field_size ≤ size → size * count ≤ length out → unfit size count out ≡ none
+unfit_none : (size count : ℕ) (out : List ℕ) → field_size ≤ size → size * count ≤ length out → unfit size count out ≡ None
 unfolding unfit
 unfit_none size count out h g =
     let z : 0 < size = omega arith in
@@ -128,7 +129,7 @@ unfit_none size count out h g =
 module _ (x : Given) (out : List ℕ) where
   -- all that is asked of an old book
   record NewTaken : Type 0 where
-    passes : fault_of field_size false x ≡ none
+    passes : fault_of field_size false x ≡ None
     room : record_size * x.count ≤ length out
 
   -- so it is turned
@@ -142,14 +143,14 @@ module _ (x : Given) (out : List ℕ) where
   new_taken z = by (fault_of field_size false x) (unfit record_size x.count out) refl refl z
     where
       by : (o p : Option ℕ) → fault_of field_size false x ≡ o → unfit record_size x.count out ≡ p → (new_book x out).said.number ≡ 0 → NewTaken
-      by (some i) p e f z = let w : ◌≡◌ {A = ℕ} 30 0 = rw e at z in absurd (omega arith)
-      by none (some i) e f z = let w : ◌≡◌ {A = ℕ} 25 0 = rw (e, f) at z in absurd (omega arith)
-      by none none e f z = record { passes = e; room = room_told record_size x.count (length out) (omega arith) f }
+      by (Some i) p e f z = let w : ◌≡◌ {A = ℕ} 30 0 = rw e at z in absurd (omega arith)
+      by None (Some i) e f z = let w : ◌≡◌ {A = ℕ} 25 0 = rw (e, f) at z in absurd (omega arith)
+      by None None e f z = record { passes = e; room = room_told record_size x.count (length out) (omega arith) f }
 
   -- all that is asked of a new book
   record OldTaken : Type 0 where
-    passes : fault_of record_size false x ≡ none
-    numbers : misnumbered 1 (called_for (records_in record_size x)) x.instructions ≡ none
+    passes : fault_of record_size false x ≡ None
+    numbers : misnumbered 1 (called_for (records_in record_size x)) x.instructions ≡ None
     room : field_size * x.count ≤ length out
 
   -- so it is turned
@@ -165,10 +166,10 @@ module _ (x : Given) (out : List ℕ) where
     where
       by : (o m p : Option ℕ) → fault_of record_size false x ≡ o → misnumbered 1 (called_for (records_in record_size x)) x.instructions ≡ m
           → unfit field_size x.count out ≡ p → (old_book x out).said.number ≡ 0 → OldTaken
-      by (some i) m p e g f z = let w : ◌≡◌ {A = ℕ} 30 0 = rw e at z in absurd (omega arith)
-      by none (some i) p e g f z = let w : ◌≡◌ {A = ℕ} 33 0 = rw (e, g) at z in absurd (omega arith)
-      by none none (some i) e g f z = let w : ◌≡◌ {A = ℕ} 25 0 = rw (e, g, f) at z in absurd (omega arith)
-      by none none none e g f z = record { passes = e; numbers = g; room = room_told field_size x.count (length out) (omega arith) f }
+      by (Some i) m p e g f z = let w : ◌≡◌ {A = ℕ} 30 0 = rw e at z in absurd (omega arith)
+      by None (Some i) p e g f z = let w : ◌≡◌ {A = ℕ} 33 0 = rw (e, g) at z in absurd (omega arith)
+      by None None (Some i) e g f z = let w : ◌≡◌ {A = ℕ} 25 0 = rw (e, g, f) at z in absurd (omega arith)
+      by None None None e g f z = record { passes = e; numbers = g; room = room_told field_size x.count (length out) (omega arith) f }
 
 -- THE STORE OF A TURNED BOOK
 
@@ -190,7 +191,7 @@ module _ (x : Given) (out : List ℕ) (t : NewTaken x out) where
       ∙ records_back fs (called_for fs) (called_length fs) (drop (record_size * x.count) out)
 
   -- and the numbers that they call for
-  new_numbers : misnumbered 1 (called_for (records_of record_size x.count (new_book x out).output)) (new_book x out).output ≡ none
+  new_numbers : misnumbered 1 (called_for (records_of record_size x.count (new_book x out).output)) (new_book x out).output ≡ None
   unfolding numbered
   new_numbers =
       let fs = records_in field_size x in
@@ -237,9 +238,9 @@ old_back x out back z h =
 
 -- 33 EXACTLY WHERE THE NUMBERS ARE NOT THOSE CALLED FOR: a new book that passes the check has no wrong number exactly where its words are
 -- those of its fields, numbered
-module _ (x : Given) (passes : fault_of record_size false x ≡ none) where
+module _ (x : Given) (passes : fault_of record_size false x ≡ None) where
   -- the words with no wrong number
-  pub right_words : misnumbered 1 (called_for (records_in record_size x)) x.instructions ≡ none
+  pub right_words : misnumbered 1 (called_for (records_in record_size x)) x.instructions ≡ None
       → take (record_size * x.count) x.instructions ≡ numbered (records_in record_size x)
   unfolding numbered
   right_words m =
@@ -249,7 +250,7 @@ module _ (x : Given) (passes : fault_of record_size false x ≡ none) where
 
   -- no wrong number in such words
   pub words_right : take (record_size * x.count) x.instructions ≡ numbered (records_in record_size x)
-      → misnumbered 1 (called_for (records_in record_size x)) x.instructions ≡ none
+      → misnumbered 1 (called_for (records_in record_size x)) x.instructions ≡ None
   unfolding numbered
   words_right e =
       let fs = records_in record_size x in
@@ -267,9 +268,9 @@ module _ (x : Given) (passes : fault_of record_size false x ≡ none) where
       by : (m p : Option ℕ) → misnumbered 1 (called_for (records_in record_size x)) x.instructions ≡ m → unfit field_size x.count out ≡ p
           → ((old_book x out).said.number ≡ 33 → take (record_size * x.count) x.instructions ≡ numbered (records_in record_size x) → ⊥)
           × ((take (record_size * x.count) x.instructions ≡ numbered (records_in record_size x) → ⊥) → (old_book x out).said.number ≡ 33)
-      by (some i) p g f = (λ z e. let w : some i ≡ none = sym g ∙ words_right e in absurd (some-ne-none i w), λ n. rw (passes, g))
-      by none (some j) g f = (λ z e. let w : ◌≡◌ {A = ℕ} 25 33 = rw (passes, g, f) at z in omega arith, λ n. absurd (n (right_words g)))
-      by none none g f = (λ z e. let w : ◌≡◌ {A = ℕ} 0 33 = rw (passes, g, f) at z in omega arith, λ n. absurd (n (right_words g)))
+      by (Some i) p g f = (λ z e. let w : Some i ≡ None = sym g ∙ words_right e in absurd (none-some i (sym w)), λ n. rw (passes, g))
+      by None (Some j) g f = (λ z e. let w : ◌≡◌ {A = ℕ} 25 33 = rw (passes, g, f) at z in omega arith, λ n. absurd (n (right_words g)))
+      by None None g f = (λ z e. let w : ◌≡◌ {A = ℕ} 0 33 = rw (passes, g, f) at z in omega arith, λ n. absurd (n (right_words g)))
 
 -- NEW TO OLD TO NEW: a new book that is taken comes back, word for word
 pub new_back : (x : Given) (out back : List ℕ) → (old_book x out).said.number ≡ 0 → record_size * x.count ≤ length back
@@ -347,7 +348,7 @@ module _ (x : Given) (out : List ℕ) {o : List ℕ} {r : Turned} where
       call_is (ap (λ (ws : List ℕ). new_book (with_store x ws) back) t.output ∙ new_back x out back (call_number t 0 z) h) u
 
   -- a call answers 33 exactly where the numbers are not those called for
-  pub call_33 : fault_of record_size false x ≡ none → Turns (old_book x out) o r
+  pub call_33 : fault_of record_size false x ≡ None → Turns (old_book x out) o r
       → (r.number ≡ 33 → take (record_size * x.count) x.instructions ≡ numbered (records_in record_size x) → ⊥)
       × ((take (record_size * x.count) x.instructions ≡ numbered (records_in record_size x) → ⊥) → r.number ≡ 33)
   call_33 passes t =

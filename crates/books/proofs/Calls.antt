@@ -3,7 +3,7 @@ use Prim.Native.Nat.{ℕ, zero, suc, ◌+◌, ◌*◌, ◌/◌, ◌<◌, ◌≤�
 use mathlib.Core.Path.{◌≡◌, refl, ap, sym, ◌∙◌}
 use mathlib.Core.Bool.{Bool, true, false}
 use mathlib.Core.List.{List, [], ◌∷◌}
-use mathlib.Core.Option.{Option, none, some}
+use Rattle.std.specs.Prelude.{Option, None, Some}
 use native.Mathlib.Nat.{le-div_iff_mul-le}
 use native.Mathlib.Omega.{arith}
 use borrow.Author.Tests.{eqb-true, ltb-false}
@@ -47,18 +47,18 @@ records_held size (suc n) ws e =
     omega (arith, t.0, records_held size n (drop size ws) t.2, length-drop size ws)
 
 -- so they are where no fault is found
-pub good_count : (size : ℕ) (x : Given) → fault_of size false x ≡ none → length (records_in size x) ≡ x.count
+pub good_count : (size : ℕ) (x : Given) → fault_of size false x ≡ None → length (records_in size x) ≡ x.count
 unfolding missing
 good_count size x e =
-    eqb-true _ _ (none_if (length (records_in size x) + 1) (eqb (length (records_in size x)) x.count) none (no_faults size false x e).present).0
+    eqb-true _ _ (none_if (length (records_in size x) + 1) (eqb (length (records_in size x)) x.count) None (no_faults size false x e).present).0
 
 -- the answer of a check that finds none
-pub checked_good : {r : Checked} {o : Option ℕ} → checked_is r ≡ o → r ≡ Good → o ≡ none
+pub checked_good : {r : Checked} {o : Option ℕ} → checked_is r ≡ o → r ≡ Good → o ≡ None
 unfolding checked_is
 checked_good e q = sym e ∙ ap checked_is q
 
 -- and of one that does
-checked_bad : {r : Checked} {o : Option ℕ} {i : ℕ} → checked_is r ≡ o → r ≡ Bad i → o ≡ some i
+checked_bad : {r : Checked} {o : Option ℕ} {i : ℕ} → checked_is r ≡ o → r ≡ Bad i → o ≡ Some i
 unfolding checked_is
 checked_bad e q = sym e ∙ ap checked_is q
 
@@ -72,11 +72,11 @@ module _ (size : ℕ) (x : Given) {r : Checked} (e : checked_is r ≡ fault_of s
   book_few fit = omega (arith, good_few size false x fit (checked_good e q), good_count size x (checked_good e q))
 
 -- where all records fit, so many words do
-pub room_told : (size count words : ℕ) → field_size ≤ size → (if ltb (words / size) count then some (words / size + 1) else none) ≡ none
+pub room_told : (size count words : ℕ) → field_size ≤ size → (if ltb (words / size) count then Some (words / size + 1) else None) ≡ None
     → size * count ≤ words
 room_told size count words h e = by (ltb (words / size) count) refl e
   where
-    by : (t : Bool) → ltb (words / size) count ≡ t → (if t then some (words / size + 1) else none) ≡ none → size * count ≤ words
+    by : (t : Bool) → ltb (words / size) count ≡ t → (if t then Some (words / size + 1) else None) ≡ None → size * count ≤ words
     by true u z = let w : ◌≡◌ {A = ℕ} 0 1 = cc in absurd (omega arith)
     by false u z =
         let s : 0 < size = omega arith in
@@ -91,7 +91,7 @@ module _ (x : Given) (out : List ℕ) {c : Checked} (e : checked_is c ≡ fault_
   unfolding new_book
   new_bad q s = rw (checked_bad e q) (record { said = s; output = refl })
 
-  module _ (q : c ≡ Good) {d : Checked} (f : checked_is d ≡ (if ltb (length out / record_size) x.count then some (length out / record_size + 1) else none)) where
+  module _ (q : c ≡ Good) {d : Checked} (f : checked_is d ≡ (if ltb (length out / record_size) x.count then Some (length out / record_size + 1) else None)) where
     -- 25
     pub new_short : {i : ℕ} → d ≡ Bad i → {r : Turned} → r ≡ record { number = 25; index = i; records = 0 } → Turns (new_book x out) out r
     unfolding new_book unfit
@@ -117,7 +117,7 @@ module _ (x : Given) (out : List ℕ) {c : Checked} (e : checked_is c ≡ fault_
     unfolding old_book
     old_wrong p s = rw (checked_good e q, checked_bad g p) (record { said = s; output = refl })
 
-    module _ (p : b ≡ Good) {d : Checked} (f : checked_is d ≡ (if ltb (length out / field_size) x.count then some (length out / field_size + 1) else none)) where
+    module _ (p : b ≡ Good) {d : Checked} (f : checked_is d ≡ (if ltb (length out / field_size) x.count then Some (length out / field_size + 1) else None)) where
       -- 25
       pub old_short : {i : ℕ} → d ≡ Bad i → {r : Turned} → r ≡ record { number = 25; index = i; records = 0 } → Turns (old_book x out) out r
       unfolding old_book unfit

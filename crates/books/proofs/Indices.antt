@@ -3,7 +3,7 @@ use Prim.Native.Nat.{ℕ, suc, ◌+◌, ◌/◌, ◌<◌, ◌≤◌}
 use mathlib.Core.Path.{◌≡◌, refl}
 use mathlib.Core.Bool.{false}
 use mathlib.Core.List.{List, [], ◌∷◌}
-use mathlib.Core.Option.{Option, none, some}
+use Rattle.std.specs.Prelude.{Option, None, Some}
 use native.Mathlib.Omega.{arith}
 use borrow.Author.Tests.{ltb-true}
 use lib.Dec.{ltb}
@@ -28,27 +28,27 @@ abbrev Index : Option ℕ → Type 0
 Index o = IfSome (λ i. i < 4294967296) o
 
 -- by such an index, or as it goes on
-small_at : (n : ℕ) (o : Option ℕ) (out : List ℕ) (x : Turning) → Index o → (o ≡ none → Small x.said) → Small (refused_at n o out x).said
-small_at n none out x p later = later refl
-small_at n (some i) out x p later = record { index = p; records = omega arith }
+small_at : (n : ℕ) (o : Option ℕ) (out : List ℕ) (x : Turning) → Index o → (o ≡ None → Small x.said) → Small (refused_at n o out x).said
+small_at n None out x p later = later refl
+small_at n (Some i) out x p later = record { index = p; records = omega arith }
 
 -- the first of few records that does not fit
 unfit_index : (size count : ℕ) (out : List ℕ) → count ≤ 1073741824 → Index (unfit size count out)
 unfolding unfit
 unfit_index size count out h =
-    either Index (ltb (length out / size) count) (some (length out / size + 1)) none (λ e. omega (arith, ltb-true (length out / size) count e)) (λ e. tt)
+    either Index (ltb (length out / size) count) (Some (length out / size + 1)) None (λ e. omega (arith, ltb-true (length out / size) count e)) (λ e. tt)
 
 -- the first whose numbers are wrong
 wrong_index : (index : ℕ) (ns : List Numbers) (ws : List ℕ) → index + length ns ≤ 4294967296 → Index (misnumbered index ns ws)
 unfolding misnumbered
 wrong_index index [] ws h = tt
 wrong_index index (n ∷ ns) ws h =
-    either Index (has_numbers ws n) (misnumbered (suc index) ns (drop record_size ws)) (some index)
+    either Index (has_numbers ws n) (misnumbered (suc index) ns (drop record_size ws)) (Some index)
     (λ e. wrong_index (suc index) ns (drop record_size ws) (omega arith)) (λ e. omega arith)
 
 module _ (x : Given) (out : List ℕ) (fit : WordsFit x.instructions) where
   -- a book that passes the check has few records
-  count_few : (size : ℕ) → fault_of size false x ≡ none → x.count ≤ 1073741824
+  count_few : (size : ℕ) → fault_of size false x ≡ None → x.count ≤ 1073741824
   count_few size e = omega (arith, good_few size false x fit e, good_count size x e)
 
   -- an old book into a new one

@@ -3,7 +3,7 @@ use Prim.Native.Nat.{ℕ, zero, suc, ◌+◌, ◌*◌, ◌-◌, ◌<◌, ◌≤�
 use mathlib.Core.Path.{◌≡◌, refl, ap, sym, ◌∙◌}
 use mathlib.Core.Bool.{Bool, true, false, ◌&&◌}
 use mathlib.Core.List.{List, [], ◌∷◌, ◌++◌, map, append-nil}
-use mathlib.Core.Option.{Option, some}
+use Rattle.std.specs.Prelude.{Option, Some}
 use native.Mathlib.Nat.{mul-zero, sub-zero}
 use native.Mathlib.Numerals.{add-one}
 use native.Mathlib.Omega.{arith}
@@ -185,7 +185,7 @@ unfolding misnumbered numbers_from
 match_yes index f fs n ws e = rw e
 
 match_no : (index : ℕ) (f : Fields) (fs : List Fields) (n : Numbers) (ws : List ℕ)
-    → has_numbers ws (numbers_of f.tag (onward f.tag n)) ≡ false → wrong_from index n (f ∷ fs) ws ≡ some index
+    → has_numbers ws (numbers_of f.tag (onward f.tag n)) ≡ false → wrong_from index n (f ∷ fs) ws ≡ Some index
 unfolding misnumbered numbers_from
 match_no index f fs n ws e = rw e
 
@@ -210,7 +210,7 @@ module _ {ws : List ℕ} {count : ℕ} {n : Numbers} {i : ℕ} (r : Matching ws 
         sym (r.same
         ∙ ap (λ (fs : List Fields). wrong_from (suc i) n fs (drop (record_size * i) ws)) next_is
         ∙ match_no (suc i) f (records_of record_size (count - (i + 1)) (drop (record_size * (i + 1)) ws)) n (drop (record_size * i) ws) (test_is ∙ u)
-        ∙ ap some (sym (add-one i)))
+        ∙ ap Some (sym (add-one i)))
 
     -- it has
     pub match_goes_on : t ≡ true → Matching ws count x.begun (i + 1)

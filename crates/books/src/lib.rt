@@ -3,7 +3,6 @@
 #![tactic(auto)]
 
 ghost use Rattle.std.specs.Prelude.{◌≡◌, ◌&&◌, ◌+◌, ◌*◌, ◌/◌, ◌<◌, ◌≤◌, ltb, eqb, length, if◌then◌else◌};
-ghost use Rattle.std.proofs.Math.Option.{none, some};
 ghost use Rattle.spec.specs.Base.{joined};
 ghost use Rattle.spec.specs.Records.{field_size, field_words, record_size, called_for, numbered};
 ghost use Rattle.spec.specs.Load.{laid_over};
@@ -31,7 +30,7 @@ fn refused(number: u32, index: usize) -> Turned
 // Whether an output of so many words has room for so many records of a length, or the first that does not fit.
 fn check_room(size: usize, count: usize, words: usize) -> Checked
     requires { field_size ≤ size }
-    ensures { checked_is result ≡ (if ltb (words / size) count then some (words / size + 1) else none) }
+    ensures { checked_is result ≡ (if ltb (words / size) count then Some (words / size + 1) else None) }
 {
     let room = words / size;
     if room < count {

@@ -3,7 +3,7 @@ use Prim.Native.Nat.{ℕ, zero, suc, ◌+◌, ◌*◌, ◌-◌, ◌<◌, ◌≤�
 use mathlib.Core.Path.{◌≡◌, refl, ap, sym, ◌∙◌}
 use mathlib.Core.Bool.{Bool, true, false}
 use mathlib.Core.List.{List}
-use mathlib.Core.Option.{Option, none, some}
+use Rattle.std.specs.Prelude.{Option, None, Some}
 use native.Mathlib.Omega.{arith}
 use borrow.Author.Tests.{le-ltb, ltb-false}
 use lib.Dec.{ltb}
@@ -173,22 +173,22 @@ long_refused s d e x =
 -- STRINGS
 
 -- a string that ends is the front of the bytes, and shorter
-pub ends_in : (l bs : List ℕ) → until_zero l ≡ some bs → (length bs < length l) × (bs ≡ take (length bs) l)
+pub ends_in : (l bs : List ℕ) → until_zero l ≡ Some bs → (length bs < length l) × (bs ≡ take (length bs) l)
 unfolding zero_in zero_after
 ends_in l bs e =
     let z = zero_at l (length bs) (sym (ap zero_after e)) in
-    let p : some bs ≡ some (take (length bs) l) = sym e ∙ z.1 in
+    let p : Some bs ≡ Some (take (length bs) l) = sym e ∙ z.1 in
     (z.0, (cc))
 
 -- so it is of the bytes from the position on, of which a limit's are searched
-ends_here : (l : Limit) (r bs : List ℕ) → until_zero (searched l r) ≡ some bs → (length bs < length r) × (bs ≡ take (length bs) r)
+ends_here : (l : Limit) (r bs : List ℕ) → until_zero (searched l r) ≡ Some bs → (length bs < length r) × (bs ≡ take (length bs) r)
 ends_here Unlimited r bs e = ends_in r bs e
 ends_here (Words m) r bs e =
     let z = ends_in (take (4 * m) r) bs e in
     (omega (arith, z.0, length-take (4 * m) r), z.1 ∙ take-take (length bs) (4 * m) r (omega (arith, z.0, length-take (4 * m) r)))
 
 -- and its words are taken, which a limit has
-ends_took : (at : ℕ) (l : Limit) (r bs : List ℕ) → until_zero (searched l r) ≡ some bs
+ends_took : (at : ℕ) (l : Limit) (r bs : List ℕ) → until_zero (searched l r) ≡ Some bs
     → Took (decoder at l) (decoder (at + 4 * text_words (length bs)) (less l (text_words (length bs)))) (text_words (length bs))
 ends_took at Unlimited r bs e = took_free at (text_words (length bs))
 ends_took at (Words m) r bs e =
@@ -210,8 +210,8 @@ by_none s P at (Words n) bad = bad (refusal 8 (at + 4 * n) 0)
 module _ (s : List ℕ) (P : Read (List ℕ) → Type 0) (at : ℕ) (l : Limit) (bad : (x : Refusal) → P (refused x (reader_at s at l)))
     (good : (n : ℕ) (e : Decoder) → at + n < length s → Took (decoder at l) e (text_words n) → P (got (slice at (at + n) s) (reader_of s e))) where
   -- a string that ends, UTF-8 or not
-  by_utf8 : (bs : List ℕ) (t : Bool) → is_utf8 bs ≡ t → at ≤ length s → until_zero (searched l (drop at s)) ≡ some bs
-      → P (text_found (some bs) (reader_at s at l))
+  by_utf8 : (bs : List ℕ) (t : Bool) → is_utf8 bs ≡ t → at ≤ length s → until_zero (searched l (drop at s)) ≡ Some bs
+      → P (text_found (Some bs) (reader_at s at l))
   unfolding reader_of reader_at
   by_utf8 bs true g h e =
       let k : ℕ = text_words (length bs) in
@@ -226,8 +226,8 @@ module _ (s : List ℕ) (P : Read (List ℕ) → Type 0) (at : ℕ) (l : Limit) 
   -- a string that ends or not
   by_end : (o : Option (List ℕ)) → at ≤ length s → until_zero (searched l (drop at s)) ≡ o → P (text_found o (reader_at s at l))
   unfolding reader_at
-  by_end none h e = by_none s P at l bad
-  by_end (some bs) h e = by_utf8 bs (is_utf8 bs) refl h e
+  by_end None h e = by_none s P at l bad
+  by_end (Some bs) h e = by_utf8 bs (is_utf8 bs) refl h e
 
   -- by the tests of the position and of the limit
   by_tests : (t u : Bool) → ltb (length s) at ≡ t → limit_past l (drop at s) ≡ u → P (read_text_at s at l)

@@ -3,7 +3,7 @@ use Prim.Native.Nat.{ℕ, zero, suc, ◌+◌, ◌*◌, ◌-◌, ◌/◌, ◌<◌
 use mathlib.Core.Path.{◌≡◌, refl, ap, sym, ◌∙◌}
 use mathlib.Core.Bool.{Bool, true, false}
 use mathlib.Core.List.{List, ◌∷◌}
-use mathlib.Core.Option.{Option, none, some}
+use Rattle.std.specs.Prelude.{Option, None, Some}
 use native.Mathlib.Numerals.{add-one}
 use native.Mathlib.Omega.{arith}
 use borrow.Author.Tests.{lt-ltb, le-ltb, ltb-true, ltb-false, eq-eqb, ne_eqb, eqb-true, eqb-false}
@@ -146,15 +146,15 @@ unfolding end_in end_by
 end_found l n t h e = sym (ap end_by (zero_at l n h).1 ∙ simp (e, ← end_size l n h))
 
 -- a string that ends, by whether it is UTF-8, is shorter than the bytes
-after_if : (l : List ℕ) (n : ℕ) (bs : List ℕ) (t : Bool) → until_zero l ≡ some bs → After n ≡ (if t then After (length bs) else NotUtf8) → n < length l
+after_if : (l : List ℕ) (n : ℕ) (bs : List ℕ) (t : Bool) → until_zero l ≡ Some bs → After n ≡ (if t then After (length bs) else NotUtf8) → n < length l
 after_if l n bs true e h = let q : n ≡ length bs = cc in omega (arith, (ends_in l bs e).0)
 after_if l n bs false e h = let z : ◌≡◌ {A = ℕ} 0 1 = cc in absurd (omega arith)
 
 -- by the bytes before the first zero byte
 after_by : (l : List ℕ) (n : ℕ) (o : Option (List ℕ)) → until_zero l ≡ o → After n ≡ end_by o → n < length l
 unfolding end_by
-after_by l n none e h = let z : ◌≡◌ {A = ℕ} 0 1 = cc in absurd (omega arith)
-after_by l n (some bs) e h = after_if l n bs (is_utf8 bs) e h
+after_by l n None e h = let z : ◌≡◌ {A = ℕ} 0 1 = cc in absurd (omega arith)
+after_by l n (Some bs) e h = after_if l n bs (is_utf8 bs) e h
 
 -- A STRING
 
@@ -165,7 +165,7 @@ pub record Sought (s : List ℕ) (at : ℕ) (l : Limit) (end : ℕ) (left : ℕ 
   pub unpassed : limit_past l (drop at s) ≡ false
   pub bytes : take (end - at) (drop at s) ≡ searched l (drop at s)
   pub takes : (k : ℕ) → left k ≡ less l k
-  pub none : no_zero l (reader_at s at l) ≡ refused x (reader_at s at l)
+  pub None : no_zero l (reader_at s at l) ≡ refused x (reader_at s at l)
 
 -- all bytes from the position on, without a limit
 pub sought_free : (s : List ℕ) (at : ℕ) (l : Limit) → l ≡ Unlimited → at ≤ length s → Sought s at l (length s) (λ k. l) (refusal 9 at 0)
@@ -176,7 +176,7 @@ sought_free s at Unlimited e h = record {
   unpassed = refl;
   bytes = take_all (length s - at) (drop at s) (simp length-drop (omega arith));
   takes = λ k. refl;
-  none = refl;
+  None = refl;
 }
 sought_free s at (Words m) e h = let z : ◌≡◌ {A = ℕ} 0 1 = cc in absurd (omega arith)
 
@@ -194,7 +194,7 @@ sought_words s at (Words n) m e h g =
       unpassed = le-ltb (length (drop at s)) (4 * n) (simp length-drop (omega arith));
       bytes = ap (λ (k : ℕ). take k (drop at s)) p;
       takes = λ k. ap (λ (i : ℕ). Words (i - k)) (sym q);
-      none = ap (λ (i : ℕ). refused (refusal 8 (at + 4 * i) 0) (reader_at s at (Words n))) q;
+      None = ap (λ (i : ℕ). refused (refusal 8 (at + 4 * i) 0) (reader_at s at (Words n))) q;
     }
 
 -- a string's answer by where it ends
@@ -213,7 +213,7 @@ with_breaks s at n b e h = ap (λ (i : ℕ). GotText (record { start = at; lengt
 module _ {s : List ℕ} {at : ℕ} {l : Limit} {end : ℕ} {left : ℕ → Limit} {x : Refusal} (r : Sought s at l end left x) where
   -- a string that ends, UTF-8 or not, has that answer
   answer_utf8 : (bs : List ℕ) (t : Bool) → is_utf8 bs ≡ t
-      → end_answer s at l left x (end_by (some bs)) ≡ text_answer at (drop at s) (text_found (some bs) (reader_at s at l))
+      → end_answer s at l left x (end_by (Some bs)) ≡ text_answer at (drop at s) (text_found (Some bs) (reader_at s at l))
   unfolding end_answer end_by text_answer reader_at
   answer_utf8 bs true e =
       simp e
@@ -224,8 +224,8 @@ module _ {s : List ℕ} {at : ℕ} {l : Limit} {end : ℕ} {left : ℕ → Limit
   -- a string that ends or not has it
   answer_end : (o : Option (List ℕ)) → end_answer s at l left x (end_by o) ≡ text_answer at (drop at s) (text_found o (reader_at s at l))
   unfolding end_answer end_by text_answer reader_at
-  answer_end none = sym (ap (text_answer at (drop at s)) r.none)
-  answer_end (some bs) = answer_utf8 bs (is_utf8 bs) refl
+  answer_end None = sym (ap (text_answer at (drop at s)) r.none)
+  answer_end (Some bs) = answer_utf8 bs (is_utf8 bs) refl
 
   -- a string, by where it ends
   pub text_by : (v : End) (y : TextRead) → v ≡ end_in (take (end - at) (drop at s)) → y ≡ end_answer s at l left x v → y ≡ text_from s (decoder at l)

@@ -1,6 +1,6 @@
 -- What the decoder's inner steps come to.
 use Rattle.std.specs.Prelude.{ℕ, List, length, if◌then◌else◌}
-use Rattle.std.proofs.Math.Option.{Option, none, some}
+use Rattle.std.specs.Prelude.{Option, None, Some}
 use Rattle.spec.specs.Text.{until_zero, is_utf8}
 use Rattle.spec.specs.Reader.{less}
 use Rattle.decoder.specs.declared.Decoder.{Decoder}
@@ -14,8 +14,8 @@ take_one d = decoder d.offset (less d.limit 1)
 
 -- where a string ends, by the bytes before the first zero byte
 unfoldable pub end_by : Option (List ℕ) → End
-end_by none = NoZero
-end_by (some bs) = if is_utf8 bs then After (length bs) else NotUtf8
+end_by None = NoZero
+end_by (Some bs) = if is_utf8 bs then After (length bs) else NotUtf8
 
 -- where the string at the start of some bytes ends
 unfoldable pub end_in : List ℕ → End

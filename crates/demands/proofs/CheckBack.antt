@@ -3,7 +3,7 @@ use Prim.Native.Nat.{ℕ, suc, ◌+◌, ◌*◌, ◌/◌, ◌%◌, ◌<◌}
 use mathlib.Core.Path.{◌≡◌, refl, ap, sym, ◌∙◌}
 use mathlib.Core.Bool.{Bool, true, not, ◌&&◌, ◌||◌}
 use mathlib.Core.List.{List, [], ◌∷◌, ◌++◌, append_assoc}
-use mathlib.Core.Option.{Option, none, some}
+use Rattle.std.specs.Prelude.{Option, None, Some}
 use native.Mathlib.Omega.{arith}
 use native.Mathlib.Nat.{add-zero}
 use borrow.Author.Tests.{le-leb, eq-eqb}
@@ -78,10 +78,10 @@ opcode_back start p h = omega arith
 presence_good : (t i : Option ℕ)
     → (leb (presence t i) 3 && implies (eqb (presence t i % 2) 0) (eqb (or_zero t) 0)
     && implies (ltb (presence t i) 2) (eqb (or_zero i) 0)) ≡ true
-presence_good none none = refl
-presence_good none (some i) = refl
-presence_good (some t) none = refl
-presence_good (some t) (some i) = refl
+presence_good None None = refl
+presence_good None (Some i) = refl
+presence_good (Some t) None = refl
+presence_good (Some t) (Some i) = refl
 
 -- an instruction's fields are good at its offset
 fields_good_lem : (start at : ℕ) (p : Placed) → InstrGood p.instr → p.instr.offset ≡ at → fields_good at (fields_of start p) ≡ true
@@ -93,7 +93,7 @@ fields_good_lem start at p x e =
 
 -- so no record has bad fields
 no_fields_fault : {at : ℕ} {s e : State} {is : List Placed} → Follow at s is e → (index start : ℕ)
-    → fields_fault index at (fields_from start is) ≡ none
+    → fields_fault index at (fields_from start is) ≡ None
 unfolding fields_fault fields_from fields_of
 no_fields_fault last index start = refl
 no_fields_fault (leading {at = at} {p = p} x e placed more) index start =
@@ -112,14 +112,14 @@ has_all (b ∷ s) t = has_all s t
 
 -- a string
 text_taken : (s : List ℕ) (a b : ℕ) (log strings : List ℕ) → no_zeros s ≡ true → is_utf8 s ≡ true
-    → take_text b (length s) (remains a log b (s ++ strings)) ≡ some (text s, remains (a + 9) (drop 9 log) (b + length s) strings)
+    → take_text b (length s) (remains a log b (s ++ strings)) ≡ Some (text s, remains (a + 9) (drop 9 log) (b + length s) strings)
 text_taken s a b log strings z u =
     rw (eq-eqb b b refl, has_all s strings, take-append_seam s strings, drop-append_seam s strings, z, u)
 
 -- an operand that they begin with
 one_taken : (o : Operand) (a b : ℕ) (log strings : List ℕ) → Holds o → b + 4 * operand_size o < 4294967296
     → take_operand (remains a (operand_log b o ++ log) b (operand_string o ++ strings))
-    ≡ some (o, remains (a + length (operand_log 0 o)) log (b + length (operand_string o)) strings)
+    ≡ Some (o, remains (a + length (operand_log 0 o)) log (b + length (operand_string o)) strings)
 unfolding take_operand operand_log operand_string operand_size bytes_of
 one_taken (narrow k v) a b log strings h u =
     rw (
@@ -139,7 +139,7 @@ one_taken (text s) a b log strings h u =
 -- operands that log and strings begin with
 operands_taken : (os : List Operand) (a b : ℕ) (log strings : List ℕ) → AllHold os → b + 4 * operands_size os < 4294967296
     → take_operands (length os) (remains a (operands_log b os ++ log) b (operands_strings os ++ strings))
-    ≡ some (os, remains (a + length (operands_log 0 os)) log (b + length (operands_strings os)) strings)
+    ≡ Some (os, remains (a + length (operands_log 0 os)) log (b + length (operands_strings os)) strings)
 unfolding take_operands operands_log operands_strings operands_size
 operands_taken [] a b log strings h u = rw (add-zero a, add-zero b)
 operands_taken (o ∷ os) a b log strings h u =
@@ -166,16 +166,16 @@ placed_back start p h =
     rw (type_back p.instr.result_type p.instr.result_id, id_back p.instr.result_type p.instr.result_id))
   where
     type_back : (t i : Option ℕ) → field_in (eqb (presence t i % 2) 1) (or_zero t) ≡ t
-    type_back none none = refl
-    type_back none (some i) = refl
-    type_back (some t) none = refl
-    type_back (some t) (some i) = refl
+    type_back None None = refl
+    type_back None (Some i) = refl
+    type_back (Some t) None = refl
+    type_back (Some t) (Some i) = refl
 
     id_back : (t i : Option ℕ) → field_in (leb 2 (presence t i)) (or_zero i) ≡ i
-    id_back none none = refl
-    id_back none (some i) = refl
-    id_back (some t) none = refl
-    id_back (some t) (some i) = refl
+    id_back None None = refl
+    id_back None (Some i) = refl
+    id_back (Some t) None = refl
+    id_back (Some t) (Some i) = refl
 
 -- its word count is right
 words_good_lem : (p : Placed) → InstrGood p.instr → words_good p ≡ true
@@ -185,7 +185,7 @@ words_good_lem p x = eq-eqb _ _ x.count
 -- an instruction that its record, log and strings begin with
 record_taken : (p : Placed) (start b : ℕ) (log strings : List ℕ) → InstrGood p.instr → b + 4 * operands_size p.instr.operands < 4294967296
     → take_record (fields_of start p) (remains start (operands_log b p.instr.operands ++ log) b (operands_strings p.instr.operands ++ strings))
-    ≡ some (p, remains (start + length (operands_log 0 p.instr.operands)) log (b + length (operands_strings p.instr.operands)) strings)
+    ≡ Some (p, remains (start + length (operands_log 0 p.instr.operands)) log (b + length (operands_strings p.instr.operands)) strings)
 unfolding take_record fields_of
 record_taken p start b log strings x u =
     rw (
@@ -199,7 +199,7 @@ record_taken p start b log strings x u =
 scan_back : {at : ℕ} {s e : State} {is : List Placed} → Follow at s is e → (log_count string_count index start b : ℕ)
     → b + 4 * words_in is < 4294967296 → start + length (log_from 0 is) ≡ log_count → b + length (string_store is) ≡ string_count
     → scan_from log_count string_count index (remains start (log_from b is) b (string_store is)) (fields_from start is)
-    ≡ record { instrs = is; fault = none }
+    ≡ record { instrs = is; fault = None }
 unfolding scan_from fields_from log_from string_store words_in fields_of
 scan_back last log_count string_count index start b u el es =
     rw (eq-eqb start log_count (omega arith), eq-eqb b string_count (omega arith))
@@ -220,7 +220,7 @@ scan_back (leading {p = p} {ps = ps} x e placed more) log_count string_count ind
 
 -- no record has a bad tag
 no_tags_fault : {at : ℕ} {s e : State} {is : List Placed} → Follow at s is e → (whole : Bool)
-    → implies whole (eqb (end_number e) 0) ≡ true → (index start : ℕ) → tags_fault whole index s (fields_from start is) ≡ none
+    → implies whole (eqb (end_number e) 0) ≡ true → (index start : ℕ) → tags_fault whole index s (fields_from start is) ≡ None
 unfolding tags_fault fields_from fields_of
 no_tags_fault last whole w index start = rw w
 no_tags_fault (leading {p = p} x e placed more) whole w index start =

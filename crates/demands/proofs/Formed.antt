@@ -3,7 +3,7 @@ use Prim.Native.Nat.{ℕ}
 use mathlib.Core.Path.{◌≡◌, refl}
 use mathlib.Core.Bool.{Bool, true, false, ◌&&◌, ◌||◌}
 use mathlib.Core.List.{List, [], ◌∷◌, ◌++◌}
-use mathlib.Core.Option.{Option, none, some}
+use Rattle.std.specs.Prelude.{Option, None, Some}
 use borrow.Author.Tests.{eqb-true}
 use lib.Dec.{leb, eqb}
 use lib.ListN.{length}
@@ -79,7 +79,7 @@ unfolding rows_of row_of next
 rows_good op [] s e = tt
 rows_good op (row o ∷ xs) s e =
     let more : rules_from (in_row o []) xs ≡ true = rest_rules s (row o) xs e in
-    either (IfSome (RowFrom true true)) (eqb o op) (some (slots_of xs)) (row_of op (rows_of xs)) (λ t. slots_from xs o [] more)
+    either (IfSome (RowFrom true true)) (eqb o op) (Some (slots_of xs)) (row_of op (rows_of xs)) (λ t. slots_from xs o [] more)
     (λ t. rows_good op xs (in_row o []) more)
 rows_good op (operand k q ∷ xs) s e = rows_good op xs (next s (operand k q)) (rest_rules s (operand k q) xs e)
 rows_good op (enumerant k v ∷ xs) s e = rows_good op xs (next s (enumerant k v)) (rest_rules s (enumerant k v) xs e)
@@ -110,7 +110,7 @@ unfolding enumerants_of listed next
 listed_good k v [] s e = tt
 listed_good k v (enumerant j u ∷ xs) s e =
     let more : rules_from (in_enumerant j u) xs ≡ true = rest_rules s (enumerant j u) xs e in
-    either ParametersGood (eqb j k && eqb u v) (some (parameters_of xs)) (listed k v (enumerants_of xs))
+    either ParametersGood (eqb j k && eqb u v) (Some (parameters_of xs)) (listed k v (enumerants_of xs))
     (λ t. parameters_from xs j u more)
     (λ t. listed_good k v xs (in_enumerant j u) more)
 listed_good k v (row o ∷ xs) s e = listed_good k v xs (next s (row o)) (rest_rules s (row o) xs e)
@@ -120,9 +120,9 @@ listed_good k v (broken ∷ xs) s e = listed_good k v xs (next s broken) (rest_r
 
 -- the parameters of two values
 both_good : (a b : Option (List ℕ)) → ParametersGood a → ParametersGood b → ParametersGood (both_listed a b)
-both_good none b x y = tt
-both_good (some a) none x y = tt
-both_good (some a) (some b) x y = every_append may_be_parameter a b x y
+both_good None b x y = tt
+both_good (Some a) None x y = tt
+both_good (Some a) (Some b) x y = every_append may_be_parameter a b x y
 
 -- the parameters of each of some bits
 bits_good : (k : ℕ) (bs : List ℕ) (xs : List Item) → rules_from start xs ≡ true → ParametersGood (bits_listed k bs (enumerants_of xs))

@@ -4,7 +4,7 @@ use Prim.Native.Nat.{ℕ, zero, suc, ◌+◌, ◌*◌, ◌%◌, ◌≤◌, ◌<�
 use mathlib.Core.Path.{◌≡◌}
 use mathlib.Core.Bool.{Bool, true, false, ◌&&◌}
 use mathlib.Core.List.{List, [], ◌∷◌}
-use mathlib.Core.Option.{Option, none, some}
+use Rattle.std.specs.Prelude.{Option, None, Some}
 use native.Mathlib.Omega.{arith}
 use borrow.Author.Tests.{eqb-true, leb-true, leb-false}
 use lib.Dec.{leb, ltb, eqb}
@@ -36,31 +36,31 @@ AtMost o = IfSome (λ i. i ≤ most) o
 
 -- an index that is at most that
 abbrev There : Option ℕ → Type 0
-There none = ⊥
-There (some i) = i ≤ most
+There None = ⊥
+There (Some i) = i ≤ most
 
 -- it is there or not
 there_most : (o : Option ℕ) → There o → AtMost o
-there_most none p = tt
-there_most (some i) p = p
+there_most None p = tt
+there_most (Some i) p = p
 
 -- the lower of two
 lower_most : (a b : Option ℕ) → AtMost a → AtMost b → AtMost (lower a b)
-lower_most none b p q = q
-lower_most (some i) none p q = p
-lower_most (some i) (some j) p q = either AtMost (leb i j) (some i) (some j) (λ e. p) (λ e. q)
+lower_most None b p q = q
+lower_most (Some i) None p q = p
+lower_most (Some i) (Some j) p q = either AtMost (leb i j) (Some i) (Some j) (λ e. p) (λ e. q)
 
 -- the lower of two, of which the first is there
 lower_first : (a b : Option ℕ) → There a → There (lower a b)
-lower_first none b p = absurd p
-lower_first (some i) none p = p
-lower_first (some i) (some j) p = either There (leb i j) (some i) (some j) (λ e. p) (λ e. omega (arith, leb-false i j e))
+lower_first None b p = absurd p
+lower_first (Some i) None p = p
+lower_first (Some i) (Some j) p = either There (leb i j) (Some i) (Some j) (λ e. p) (λ e. omega (arith, leb-false i j e))
 
 -- of which the second is there
 lower_second : (a b : Option ℕ) → There b → There (lower a b)
-lower_second none b p = p
-lower_second (some i) none p = absurd p
-lower_second (some i) (some j) p = either There (leb i j) (some i) (some j) (λ e. omega (arith, leb-true i j e)) (λ e. p)
+lower_second None b p = p
+lower_second (Some i) None p = absurd p
+lower_second (Some i) (Some j) p = either There (leb i j) (Some i) (Some j) (λ e. omega (arith, leb-true i j e)) (λ e. p)
 
 -- THE RECORDS
 
@@ -107,8 +107,8 @@ module _ (log_count string_count : ℕ) where
     -- by what it says
     said_soon : (l : Left) → fields_good at f ≡ true → (o : Option (Placed × Left)) → IfSome (Said f l) o
         → Later (on_record index o (λ m. scan_from log_count string_count (suc index) m fs))
-    said_soon l g none p = bad_scan here
-    said_soon l g (some x) p =
+    said_soon l g None p = bad_scan here
+    said_soon l g (Some x) p =
         let is = (fields_told at f g).0 in
         let one = words_some f p.operands p.words in
         let same : suc index + length fs ≡ index + length (f ∷ fs) = omega arith in
@@ -120,7 +120,7 @@ module _ (log_count string_count : ℕ) where
     record_soon l =
         either
         (λ (o : Option ℕ). Soon o (scan_from log_count string_count index l (f ∷ fs)).fault (index + length (f ∷ fs)))
-        (fields_good at f) (fields_fault (suc index) (at + 4 * f.words) fs) (some index)
+        (fields_good at f) (fields_fault (suc index) (at + 4 * f.words) fs) (Some index)
         (λ g. said_soon l g (take_record f l) (record_said f l))
         (λ g. bad_fields here)
 
@@ -129,7 +129,7 @@ module _ (log_count string_count : ℕ) where
   unfolding fields_fault scan_from
   soon [] index at l p h e =
       few tt
-      (either AtMost (eqb l.log_at log_count && eqb l.strings_at string_count) none (some index) (λ t. tt) (λ t. e))
+      (either AtMost (eqb l.log_at log_count && eqb l.strings_at string_count) None (Some index) (λ t. tt) (λ t. e))
       (omega arith)
   soon (f ∷ fs) index at l p h e =
       record_soon f fs index at p.0 h e (λ a b m. soon fs (suc index) (at + 4 * f.words) m p.1 a b) l
@@ -137,7 +137,7 @@ module _ (log_count string_count : ℕ) where
 -- a record's tag, where the tags after it are so
 tag_most : (index tag : ℕ) (c : Cell) (more : State → Option ℕ) → index ≤ most → ((s : State) → AtMost (more s))
     → AtMost (on_tag index tag c more)
-tag_most index tag (Tagged t s) more e on = either AtMost (eqb tag t) (more s) (some index) (λ x. on s) (λ x. e)
+tag_most index tag (Tagged t s) more e on = either AtMost (eqb tag t) (more s) (Some index) (λ x. on s) (λ x. e)
 tag_most index tag (Refuses n) more e on = e
 
 -- the first record with a bad tag, or the end
@@ -145,7 +145,7 @@ tags_most : (whole : Bool) (fs : List Fields) (index : ℕ) (s : State) → inde
     → AtMost (tags_fault whole index s fs)
 unfolding tags_fault
 tags_most whole [] index s e =
-    either AtMost (implies whole (eqb (end_number s) 0)) none (some index) (λ t. tt) (λ t. omega arith)
+    either AtMost (implies whole (eqb (end_number s) 0)) None (Some index) (λ t. tt) (λ t. omega arith)
 tags_most whole (f ∷ fs) index s e =
     tag_most index f.tag (layout_of (f.head % 65536) s) (λ t. tags_fault whole (suc index) t fs) (omega arith)
     (λ t. tags_most whole fs (suc index) t (omega arith))
@@ -153,7 +153,7 @@ tags_most whole (f ∷ fs) index s e =
 -- the first record that is missing
 missing_most : (count : ℕ) (fs : List Fields) → 1 + length fs ≤ most → AtMost (missing count fs)
 unfolding missing
-missing_most count fs e = either AtMost (eqb (length fs) count) none (some (length fs + 1)) (λ t. tt) (λ t. omega arith)
+missing_most count fs e = either AtMost (eqb (length fs) count) None (Some (length fs + 1)) (λ t. tt) (λ t. omega arith)
 
 -- THE INDEX
 
@@ -192,8 +192,8 @@ BadSoon (good is) = Unit
 
 -- by the first fault
 checked_soon : (o : Option ℕ) (is : List Placed) → AtMost o → BadSoon (checked_by o is)
-checked_soon none is p = tt
-checked_soon (some i) is p = p
+checked_soon None is p = tt
+checked_soon (Some i) is p = p
 
 -- the first fault in stores whose words are of 32 bits
 fault_low : (size : ℕ) (whole : Bool) (x : Given) → WordsFit x.instructions
@@ -210,18 +210,18 @@ pub fault_index : (size : ℕ) (whole : Bool) (x : Given) → WordsFit x.instruc
 fault_index size whole x fit = by (fault_of size whole x) (low_most (fault_of size whole x) _ (fault_low size whole x fit))
   where
     by : (o : Option ℕ) → AtMost o → IfSome (λ i. i < 4294967296) o
-    by none p = tt
-    by (some i) p = omega arith
+    by None p = tt
+    by (Some i) p = omega arith
 
 -- where there is none the records are few
-pub good_few : (size : ℕ) (whole : Bool) (x : Given) → WordsFit x.instructions → fault_of size whole x ≡ none
+pub good_few : (size : ℕ) (whole : Bool) (x : Given) → WordsFit x.instructions → fault_of size whole x ≡ None
     → length (records_in size x) ≤ 1073741824
 good_few size whole x fit e = by (fault_of size whole x) e (fault_low size whole x fit)
   where
-    by : (o : Option ℕ) → o ≡ none → Low o (1 + length (records_in size x)) → length (records_in size x) ≤ 1073741824
-    by none e (is_there p) = absurd p
-    by none e (fewer p h) = omega arith
-    by (some i) e l = let z : ◌≡◌ {A = ℕ} 0 1 = cc in absurd (omega arith)
+    by : (o : Option ℕ) → o ≡ None → Low o (1 + length (records_in size x)) → length (records_in size x) ≤ 1073741824
+    by None e (is_there p) = absurd p
+    by None e (fewer p h) = omega arith
+    by (Some i) e l = let z : ◌≡◌ {A = ℕ} 0 1 = cc in absurd (omega arith)
 
 -- a check of them
 check_soon : (size : ℕ) (whole : Bool) (x : Given) → WordsFit x.instructions → BadSoon (check size whole x)
@@ -265,15 +265,15 @@ scan_few log_count string_count (f ∷ fs) index l = by (take_record f l) (λ m.
   where
     by : (o : Option (Placed × Left)) → ((m : Left) → length (scan_from log_count string_count (suc index) m fs).instrs ≤ length fs)
         → length (on_record index o (λ m. scan_from log_count string_count (suc index) m fs)).instrs ≤ length (f ∷ fs)
-    by none later = omega arith
-    by (some x) later = omega (arith, later x.1)
+    by None later = omega arith
+    by (Some x) later = omega (arith, later x.1)
 
 -- the first of some instructions that lacks a name
 unnamed_most : (is : List Placed) (index : ℕ) → index + length is ≤ most → AtMost (unnamed index is)
 unfolding unnamed
 unnamed_most [] index e = tt
 unnamed_most (p ∷ ps) index e =
-    either AtMost (is_named p) (unnamed (suc index) ps) (some index)
+    either AtMost (is_named p) (unnamed (suc index) ps) (Some index)
     (λ t. unnamed_most ps (suc index) (omega arith)) (λ t. omega arith)
 
 -- the index of the listing

@@ -4,7 +4,7 @@ use Prim.Native.Nat.{ℕ, zero, suc, ◌+◌, ◌*◌, ◌-◌, ◌/◌, ◌%◌
 use mathlib.Core.Path.{◌≡◌, refl, ap, sym, ◌∙◌, subst}
 use mathlib.Core.Bool.{true, false}
 use mathlib.Core.List.{List, [], ◌∷◌, ◌++◌, append_assoc, append-nil}
-use mathlib.Core.Option.{Option, none, some}
+use Rattle.std.specs.Prelude.{Option, None, Some}
 use native.Mathlib.Omega.{arith}
 use native.Mathlib.Nat.{div-add-mod'}
 use borrow.Author.Tests.{eqb-false}
@@ -77,26 +77,26 @@ seen t i os = record { result_type = t; result_id = i; operands = os }
 -- their words
 seen_size : (t i : Option ℕ) (os : List Operand) → operands_size (as_operands (seen t i os)) ≡ id_size t + id_size i + operands_size os
 unfolding operands_size operand_size
-seen_size none none os = omega arith
-seen_size none (some i) os = omega arith
-seen_size (some t) none os = omega arith
-seen_size (some t) (some i) os = omega arith
+seen_size None None os = omega arith
+seen_size None (Some i) os = omega arith
+seen_size (Some t) None os = omega arith
+seen_size (Some t) (Some i) os = omega arith
 
 -- the bytes written for them, after those of the first word
 seen_bytes : (first : List ℕ) (t i : Option ℕ) (os : List Operand)
     → first ++ id_bytes t ++ id_bytes i ++ joined operand_bytes os ≡ first ++ joined operand_bytes (as_operands (seen t i os))
 unfolding operand_bytes
-seen_bytes first none none os = simp append-nil
-seen_bytes first none (some i) os = simp (append_assoc, append-nil)
-seen_bytes first (some t) none os = simp (append_assoc, append-nil)
-seen_bytes first (some t) (some i) os = simp append_assoc
+seen_bytes first None None os = simp append-nil
+seen_bytes first None (Some i) os = simp (append_assoc, append-nil)
+seen_bytes first (Some t) None os = simp (append_assoc, append-nil)
+seen_bytes first (Some t) (Some i) os = simp append_assoc
 
 -- the operands alone
 seen_holds : (t i : Option ℕ) (os : List Operand) → AllHold (as_operands (seen t i os)) → AllHold os
-seen_holds none none os x = x
-seen_holds none (some i) os x = x.1
-seen_holds (some t) none os x = x.1
-seen_holds (some t) (some i) os x = x.1.1
+seen_holds None None os x = x
+seen_holds None (Some i) os x = x.1
+seen_holds (Some t) None os x = x.1
+seen_holds (Some t) (Some i) os x = x.1.1
 
 -- what breaks an instruction is in the bytes after its first word
 seen_breaks : (pre : List ℕ) (at count op a b c d : ℕ) (z : List ℕ) (s : Seen) → length pre ≡ at
@@ -123,7 +123,7 @@ module _ (g : Grammar) (good : GrammarGood g) (types : List Entry) (at a b c d :
   abbrev rest : List ℕ
   rest = a ∷ b ∷ c ∷ d ∷ r
 
-  module _ (some_word : eqb count 0 ≡ false) (ss : List Slot) (found : row_of op g.rows ≡ some ss) where
+  module _ (some_word : eqb count 0 ≡ false) (ss : List Slot) (found : row_of op g.rows ≡ Some ss) where
     -- what reads its row
     abbrev row_read : Parse Seen
     row_read = read_row g types (count - 1) ss nothing_seen
@@ -234,8 +234,8 @@ module _ (g : Grammar) (good : GrammarGood g) (types : List Entry) (at a b c d :
   -- by its opcode's row
   body_frames : eqb count 0 ≡ false → (o : Option (List Slot)) → row_of op g.rows ≡ o → IfSome (RowFrom true true) o
       → Frames g types at rest (read_body g types at count op o (reader (at + 4) Unlimited r))
-  body_frames some_word none e row = omega arith
-  body_frames some_word (some ss) e row =
+  body_frames some_word None e row = omega arith
+  body_frames some_word (Some ss) e row =
       row_frames some_word ss e (read_row g types (count - 1) ss nothing_seen (reader (at + 4) (Words (count - 1)) r))
       ((row_reads g good types (count - 1) ss row).comes (at + 4) (count - 1) r)
 

@@ -3,7 +3,7 @@ use Prim.Native.Nat.{ℕ, ◌<◌, ◌≤◌}
 use mathlib.Core.Path.{◌≡◌, refl, ap}
 use mathlib.Core.Bool.{Bool, true, false, not, ◌&&◌, ◌||◌}
 use mathlib.Core.List.{[], ◌∷◌}
-use mathlib.Core.Option.{Option, none, some}
+use Rattle.std.specs.Prelude.{Option, None, Some}
 use native.Mathlib.Omega.{arith}
 use borrow.Author.Tests.{eqb-true, not-true}
 use lib.Dec.{eqb}
@@ -76,8 +76,8 @@ LiteralKind o = IfSome (λ k. (is_long k || is_whole k) ≡ true) o
 
 -- by any type
 pub literal_kind_lem : (x : Option Entry) → LiteralKind (literal_kind_of x)
-literal_kind_lem none = refl
-literal_kind_lem (some (entry id width sort)) =
+literal_kind_lem None = refl
+literal_kind_lem (Some (entry id width sort)) =
     either LiteralKind (eqb sort 3) _ _
     (λ e. either LiteralKind (is_in width (16 ∷ 32 ∷ [])) _ _ (λ e. refl)
     (λ e. either LiteralKind (eqb width 64) _ _ (λ e. refl) (λ e. tt)))

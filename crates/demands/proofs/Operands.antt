@@ -3,7 +3,7 @@ use Prim.Native.Nat.{ℕ, ◌/◌, ◌%◌}
 use mathlib.Core.Path.{◌≡◌, refl, ◌∙◌, subst, fun_ext}
 use mathlib.Core.Bool.{Bool, true, false}
 use mathlib.Core.List.{List, [], ◌∷◌, ◌++◌}
-use mathlib.Core.Option.{Option, none, some}
+use Rattle.std.specs.Prelude.{Option, None, Some}
 use native.Mathlib.Omega.{arith}
 use lib.Dec.{eqb}
 use lib.ListN.{length-append}
@@ -46,8 +46,8 @@ long_reads = then_reads word_reads (λ a x y p. into_reads (long a) word_reads (
 -- a literal as a record of a kind
 literal_as_reads : (o : Option ℕ) → LiteralKind o → Reads Tells (read_literal_as o)
 unfolding read_literal_as
-literal_as_reads none e = stop_reads (omega arith)
-literal_as_reads (some k) e =
+literal_as_reads None e = stop_reads (omega arith)
+literal_as_reads (Some k) e =
     if_reads (is_long k) (λ t. into_reads (wide k) long_reads (λ v x y p. wide_tells k v x y t p))
     (λ t. into_reads (narrow k) word_reads (λ v x y p. narrow_tells k v x y (other (is_long k) (is_whole k) e t) p))
 
@@ -132,8 +132,8 @@ module _ (g : Grammar) (good : GrammarGood g) where
     where
       by : (op : ℕ) (x y : List ℕ) → Tells (narrow 39 op) x y → (o : Option (List Slot)) → IfSome (RowFrom true true) o
           → Reads (λ os z w. Along os (x ++ z) (y ++ w)) (embedded_by g op o)
-      by op x y p none row = stop_reads (omega arith)
-      by op x y p (some ss) row =
+      by op x y p None row = stop_reads (omega arith)
+      by op x y p (Some ss) row =
           if_reads (every embeds ss)
           (λ t. into_reads (λ os. narrow 39 op ∷ os) (once_reads true true ss row t) (λ os z w a. one_more p a))
           (λ t. stop_reads (omega arith))

@@ -207,9 +207,9 @@ plain_parts : (s : List ℕ) (o : Outcome) → (with_plain s o).said.plain ≡ t
 unfolding module_break
 plain_parts s o p =
     let accepts : Bool = eqb o.said.number 0 in
-    let none : Bool = eqb (module_break s o.kept) 0 in
-    let both = neither (kept_break s o.kept) (tail_break (length s)) (eqb-true (module_break s o.kept) 0 (right accepts none p)) in
-    (eqb-true o.said.number 0 (left accepts none p), both.0, both.1)
+    let None : Bool = eqb (module_break s o.kept) 0 in
+    let both = neither (kept_break s o.kept) (tail_break (length s)) (eqb-true (module_break s o.kept) 0 (right accepts None p)) in
+    (eqb-true o.said.number 0 (left accepts None p), both.0, both.1)
 
 -- a module with a word or more has no tail where none breaks it
 no_tail : (n : ℕ) → 4 ≤ n → tail_break n ≡ 0 → n % 4 ≡ 0

@@ -5,7 +5,7 @@ use native.Mathlib.Omega.{arith}
 use mathlib.Core.Path.{◌≡◌, refl, sym, ◌∙◌}
 use mathlib.Core.Bool.{Bool, true, false, false≢true}
 use mathlib.Core.List.{List, [], ◌∷◌}
-use mathlib.Core.Option.{Option, none, some}
+use Rattle.std.specs.Prelude.{Option, None, Some}
 use borrow.Author.Tests.{eqb-true, eqb-false, ltb-false, lt-leb, le-ltb}
 use lib.Dec.{ltb, eqb}
 use lib.ListN.{length, drop, length-drop, length-append}
@@ -112,14 +112,14 @@ define_more i w s (entry id x y ∷ es) =
 
 -- a width and a sign, or one lacks
 int_more : (i : ℕ) (w sign : Option ℕ) (es : List Entry) → OneMore es (define_int i w sign es)
-int_more i (some w) (some sign) es = define_more i w (if eqb sign 1 then 2 else 1) es
-int_more i (some w) none es = same_more es
-int_more i none sign es = same_more es
+int_more i (Some w) (Some sign) es = define_more i w (if eqb sign 1 then 2 else 1) es
+int_more i (Some w) None es = same_more es
+int_more i None sign es = same_more es
 
 -- a width, or none
 float_more : (i : ℕ) (w : Option ℕ) (es : List Entry) → OneMore es (define_float i w es)
-float_more i (some w) es = define_more i w 3 es
-float_more i none es = same_more es
+float_more i (Some w) es = define_more i w 3 es
+float_more i None es = same_more es
 
 -- OpTypeInt
 track_int_more : (i : ℕ) (os : List Operand) (es : List Entry) → OneMore es (track_int i os es)
@@ -134,18 +134,18 @@ track_float_more i (w ∷ os) es = float_more i (literal_int w) es
 
 -- the entry of a result type, or none
 inherit_more : (i : ℕ) (e : Option Entry) (es : List Entry) → OneMore es (inherit i e es)
-inherit_more i none es = same_more es
-inherit_more i (some (entry id w s)) es = define_more i w s es
+inherit_more i None es = same_more es
+inherit_more i (Some (entry id w s)) es = define_more i w s es
 
 -- a result that is no type
 value_more : (i : ℕ) (t : Option ℕ) (es : List Entry) → OneMore es (track_value i t es)
-value_more i none es = same_more es
-value_more i (some t) es = inherit_more i (entry_of t es) es
+value_more i None es = same_more es
+value_more i (Some t) es = inherit_more i (entry_of t es) es
 
 -- a result, or none
 result_more : (op : ℕ) (t i : Option ℕ) (os : List Operand) (es : List Entry) → OneMore es (track_result op t i os es)
-result_more op t none os es = same_more es
-result_more op t (some i) os es =
+result_more op t None os es = same_more es
+result_more op t (Some i) os es =
     either (OneMore es) (is_type op) _ _
     (λ e. either (OneMore es) (eqb op 21) _ _ (λ e. track_int_more i os es)
     (λ e. either (OneMore es) (eqb op 22) _ _ (λ e. track_float_more i os es) (λ e. same_more es)))

@@ -3,7 +3,7 @@ use Prim.Native.Nat.{ℕ, zero, suc}
 use mathlib.Core.Path.{◌≡◌, refl, ap, sym, ◌∙◌, subst}
 use mathlib.Core.Bool.{Bool, true, false, ◌&&◌, true≢false, and-false}
 use mathlib.Core.List.{List, [], ◌∷◌, ◌++◌, append_assoc, append-nil}
-use mathlib.Core.Option.{none}
+use Rattle.std.specs.Prelude.{None}
 use native.Mathlib.Omega.{arith}
 use lib.Dec.{eqb}
 use Rattle.spec.specs.Grammar.{Slot, slot, is_slot, Grammar}
@@ -48,7 +48,7 @@ goes_then s t u p q = (
 
 -- where a result type is free nothing is seen, and where a result id is, no result id and no operand
 abbrev pub Free : Bool → Bool → Seen → Type 0
-Free t i s = (t ≡ true → s ≡ nothing_seen) × (i ≡ true → (s.result_id ≡ none) × (s.operands ≡ []))
+Free t i s = (t ≡ true → s ≡ nothing_seen) × (i ≡ true → (s.result_id ≡ None) × (s.operands ≡ []))
 
 -- after a kind that is not 46 nothing is
 pub free_none : (t : Bool) (k q : ℕ) (s : Seen) → eqb k 46 ≡ false → Free false (t && is_slot 46 0 (slot k q)) s
@@ -82,7 +82,7 @@ module _ (s : Seen) (w : ℕ) (x y : List ℕ) (p : Word w x y) where
   type_goes e = (narrow 33 w ∷ [], rw e, as_id)
 
   -- a result id more
-  id_goes : s.result_id ≡ none → s.operands ≡ [] → GoesOn s (with_id s w) x y
+  id_goes : s.result_id ≡ None → s.operands ≡ [] → GoesOn s (with_id s w) x y
   id_goes e f = (narrow 33 w ∷ [], simp (e, f, append-nil), as_id)
 
 module _ (g : Grammar) (good : GrammarGood g) (types : List Entry) where

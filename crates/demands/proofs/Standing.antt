@@ -3,7 +3,7 @@ use Prim.Native.Nat.{ℕ, zero, suc, ◌+◌, ◌*◌, ◌%◌, ◌<◌, ◌≤�
 use mathlib.Core.Path.{◌≡◌, refl, ap, sym, ◌∙◌, subst}
 use mathlib.Core.Bool.{Bool, true, false, not, ◌&&◌, ◌||◌, false≢true}
 use mathlib.Core.List.{List, [], ◌∷◌, ◌++◌, reverse}
-use mathlib.Core.Option.{none}
+use Rattle.std.specs.Prelude.{None}
 use native.Mathlib.Omega.{arith}
 use borrow.Author.Tests.{eqb-true, eqb-false, leb-true, le-leb, lt-leb, ne_eqb}
 use lib.Dec.{leb, eqb}
@@ -33,7 +33,7 @@ pub data Walks : State → List Placed → Type 0 where
 
 -- records that were taken and whose tags are good walk the table
 scans_walk : {log_count string_count : ℕ} {l : Left} {fs : List Fields} {is : List Placed} → Scans log_count string_count l fs is
-    → (whole : Bool) (index : ℕ) (s : State) → tags_fault whole index s fs ≡ none → Walks s is
+    → (whole : Bool) (index : ℕ) (s : State) → tags_fault whole index s fs ≡ None → Walks s is
 unfolding tags_fault placed_of
 scans_walk (ends d e) whole index s f = stops
 scans_walk (says {f = r} {x = x} said more) whole index s f =

@@ -3,7 +3,7 @@ use Prim.Native.Nat.{ℕ, suc, ◌+◌, ◌*◌, ◌-◌, ◌%◌, ◌≤◌}
 use mathlib.Core.Path.{◌≡◌, refl, ap, sym, ◌∙◌}
 use mathlib.Core.Bool.{Bool, true, false, not}
 use mathlib.Core.List.{List, [], ◌∷◌, ◌++◌, append_assoc}
-use mathlib.Core.Option.{Option, none, some}
+use Rattle.std.specs.Prelude.{Option, None, Some}
 use native.Mathlib.Omega.{arith}
 use borrow.Author.Tests.{le-ltb, ltb-false, eqb-true, not-true}
 use lib.Dec.{eqb, ltb}
@@ -31,8 +31,8 @@ pub record EndsIn (l s : List ℕ) : Type 0 where
 -- a byte that is not zero before the others
 ends_cons : (b : ℕ) (bs : List ℕ) → eqb b 0 ≡ false → (o : Option (List ℕ)) → IfSome (EndsIn bs) o
     → IfSome (EndsIn (b ∷ bs)) (cons_in b o)
-ends_cons b bs e none p = tt
-ends_cons b bs e (some s) p =
+ends_cons b bs e None p = tt
+ends_cons b bs e (Some s) p =
     record { free = both (ap not e) p.free; more = p.more; is = ap (λ (w : List ℕ). b ∷ w) p.is }
 
 -- what is found ends at the first zero
@@ -40,12 +40,12 @@ ends_in : (l : List ℕ) → IfSome (EndsIn l) (until_zero l)
 unfolding until_zero
 ends_in [] = tt
 ends_in (b ∷ bs) =
-    either (IfSome (EndsIn (b ∷ bs))) (eqb b 0) (some []) (cons_in b (until_zero bs))
+    either (IfSome (EndsIn (b ∷ bs))) (eqb b 0) (Some []) (cons_in b (until_zero bs))
     (λ e. record { free = refl; more = bs; is = ap (λ (k : ℕ). k ∷ bs) (eqb-true b 0 e) })
     (λ e. ends_cons b bs e (until_zero bs) (ends_in bs))
 
 -- a string and its zero are found
-zero_found : (s t : List ℕ) → no_zeros s ≡ true → until_zero (s ++ (0 ∷ t)) ≡ some s
+zero_found : (s t : List ℕ) → no_zeros s ≡ true → until_zero (s ++ (0 ∷ t)) ≡ Some s
 unfolding until_zero
 zero_found [] t p = refl
 zero_found (b ∷ s) t p =
@@ -72,7 +72,7 @@ text_again s x p n n' e at t h =
     let first : x ++ t ≡ s ++ (0 ∷ (p.ends.more ++ t)) =
     ap (λ (l : List ℕ). l ++ t) p.ends.is ∙ append_assoc s (0 ∷ p.ends.more) t in
     let searched : 4 * n ≡ length s + suc (4 * n - length s - 1) = omega arith in
-    let found : until_zero (take (4 * n) (x ++ t)) ≡ some s =
+    let found : until_zero (take (4 * n) (x ++ t)) ≡ Some s =
     ap (λ (l : List ℕ). until_zero (take (4 * n) l)) first
     ∙ ap (λ (m : ℕ). until_zero (take m (s ++ (0 ∷ (p.ends.more ++ t))))) searched
     ∙ ap until_zero (take-append-add s (0 ∷ (p.ends.more ++ t)) (suc (4 * n - length s - 1)))
@@ -129,8 +129,8 @@ module _ (at n : ℕ) (rest : List ℕ) (fits : 4 * n ≤ length rest) where
 
   -- by what was found
   found_comes : (o : Option (List ℕ)) → IfSome (EndsIn (take (4 * n) rest)) o → Comes Text read_text at n rest (text_found o start)
-  found_comes none p = omega arith
-  found_comes (some s) p =
+  found_comes None p = omega arith
+  found_comes (Some s) p =
       either (Comes Text read_text at n rest) (is_utf8 s) (got s (past_text (length s) start)) (refuse 11 at start)
       (λ u. let few = (text_in s p u).0 in
       let x : TextIn s (taken s) = (text_in s p u).1 in

@@ -143,9 +143,9 @@ text_tells s x y p =
             exact = λ at h z.
                 let more : List ℕ = 0 ∷ p.0.ends.more in
                 let long : length (s ++ more) ≡ 4 * text_words (length s) = ap length (sym is) ∙ p.0.long in
-                let none : not_zero (at + length s) more ≡ 0 =
+                let None : not_zero (at + length s) more ≡ 0 =
                 sym (text_break_is at s more long) ∙ ap (text_break at (length s)) (sym is) ∙ z in
-                is ∙ padded_is (at + length s) s more (omega arith) long none ∙ sym p.1;
+                is ∙ padded_is (at + length s) s more (omega arith) long None ∙ sym p.1;
           };
     }
 

@@ -2,7 +2,7 @@
 use Prim.Native.Nat.{ℕ, zero, suc, ◌+◌, ◌%◌, ◌<◌}
 use mathlib.Core.Path.{◌≡◌, refl, ap}
 use mathlib.Core.List.{List, [], ◌∷◌, ◌++◌}
-use mathlib.Core.Option.{Option, none, some}
+use Rattle.std.specs.Prelude.{Option, None, Some}
 use native.Mathlib.Omega.{arith}
 use lib.Dec.{eqb-suc-zero}
 use lib.ListN.{length}
@@ -75,7 +75,7 @@ word_reads = record { comes = by }
 
 -- an enumerant and its value's word: it is known, with its parameters
 abbrev pub KnownWord : Grammar → ℕ → Relation Known
-KnownWord g k (known v ps) x y = Word v x y × (parameters_for k v g ≡ some ps)
+KnownWord g k (known v ps) x y = Word v x y × (parameters_for k v g ≡ Some ps)
 
 -- an enumerant
 pub enumerant_reads : (g : Grammar) (k : ℕ) → Reads (KnownWord g k) (read_enumerant g k)
@@ -85,8 +85,8 @@ enumerant_reads g k = record { comes = by }
     listed : (at n a b c d : ℕ) (r : List ℕ) (o : Option (List ℕ)) → parameters_for k (four a b c d) g ≡ o
         → Comes (KnownWord g k) (read_enumerant g k) at (suc n) (a ∷ b ∷ c ∷ d ∷ r)
         (known_or at (four a b c d) o (reader (at + 4) (Words n) r))
-    listed at n a b c d r none e = omega arith
-    listed at n a b c d r (some ps) e =
+    listed at n a b c d r None e = omega arith
+    listed at n a b c d r (Some ps) e =
         word_taken {R = KnownWord g k} (read_enumerant g k) at n a b c d r (known (four a b c d) ps) (four a b c d)
         (λ at t. rw (eqb-suc-zero n, e))
         (λ by at t. rw (eqb-suc-zero n, word_again (four a b c d) (four_word a b c d by).0 at n t, e))

@@ -3,7 +3,7 @@ use Prim.Native.Nat.{ℕ, zero, suc, ◌+◌, ◌*◌, ◌-◌, ◌%◌, ◌<◌
 use mathlib.Core.Path.{◌≡◌, refl, ap, sym, subst, ◌∙◌}
 use mathlib.Core.Bool.{Bool, true, false, ◌&&◌}
 use mathlib.Core.List.{List, [], ◌∷◌}
-use mathlib.Core.Option.{Option, none, some}
+use Rattle.std.specs.Prelude.{Option, None, Some}
 use native.Mathlib.Omega.{arith}
 use native.Mathlib.Numerals.{add-one}
 use borrow.Author.Tests.{eqb-true, leb-true, leb-false, le-leb}
@@ -43,42 +43,42 @@ use Rattle.disassemble.specs.Listed.{said_from, Told, named_count, BadFromOne, b
 -- the lower of two is late where both are, and both are where it is
 lower_late : (i : ℕ) (x y : Option ℕ) → AtLeast i (lower x y) → AtLeast i x × AtLeast i y
 unfolding AtLeast
-lower_late i none y h = (tt, h)
-lower_late i (some j) none h = (h, tt)
-lower_late i (some j) (some k) h = by (leb j k) refl h
+lower_late i None y h = (tt, h)
+lower_late i (Some j) None h = (h, tt)
+lower_late i (Some j) (Some k) h = by (leb j k) refl h
   where
-    by : (t : Bool) → leb j k ≡ t → AtLeast i (if t then some j else some k) → (i ≤ j) × (i ≤ k)
+    by : (t : Bool) → leb j k ≡ t → AtLeast i (if t then Some j else Some k) → (i ≤ j) × (i ≤ k)
     by true e h = (h, omega (arith, leb-true j k e))
     by false e h = (omega (arith, leb-false j k e), h)
 
 -- late enough
 late_less : (i j : ℕ) (x : Option ℕ) → i ≤ j → AtLeast j x → AtLeast i x
 unfolding AtLeast
-late_less i j none h g = tt
-late_less i j (some k) h g = omega arith
+late_less i j None h g = tt
+late_less i j (Some k) h g = omega arith
 
 -- the second is the lower
-lower_second : (i : ℕ) (x : Option ℕ) → AtLeast i x → lower x (some i) ≡ some i
+lower_second : (i : ℕ) (x : Option ℕ) → AtLeast i x → lower x (Some i) ≡ Some i
 unfolding AtLeast
-lower_second i none g = refl
-lower_second i (some j) g = by (leb j i) refl
+lower_second i None g = refl
+lower_second i (Some j) g = by (leb j i) refl
   where
-    by : (t : Bool) → leb j i ≡ t → (if t then some j else some i) ≡ some i
-    by true e = ap some (let h : j ≤ i = leb-true j i e in omega arith)
+    by : (t : Bool) → leb j i ≡ t → (if t then Some j else Some i) ≡ Some i
+    by true e = ap Some (let h : j ≤ i = leb-true j i e in omega arith)
     by false e = refl
 
 -- the first is
-lower_first : (i : ℕ) (y : Option ℕ) → AtLeast i y → lower (some i) y ≡ some i
+lower_first : (i : ℕ) (y : Option ℕ) → AtLeast i y → lower (Some i) y ≡ Some i
 unfolding AtLeast
-lower_first i none g = refl
-lower_first i (some j) g = ap (λ (t : Bool). if t then some i else some j) (le-leb i j g)
+lower_first i None g = refl
+lower_first i (Some j) g = ap (λ (t : Bool). if t then Some i else Some j) (le-leb i j g)
 
 -- NO FOLD NAMES AN INDEX PAST THE END
 
 -- no fault, or one at an index or before it
 unfoldable AtMost : ℕ → Option ℕ → Type 0
-AtMost m none = Unit
-AtMost m (some j) = j ≤ m
+AtMost m None = Unit
+AtMost m (Some j) = j ≤ m
 
 -- one of two
 most_if : (m : ℕ) (t : Bool) (x y : Option ℕ) → AtMost m x → AtMost m y → AtMost m (if t then x else y)
@@ -88,38 +88,38 @@ most_if m false x y h g = g
 -- the lower of two
 most_lower : (m : ℕ) (x y : Option ℕ) → AtMost m x → AtMost m y → AtMost m (lower x y)
 unfolding AtMost
-most_lower m none y h g = g
-most_lower m (some j) none h g = h
-most_lower m (some j) (some k) h g = most_if m (leb j k) (some j) (some k) h g
+most_lower m None y h g = g
+most_lower m (Some j) None h g = h
+most_lower m (Some j) (Some k) h g = most_if m (leb j k) (Some j) (Some k) h g
 
 -- fields
 most_fields : (m i at : ℕ) (fs : List Fields) → i + length fs ≤ m → AtMost m (fields_fault i at fs)
 unfolding AtMost fields_fault
 most_fields m i at [] h = tt
-most_fields m i at (f ∷ fs) h = most_if m (fields_good at f) (fields_fault (suc i) (at + 4 * f.words) fs) (some i) (most_fields m (suc i) (at + 4 * f.words) fs (omega arith)) (omega arith)
+most_fields m i at (f ∷ fs) h = most_if m (fields_good at f) (fields_fault (suc i) (at + 4 * f.words) fs) (Some i) (most_fields m (suc i) (at + 4 * f.words) fs (omega arith)) (omega arith)
 
 -- after a record's operands
 most_record : (m i : ℕ) (o : Option (Placed × Left)) (more : Left → Scan) → i ≤ m → ((l : Left) → AtMost m (more l).fault) → AtMost m (on_record i o more).fault
 unfolding AtMost
-most_record m i none more h g = h
-most_record m i (some x) more h g = g x.1
+most_record m i None more h g = h
+most_record m i (Some x) more h g = g x.1
 
 -- log and strings
 most_scan : (m lc sc i : ℕ) (l : Left) (fs : List Fields) → i + length fs ≤ m → AtMost m (scan_from lc sc i l fs).fault
 unfolding AtMost scan_from
-most_scan m lc sc i l [] h = most_if m (eqb l.log_at lc && eqb l.strings_at sc) none (some i) tt (omega arith)
+most_scan m lc sc i l [] h = most_if m (eqb l.log_at lc && eqb l.strings_at sc) None (Some i) tt (omega arith)
 most_scan m lc sc i l (f ∷ fs) h = most_record m i (take_record f l) (λ k. scan_from lc sc (suc i) k fs) (omega arith) (λ k. most_scan m lc sc (suc i) k fs (omega arith))
 
 -- after a record's tag
 most_tag : (m i tag : ℕ) (c : Cell) (more : State → Option ℕ) → i ≤ m → ((s : State) → AtMost m (more s)) → AtMost m (on_tag i tag c more)
 unfolding AtMost
-most_tag m i tag (Tagged t s) more h g = most_if m (eqb tag t) (more s) (some i) (g s) h
+most_tag m i tag (Tagged t s) more h g = most_if m (eqb tag t) (more s) (Some i) (g s) h
 most_tag m i tag (Refuses n) more h g = h
 
 -- tags
 most_tags : (m : ℕ) (whole : Bool) (i : ℕ) (s : State) (fs : List Fields) → i + length fs ≤ m → AtMost m (tags_fault whole i s fs)
 unfolding AtMost tags_fault
-most_tags m whole i s [] h = most_if m (implies whole (eqb (end_number s) 0)) none (some i) tt (omega arith)
+most_tags m whole i s [] h = most_if m (implies whole (eqb (end_number s) 0)) None (Some i) tt (omega arith)
 most_tags m whole i s (f ∷ fs) h =
     most_tag m i f.tag (layout_of (f.head % 65536) s) (λ t. tags_fault whole (suc i) t fs) (omega arith) (λ t. most_tags m whole (suc i) t fs (omega arith))
 
@@ -134,7 +134,7 @@ most_fault whole x =
     let fs = records_in record_size x in
     let m = 1 + length (records_in record_size x) in
     most_lower m (missing x.count fs) (lower (fields_fault 1 20 fs) (lower (scan_of record_size x).fault (tags_fault whole 1 Outside fs)))
-    (most_if m (eqb (length fs) x.count) none (some (length fs + 1)) tt (omega arith))
+    (most_if m (eqb (length fs) x.count) None (Some (length fs + 1)) tt (omega arith))
     (most_lower m (fields_fault 1 20 fs) (lower (scan_of record_size x).fault (tags_fault whole 1 Outside fs)) (most_fields m 1 20 fs (omega arith))
     (most_lower m (scan_of record_size x).fault (tags_fault whole 1 Outside fs) (most_scan m x.log_count x.string_count 1 (start_left x) fs (omega arith))
     (most_tags m whole 1 Outside fs (omega arith))))
@@ -183,11 +183,11 @@ module _ (lc sc : ℕ) (log strings : List ℕ) where
       → ((m : Left) → Inside log strings m → (j : ℕ) → drop j fs ≡ f ∷ gs → AtLeast (suc i + j + 1) (more m).fault → SaidIn log strings f (more m).instrs j)
       → SaidIn log strings f (on_record i o more).instrs k
   unfolding AtLeast
-  said_by_lem c fs i l n none p more k f gs q h on = absurd (omega arith)
-  said_by_lem c fs i l n (some x) p more zero f gs q h on =
+  said_by_lem c fs i l n None p more k f gs q h on = absurd (omega arith)
+  said_by_lem c fs i l n (Some x) p more zero f gs q h on =
       let same : c ≡ f = cc in
       subst (λ (y : Fields). SaidIn log strings y (x.0 ∷ (more x.1).instrs) 0) same (said_first log strings c l x n p (more x.1).instrs)
-  said_by_lem c fs i l n (some x) p more (suc k) f gs q h on =
+  said_by_lem c fs i l n (Some x) p more (suc k) f gs q h on =
       let e : i + suc k + 1 ≡ suc i + k + 1 = omega arith in
       let r = on x.1 (said_reach log strings n p).inside k q (subst (λ (j : ℕ). AtLeast j (more x.1).fault) e h) in
       record { readable = r.readable; here = r.here }
@@ -279,18 +279,18 @@ module _ (ws log strings : List ℕ) (is : List Placed) (n : ℕ) (each : (k : �
 -- THE FIRST WITHOUT A NAME
 
 -- it is named where it is among the first n
-unnamed_at : (n i : ℕ) (is : List Placed) → n ≤ length is → named_count (take n is) < n → unnamed i is ≡ some (i + named_count (take n is))
+unnamed_at : (n i : ℕ) (is : List Placed) → n ≤ length is → named_count (take n is) < n → unnamed i is ≡ Some (i + named_count (take n is))
 unfolding named_count unnamed
 unnamed_at zero i is h g = absurd (omega arith)
 unnamed_at (suc n) i [] h g = absurd (omega arith)
 unnamed_at (suc n) i (p ∷ ps) h g = by (is_named p) refl (unnamed_at n (suc i) ps (omega arith)) g
   where
-    by : (t : Bool) → is_named p ≡ t → (named_count (take n ps) < n → unnamed (suc i) ps ≡ some (suc i + named_count (take n ps)))
-        → (if t then suc (named_count (take n ps)) else 0) < suc n → (if is_named p then unnamed (suc i) ps else some i) ≡ some (i + (if is_named p then suc (named_count (take n ps)) else 0))
+    by : (t : Bool) → is_named p ≡ t → (named_count (take n ps) < n → unnamed (suc i) ps ≡ Some (suc i + named_count (take n ps)))
+        → (if t then suc (named_count (take n ps)) else 0) < suc n → (if is_named p then unnamed (suc i) ps else Some i) ≡ Some (i + (if is_named p then suc (named_count (take n ps)) else 0))
     by true e on g =
         let k : suc i + named_count (take n ps) ≡ i + suc (named_count (take n ps)) = omega arith in
-        rw e (on (omega arith) ∙ ap some k)
-    by false e on g = rw e (ap some (sym (omega arith)))
+        rw e (on (omega arith) ∙ ap Some k)
+    by false e on g = rw e (ap Some (sym (omega arith)))
 
 -- it is none before those that are looked at
 unnamed_from : (i : ℕ) (is : List Placed) → AtLeast i (unnamed i is)
@@ -298,7 +298,7 @@ unfolding AtLeast unnamed
 unnamed_from i [] = tt
 unnamed_from i (p ∷ ps) = by (is_named p) (late_less i (suc i) (unnamed (suc i) ps) (omega arith) (unnamed_from (suc i) ps))
   where
-    by : (t : Bool) → AtLeast i (unnamed (suc i) ps) → AtLeast i (if t then unnamed (suc i) ps else some i)
+    by : (t : Bool) → AtLeast i (unnamed (suc i) ps) → AtLeast i (if t then unnamed (suc i) ps else Some i)
     by true h = h
     by false h = omega arith
 
@@ -310,28 +310,28 @@ unnamed_late (suc n) i [] g = tt
 unnamed_late (suc n) i (p ∷ ps) g = by (is_named p) (unnamed_late n (suc i) ps) g
   where
     by : (t : Bool) → (n ≤ named_count (take n ps) → AtLeast (suc i + n) (unnamed (suc i) ps)) → suc n ≤ (if t then suc (named_count (take n ps)) else 0)
-        → AtLeast (i + suc n) (if t then unnamed (suc i) ps else some i)
+        → AtLeast (i + suc n) (if t then unnamed (suc i) ps else Some i)
     by true on g = late_less (i + suc n) (suc i + n) (unnamed (suc i) ps) (omega arith) (on (omega arith))
     by false on g = absurd (omega arith)
 
 -- there is none where all have theirs
-unnamed_none : (i : ℕ) (is : List Placed) → length is ≤ named_count is → unnamed i is ≡ none
+unnamed_none : (i : ℕ) (is : List Placed) → length is ≤ named_count is → unnamed i is ≡ None
 unfolding named_count unnamed
 unnamed_none i [] g = refl
 unnamed_none i (p ∷ ps) g = by (is_named p) (unnamed_none (suc i) ps) g
   where
-    by : (t : Bool) → (length ps ≤ named_count ps → unnamed (suc i) ps ≡ none) → suc (length ps) ≤ (if t then suc (named_count ps) else 0) → (if t then unnamed (suc i) ps else some i) ≡ none
+    by : (t : Bool) → (length ps ≤ named_count ps → unnamed (suc i) ps ≡ None) → suc (length ps) ≤ (if t then suc (named_count ps) else 0) → (if t then unnamed (suc i) ps else Some i) ≡ None
     by true on g = on (omega arith)
     by false on g = absurd (omega arith)
 
 -- both are late, and so is the lower
 late_both : (i : ℕ) (x y : Option ℕ) → AtLeast i x → AtLeast i y → AtLeast i (lower x y)
 unfolding AtLeast
-late_both i none y h g = g
-late_both i (some j) none h g = h
-late_both i (some j) (some k) h g = by (leb j k)
+late_both i None y h g = g
+late_both i (Some j) None h g = h
+late_both i (Some j) (Some k) h g = by (leb j k)
   where
-    by : (t : Bool) → AtLeast i (if t then some j else some k)
+    by : (t : Bool) → AtLeast i (if t then Some j else Some k)
     by true = h
     by false = g
 
@@ -344,20 +344,20 @@ all_late x =
     (late_both 1 (fields_fault 1 20 fs) (lower (scan_of record_size x).fault (tags_fault true 1 Outside fs)) (fields_late 1 20 fs)
     (late_both 1 (scan_of record_size x).fault (tags_fault true 1 Outside fs) (scan_late x.log_count x.string_count 1 (start_left x) fs) (tags_late true 1 Outside fs)))
   where
-    by : (t : Bool) → AtLeast 1 (if t then none else some (length (records_in record_size x) + 1))
+    by : (t : Bool) → AtLeast 1 (if t then None else Some (length (records_in record_size x) + 1))
     by true = tt
     by false = omega arith
 
 -- THE CALL
 
 -- what is bad, by the lowest fault
-bad_writes : (h : List ℕ) (x : Given) (out : List ℕ) (i : ℕ) (w : Written) → lower (fault_of record_size true x) (unnamed 1 (scan_of record_size x).instrs) ≡ some i
+bad_writes : (h : List ℕ) (x : Given) (out : List ℕ) (i : ℕ) (w : Written) → lower (fault_of record_size true x) (unnamed 1 (scan_of record_size x).instrs) ≡ Some i
     → w ≡ record { number = 30; index = i; bytes = 0 } → Writes (disassemble h x out) out w
 unfolding disassemble check_named
 bad_writes h x out i w e q = rw e (record { said = q; output = refl })
 
 -- what is good
-good_writes : (h : List ℕ) (x : Given) (out out' : List ℕ) (w : Written) (is : List Placed) → lower (fault_of record_size true x) (unnamed 1 (scan_of record_size x).instrs) ≡ none
+good_writes : (h : List ℕ) (x : Given) (out out' : List ℕ) (w : Written) (is : List Placed) → lower (fault_of record_size true x) (unnamed 1 (scan_of record_size x).instrs) ≡ None
     → (scan_of record_size x).instrs ≡ is → Writes (text_over out (module_text h is)) out' w → Writes (disassemble h x out) out' w
 unfolding disassemble check_named text_over
 good_writes h x out out' w is e s p = rw e (subst (λ (l : List Placed). Writes (text_over out (module_text h l)) out' w) (sym s) p)
@@ -393,7 +393,7 @@ module _ (ws log strings : List ℕ) (count lc sc : ℕ) (r : Answer) (e : check
   few_records = by r e q
     where
       by : (r : Answer) → checked_is r ≡ fault_of record_size true x → n ≡ before_bad r count → n ≤ length (records_in record_size x)
-      by AllGood e q = omega (arith, q, eqb-true (length (records_in record_size x)) count (none_if (length (records_in record_size x) + 1) (eqb (length (records_in record_size x)) count) none (no_faults record_size true x (sym e)).present).0)
+      by AllGood e q = omega (arith, q, eqb-true (length (records_in record_size x)) count (none_if (length (records_in record_size x) + 1) (eqb (length (records_in record_size x)) count) None (no_faults record_size true x (sym e)).present).0)
       by (Bad i) e q = omega (arith, q, subst (AtMost (1 + length (records_in record_size x))) (sym e) (most_fault true x))
 
   -- each was passed
@@ -434,7 +434,7 @@ module _ (ws log strings : List ℕ) (count lc sc : ℕ) (r : Answer) (e : check
         let is = (scan_of record_size x).instrs in
         let k : 1 + named_count (take n is) ≡ m + 1 = omega (arith, counted) in
         bad_writes h x out (m + 1) w
-        (ap (lower (fault_of record_size true x)) (unnamed_at n 1 is enough (omega (arith, counted)) ∙ ap some k)
+        (ap (lower (fault_of record_size true x)) (unnamed_at n 1 is enough (omega (arith, counted)) ∙ ap Some k)
         ∙ lower_second (m + 1) (fault_of record_size true x) (late_less (m + 1) (n + 1) _ (omega arith) fault_past))
         s
 

@@ -3,7 +3,7 @@ use Prim.Native.Nat.{ℕ, ◌%◌, ◌/◌, ◌<◌}
 use mathlib.Core.Path.{◌≡◌, refl, ap, sym, ◌∙◌}
 use mathlib.Core.Bool.{Bool, true, false, not, ◌||◌, and-eq-true_iff}
 use mathlib.Core.List.{List, [], ◌∷◌, ◌++◌}
-use mathlib.Core.Option.{Option, none, some}
+use Rattle.std.specs.Prelude.{Option, None, Some}
 use native.Mathlib.Omega.{arith}
 use borrow.Author.Tests.{not-true, not-false, lt-ltb, le-ltb, ltb-true, ltb-false}
 use lib.Dec.{eqb, ltb}
@@ -153,11 +153,11 @@ module _ (s : List ℕ) (g : Grammar) (d : Decoder) where
       ∙ ap (λ (z : Option (List Slot)). embedded_by g (w % 65536) z (reader_of s e)) l
 
 -- a row that was found
-pub row_told : (g : List ℕ) (f : Found) (p : ℕ) (o : Option (List Slot)) → row_found g f ≡ o → f ≡ At p → o ≡ some (slots_at g p)
+pub row_told : (g : List ℕ) (f : Found) (p : ℕ) (o : Option (List Slot)) → row_found g f ≡ o → f ≡ At p → o ≡ Some (slots_at g p)
 unfolding row_found slots_at
 row_told g f p o h e = sym h ∙ ap (row_found g) e
 
-none_found : (g : List ℕ) (f : Found) (o : Option (List Slot)) → row_found g f ≡ o → f ≡ Nothing → o ≡ none
+none_found : (g : List ℕ) (f : Found) (o : Option (List Slot)) → row_found g f ≡ o → f ≡ Nothing → o ≡ None
 unfolding row_found
 none_found g f o h e = sym h ∙ ap (row_found g) e
 
@@ -166,7 +166,7 @@ module _ (s g : List ℕ) (d : Decoder) (w : ℕ) (e : Decoder) (h : Word w e �
   -- it has no row: 13 after the number
   pub embedded_none : f ≡ Nothing → read_embedded (grammar_of g) (reader_of s d) ≡ refused (refusal 13 e.offset 0) (reader_of s e)
   unfolding reader_of reader_at
-  embedded_none q = embedded_by_lem s (grammar_of g) d w e h none (none_found g f _ l q)
+  embedded_none q = embedded_by_lem s (grammar_of g) d w e h None (none_found g f _ l q)
 
   module _ (p : ℕ) (q : f ≡ At p) (t : Bool) (i : t ≡ every embeds (slots_at g p)) where
     -- its row may not be embedded: 14 after the number

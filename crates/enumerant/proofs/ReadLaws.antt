@@ -2,7 +2,7 @@
 use mathlib.Core.Path.{◌≡◌, refl, sym, ap, ◌∙◌}
 use mathlib.Core.Bool.{true, false}
 use mathlib.Core.List.{List}
-use mathlib.Core.Option.{Option, none, some}
+use Rattle.std.specs.Prelude.{Option, None, Some}
 use Prim.Native.Nat.{ℕ}
 use native.Mathlib.Omega.{arith}
 use Rattle.spec.specs.Reader.{Read, after, give, read_word, reader_at, refusal}
@@ -24,14 +24,14 @@ with_word g k at y = word_answer (after (after y (λ v. known_or at v (parameter
 -- a value that is listed
 listed_word : (s : List ℕ) (at v : ℕ) (e : Decoder) (o : Option (List ℕ)) → is_listed o ≡ true → word_answer (after (known_or at v o (reader_of s e)) (λ x. give (value_of x))) ≡ Got v e
 unfolding is_listed word_answer reader_of reader_at
-listed_word s at v e none h = let z : ◌≡◌ {A = ℕ} 0 1 = cc in absurd (omega arith)
-listed_word s at v e (some ps) h = refl
+listed_word s at v e None h = let z : ◌≡◌ {A = ℕ} 0 1 = cc in absurd (omega arith)
+listed_word s at v e (Some ps) h = refl
 
 -- a value that is not
 unlisted_word : (s : List ℕ) (at v : ℕ) (e : Decoder) (o : Option (List ℕ)) → is_listed o ≡ false → word_answer (after (known_or at v o (reader_of s e)) (λ x. give (value_of x))) ≡ Refused (refusal 10 at v) e
 unfolding is_listed word_answer reader_of reader_at
-unlisted_word s at v e none h = refl
-unlisted_word s at v e (some ps) h = let z : ◌≡◌ {A = ℕ} 0 1 = cc in absurd (omega arith)
+unlisted_word s at v e None h = refl
+unlisted_word s at v e (Some ps) h = let z : ◌≡◌ {A = ℕ} 0 1 = cc in absurd (omega arith)
 
 module _ (g s : List ℕ) (k : ℕ) (d : Decoder) where
   -- a grammar that is not well-formed

@@ -2,7 +2,7 @@
 use mathlib.Core.Path.{◌≡◌, refl, subst}
 use mathlib.Core.Bool.{Bool, true, false, ◌&&◌}
 use mathlib.Core.List.{List, [], ◌∷◌, ◌++◌}
-use mathlib.Core.Option.{Option, none, some}
+use Rattle.std.specs.Prelude.{Option, None, Some}
 use Prim.Native.Nat.{ℕ}
 use native.Mathlib.Omega.{arith}
 use borrow.Author.Tests.{eqb-true, ltb-true}
@@ -17,12 +17,12 @@ use Rattle.grammar.proofs.MarkLaws.{never, rules_told}
 use Rattle.grammar.proofs.IndexLaws.{well_told}
 
 -- what holds of the first that passes a test, and of what is found later, holds of what is found
-picked : {A : Type 0} (P : A → Type 0) (t : Bool) (x y : A) (later : Option A) → (if t then some x else later) ≡ some y → (t ≡ true → P x) → (later ≡ some y → P y) → P y
+picked : {A : Type 0} (P : A → Type 0) (t : Bool) (x y : A) (later : Option A) → (if t then Some x else later) ≡ Some y → (t ≡ true → P x) → (later ≡ Some y → P y) → P y
 picked P true x y later e p q = let s : x ≡ y = cc in subst P s (p refl)
 picked P false x y later e p q = q e
 
 -- nothing is found in nothing
-not_found : {A : Type 0} {P : Type 0} (y : A) → none ≡ some y → P
+not_found : {A : Type 0} {P : Type 0} (y : A) → None ≡ Some y → P
 not_found y e = let z : ◌≡◌ {A = ℕ} 0 1 = cc in absurd (omega arith)
 
 -- ROWS
@@ -41,7 +41,7 @@ slots_good op before (parameter k ∷ xs) e = never (rules_told (in_row op befor
 slots_good op before (broken ∷ xs) e = never (rules_told (in_row op before) broken xs e).0 refl
 
 -- each row among items that meet the rules
-rows_good : (s : Before) (xs : List Item) (op : ℕ) (ss : List Slot) → rules_from s xs ≡ true → row_of op (rows_of xs) ≡ some ss → row_good op ss ≡ true
+rows_good : (s : Before) (xs : List Item) (op : ℕ) (ss : List Slot) → rules_from s xs ≡ true → row_of op (rows_of xs) ≡ Some ss → row_good op ss ≡ true
 unfolding row_of rows_of row_good next
 rows_good s [] op ss e f = not_found ss f
 rows_good s (row o ∷ xs) op ss e f =
@@ -54,7 +54,7 @@ rows_good s (parameter k ∷ xs) op ss e f = rows_good (next s (parameter k)) xs
 rows_good s (broken ∷ xs) op ss e f = rows_good (next s broken) xs op ss (rules_told s broken xs e).1 f
 
 -- THE LAW OF ROWS: the operands of a row that a well-formed grammar has meet the row's rules
-pub row_carried : (g : List ℕ) (op : ℕ) (ss : List Slot) → well_formed g ≡ true → row_of op (grammar_of g).rows ≡ some ss → row_good op ss ≡ true
+pub row_carried : (g : List ℕ) (op : ℕ) (ss : List Slot) → well_formed g ≡ true → row_of op (grammar_of g).rows ≡ Some ss → row_good op ss ≡ true
 unfolding grammar_of grammar_by
 row_carried g op ss e f = rows_good start (items g) op ss (well_told g e).rules f
 
@@ -73,7 +73,7 @@ parameters_good j u (parameter k ∷ xs) e =
 parameters_good j u (broken ∷ xs) e = refl
 
 -- each enumerant among items that meet the rules
-enumerants_good : (s : Before) (xs : List Item) (k v : ℕ) (ps : List ℕ) → rules_from s xs ≡ true → listed k v (enumerants_of xs) ≡ some ps → every (parameter_rule k v) ps ≡ true
+enumerants_good : (s : Before) (xs : List Item) (k v : ℕ) (ps : List ℕ) → rules_from s xs ≡ true → listed k v (enumerants_of xs) ≡ Some ps → every (parameter_rule k v) ps ≡ true
 unfolding listed enumerants_of next
 enumerants_good s [] k v ps e f = not_found ps f
 enumerants_good s (row o ∷ xs) k v ps e f = enumerants_good (next s (row o)) xs k v ps (rules_told s (row o) xs e).1 f
@@ -89,7 +89,7 @@ enumerants_good s (parameter j ∷ xs) k v ps e f = enumerants_good (next s (par
 enumerants_good s (broken ∷ xs) k v ps e f = enumerants_good (next s broken) xs k v ps (rules_told s broken xs e).1 f
 
 -- a test that each enumerant's parameters pass is passed by those that are listed
-listed_passes : (test : List ℕ → Bool) (es : List Enumerant) (k v : ℕ) (ps : List ℕ) → every (λ e. test e.parameters) es ≡ true → listed k v es ≡ some ps → test ps ≡ true
+listed_passes : (test : List ℕ → Bool) (es : List Enumerant) (k v : ℕ) (ps : List ℕ) → every (λ e. test e.parameters) es ≡ true → listed k v es ≡ Some ps → test ps ≡ true
 unfolding listed
 listed_passes test [] k v ps e f = not_found ps f
 listed_passes test (x ∷ es) k v ps e f =
@@ -112,7 +112,7 @@ none_at_zero k v (p ∷ ps) e m z =
     let h : ltb 0 v ≡ true = rw m at (and_told (may_be_parameter p) (implies (is_mask k) (ltb 0 v)) t).1 in
     absurd (omega (arith, ltb-true 0 v h))
 
-module _ (g : List ℕ) (k v : ℕ) (ps : List ℕ) (e : well_formed g ≡ true) (f : listed k v (grammar_of g).enumerants ≡ some ps) where
+module _ (g : List ℕ) (k v : ℕ) (ps : List ℕ) (e : well_formed g ≡ true) (f : listed k v (grammar_of g).enumerants ≡ Some ps) where
   -- THE LAWS OF ENUMERANTS: the parameters of one that a well-formed grammar lists are of kinds that may be parameters,
   pub parameters_may_be : every may_be_parameter ps ≡ true
   unfolding grammar_of grammar_by

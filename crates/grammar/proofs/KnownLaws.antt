@@ -2,7 +2,7 @@
 use mathlib.Core.Path.{◌≡◌, refl, sym, ap, ◌∙◌}
 use mathlib.Core.Bool.{Bool, true, false, not, ◌&&◌}
 use mathlib.Core.List.{List, [], ◌∷◌}
-use mathlib.Core.Option.{Option, none, some}
+use Rattle.std.specs.Prelude.{Option, None, Some}
 use Prim.Native.Nat.{ℕ, zero, suc, ◌*◌, ◌/◌, ◌%◌, ◌^◌, ◌≤◌, ◌<◌}
 use native.Mathlib.Nat.{mul-le-mul_right}
 use native.Mathlib.Omega.{arith}
@@ -54,9 +54,9 @@ known_value g k v t e h = rw e h
 -- both are listed where each is
 both_listed_lem : (a b : Option (List ℕ)) → is_listed (both_listed a b) ≡ is_listed a && is_listed b
 unfolding is_listed
-both_listed_lem none b = refl
-both_listed_lem (some a) none = refl
-both_listed_lem (some a) (some b) = refl
+both_listed_lem None b = refl
+both_listed_lem (Some a) None = refl
+both_listed_lem (Some a) (Some b) = refl
 
 -- 0 has no bits
 no_bits : (n b : ℕ) → bits_from n b 0 ≡ []

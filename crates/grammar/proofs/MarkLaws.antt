@@ -2,7 +2,7 @@
 use mathlib.Core.Path.{◌≡◌, refl, sym, ap, ◌∙◌, subst}
 use mathlib.Core.Bool.{Bool, true, false, not, ◌&&◌}
 use mathlib.Core.List.{List, [], ◌∷◌}
-use mathlib.Core.Option.{Option, none, some}
+use Rattle.std.specs.Prelude.{Option, None, Some}
 use mathlib.Core.Logic.{⊎_elim}
 use Prim.Native.Nat.{ℕ, zero, suc, ◌+◌, ◌≤◌, ◌<◌}
 use native.Mathlib.Omega.{arith}
@@ -249,10 +249,10 @@ rising s at (broken ∷ xs) e = rising s (at + 0) xs (rules_told s broken xs e).
 -- WHAT IS FOUND
 
 -- what is found n bytes past a mark's place, by whether the mark is the first
-pick_by : {A : Type 0} (g : List ℕ) (at n : ℕ) (f : Found) (look : Found → Option A) (x : A) (r : Option A) (t : Bool) → look (At (at + n)) ≡ some x
+pick_by : {A : Type 0} (g : List ℕ) (at n : ℕ) (f : Found) (look : Found → Option A) (x : A) (r : Option A) (t : Bool) → look (At (at + n)) ≡ Some x
     → at + n ≤ length g
     → (look (past n f) ≡ r) × (place_found (past n f) ≤ length g)
-    → (look (past n (if t then At at else f)) ≡ (if t then some x else r)) × (place_found (past n (if t then At at else f)) ≤ length g)
+    → (look (past n (if t then At at else f)) ≡ (if t then Some x else r)) × (place_found (past n (if t then At at else f)) ≤ length g)
 unfolding place_found
 pick_by g at n f look x r true e h w = (e, h)
 pick_by g at n f look x r false e h w = w
@@ -265,7 +265,7 @@ row_found_lem {xs = []} op s = (refl, omega arith)
 row_found_lem {g} {at} {xs = row o ∷ xs} op s =
     let f = first s in
     pick_by g at 3 (found 0 op (marks_from (at + 3) xs)) (row_found g) (slots_of xs) (row_of op (rows_of xs)) (eqb o op)
-    (ap (λ (ys : List Item). some (slots_of ys)) f.more.here) f.room (row_found_lem {at = at + size_of (row o)} {xs = xs} op f.more)
+    (ap (λ (ys : List Item). Some (slots_of ys)) f.more.here) f.room (row_found_lem {at = at + size_of (row o)} {xs = xs} op f.more)
 row_found_lem {at = at} {xs = operand k q ∷ xs} op s = row_found_lem {at = at + size_of (operand k q)} {xs = xs} op (first s).more
 row_found_lem {at = at} {xs = enumerant k v ∷ xs} op s =
     let f = first s in
@@ -285,12 +285,12 @@ enumerant_found {at = at} {xs = operand j q ∷ xs} k v h s = enumerant_found {a
 enumerant_found {g} {at} {xs = enumerant j u ∷ xs} k v h s =
     let f = first s in
     pick_by g at 6 (found k v (marks_from (at + 6) xs)) (parameters_found g) (parameters_of xs) (listed k v (enumerants_of xs)) (eqb j k && eqb u v)
-    (ap (λ (ys : List Item). some (parameters_of ys)) f.more.here) f.room (enumerant_found {at = at + size_of (enumerant j u)} {xs = xs} k v h f.more)
+    (ap (λ (ys : List Item). Some (parameters_of ys)) f.more.here) f.room (enumerant_found {at = at + size_of (enumerant j u)} {xs = xs} k v h f.more)
 enumerant_found {at = at} {xs = parameter j ∷ xs} k v h s = enumerant_found {at = at + size_of (parameter j)} {xs = xs} k v h (first s).more
 enumerant_found {at = at} {xs = broken ∷ xs} k v h s = enumerant_found {at = at + size_of broken} {xs = xs} k v h (first s).more
 
 -- no enumerant is of kind 0
-pub none_listed : (v : ℕ) (xs : List Item) → every is_fine xs ≡ true → listed 0 v (enumerants_of xs) ≡ none
+pub none_listed : (v : ℕ) (xs : List Item) → every is_fine xs ≡ true → listed 0 v (enumerants_of xs) ≡ None
 unfolding listed enumerants_of
 none_listed v [] e = refl
 none_listed v (row o ∷ xs) e = none_listed v xs e

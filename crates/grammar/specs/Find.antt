@@ -1,6 +1,6 @@
 -- What the lookups find, and what is read on from there.
 use Rattle.std.specs.Prelude.{ℕ, ◌+◌, Bool, true, false, ◌&&◌, List, [], ◌∷◌, ◌++◌, eqb, drop, if◌then◌else◌}
-use Rattle.std.proofs.Math.Option.{Option, none, some}
+use Rattle.std.specs.Prelude.{Option, None, Some}
 use Rattle.spec.specs.declared.Found.{Found}
 use Rattle.spec.specs.declared.Found.TheVariants.{At, Nothing}
 use Rattle.spec.specs.Grammar.{Slot, slot, items, slots_of, parameters_of, operand_rule, row_end, Enumerant, listed}
@@ -26,13 +26,13 @@ place_found Nothing = 0
 
 -- the operands of a row that was found: those from the place on
 unfoldable pub row_found : List ℕ → Found → Option (List Slot)
-row_found g (At p) = some (slots_of (items (drop p g)))
-row_found g Nothing = none
+row_found g (At p) = Some (slots_of (items (drop p g)))
+row_found g Nothing = None
 
 -- the parameters of an enumerant that was found: those from the place on
 unfoldable pub parameters_found : List ℕ → Found → Option (List ℕ)
-parameters_found g (At p) = some (parameters_of (items (drop p g)))
-parameters_found g Nothing = none
+parameters_found g (At p) = Some (parameters_of (items (drop p g)))
+parameters_found g Nothing = None
 
 -- an operand and those after it, or none
 unfoldable pub slots_then : SlotAt → List Slot → List Slot
@@ -56,8 +56,8 @@ parameter_bytes NoParameter = 0
 
 -- is there a list of parameters
 unfoldable pub is_listed : Option (List ℕ) → Bool
-is_listed none = false
-is_listed (some ps) = true
+is_listed None = false
+is_listed (Some ps) = true
 
 -- is a bit listed, where it is set
 unfoldable pub bit_listed : List Enumerant → ℕ → ℕ → ℕ → Bool

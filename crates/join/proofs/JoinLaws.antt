@@ -3,7 +3,7 @@ use Prim.Native.Nat.{ℕ, ◌≤◌, ◌<◌}
 use mathlib.Core.Path.{◌≡◌, sym, ◌∙◌, subst}
 use mathlib.Core.Bool.{Bool, true, false, not, ◌&&◌}
 use mathlib.Core.List.{List}
-use mathlib.Core.Option.{Option, none, some}
+use Rattle.std.specs.Prelude.{Option, None, Some}
 use native.Mathlib.Omega.{arith}
 use borrow.Author.Tests.{le-leb, lt-leb, lt-ltb, le-ltb}
 use lib.Dec.{leb, ltb}
@@ -50,7 +50,7 @@ module _ (a b out : List ℕ) (wa : well_formed a ≡ true) (wb : well_formed b 
       let is : join a b out ≡ unjoined 34 (kind_in n) (value_in n) out = join_by ∙ rw h.0 in
       record { said = e ∙ rw is; output = h.1 ∙ rw is }
 
-  module _ (bya : AllBytes a) (byb : AllBytes b) (apart : clash (pieces a) (pieces b) ≡ none) (n : ℕ) (long : n ≡ length (union a b)) where
+  module _ (bya : AllBytes a) (byb : AllBytes b) (apart : clash (pieces a) (pieces b) ≡ None) (n : ℕ) (long : n ≡ length (union a b)) where
     -- the union, by whether it meets the rules
     join_union : join a b out ≡ put_union (union a b) out
     join_union = join_by ∙ rw apart
@@ -95,7 +95,7 @@ module _ (a b out : List ℕ) (wa : well_formed a ≡ true) (wb : well_formed b 
           record { said = e ∙ rw (is, long); output = stored m w ∙ rw is }
         where
           stored : (m : Merged) → Walked a b true out out' m → out' ≡ kept true out 0 (union a b)
-          stored (Clash k) w = let z : none ≡ some k = sym apart ∙ w.0 in let y : ◌≡◌ {A = ℕ} 0 1 = cc z in absurd (omega arith)
+          stored (Clash k) w = let z : None ≡ Some k = sym apart ∙ w.0 in let y : ◌≡◌ {A = ℕ} 0 1 = cc z in absurd (omega arith)
           stored (Bytes k) w = w.2
 
 -- WHAT WAS NOTED
@@ -120,8 +120,8 @@ put_few u out =
 
 -- by the lowest clash
 unless_few : (o : Option ℕ) (u out : List ℕ) → (unless_clash o u out).said.bytes ≤ 65535
-unless_few none u out = put_few u out
-unless_few (some n) u out = omega arith
+unless_few None u out = put_few u out
+unless_few (Some n) u out = omega arith
 
 -- no more than a grammar may have
 pub bytes_few : (a b out : List ℕ) → (join a b out).said.bytes ≤ 65535
@@ -137,7 +137,7 @@ pub walked_as : (a b : List ℕ) (keep : Bool) (out out' : List ℕ) (m l : Merg
 walked_as a b keep out out' m l h e = subst (Walked a b keep out out') e h
 
 -- the union's length was measured
-pub measured_union : (a b out out' : List ℕ) (n : ℕ) → Walked a b false out out' (Bytes n) → (clash (pieces a) (pieces b) ≡ none) × (n ≡ length (union a b))
+pub measured_union : (a b out out' : List ℕ) (n : ℕ) → Walked a b false out out' (Bytes n) → (clash (pieces a) (pieces b) ≡ None) × (n ≡ length (union a b))
 unfolding Walked
 measured_union a b out out' n h = (h.0, h.1)
 
@@ -148,6 +148,6 @@ unfolding Walked kept
 measured_alone a b out out' n r o h j = subst (λ (z : List ℕ). Joins (join a b z) r o) h.2 j
 
 -- it may be kept where it fits
-pub may_keep : (a b out : List ℕ) (n : ℕ) → clash (pieces a) (pieces b) ≡ none → n ≡ length (union a b) → n ≤ length out → MayKeep a b out
+pub may_keep : (a b out : List ℕ) (n : ℕ) → clash (pieces a) (pieces b) ≡ None → n ≡ length (union a b) → n ≤ length out → MayKeep a b out
 unfolding MayKeep
 may_keep a b out n apart long h = (apart, omega (arith, h, long))

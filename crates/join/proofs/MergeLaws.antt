@@ -3,7 +3,7 @@ use Prim.Native.Nat.{ℕ, ◌<◌, ◌≤◌}
 use mathlib.Core.Path.{◌≡◌, refl, sym, ap, ◌∙◌, subst}
 use mathlib.Core.Bool.{Bool, true, false, not, true≢false, false≢true}
 use mathlib.Core.List.{List, [], ◌∷◌}
-use mathlib.Core.Option.{Option, none, some}
+use Rattle.std.specs.Prelude.{Option, None, Some}
 use native.Mathlib.Omega.{arith}
 use borrow.Author.Tests.{lt-ltb, le-ltb, eq-eqb, ne_eqb, ltb-true, ltb-false, eqb-true, eqb-false}
 use lib.Dec.{ltb, eqb}
@@ -44,7 +44,7 @@ three m n below over same =
 -- WHAT IS FOUND
 
 -- the first has the key
-pub found_here : (n : ℕ) (e : Piece) (es : List Piece) → key e ≡ n → found n (e ∷ es) ≡ some e
+pub found_here : (n : ℕ) (e : Piece) (es : List Piece) → key e ≡ n → found n (e ∷ es) ≡ Some e
 unfolding found
 found_here n e es h = simp (eq-eqb (key e) n h)
 
@@ -54,13 +54,13 @@ unfolding found
 found_later n e es h = simp (ne_eqb (key e) n h)
 
 -- what is above a key has it not
-pub found_none : (n : ℕ) (es : List Piece) → Above n es → found n es ≡ none
+pub found_none : (n : ℕ) (es : List Piece) → Above n es → found n es ≡ None
 unfolding found
 found_none n [] a = refl
 found_none n (e ∷ es) a = found_later n e es (λ q. omega (arith, a.0)) ∙ found_none n es a.1
 
 -- something is not nothing
-pub not_none : {A : Type 0} (e : Piece) → none ≡ some e → A
+pub not_none : {A : Type 0} (e : Piece) → None ≡ Some e → A
 not_none e q = let z : ◌≡◌ {A = ℕ} 0 1 = cc in absurd (omega arith)
 
 -- THE LAW OF FINDING: lists that rise, and in which every key finds alike, are the same list
@@ -76,7 +76,7 @@ found_alike (x ∷ xs) (y ∷ ys) r s f =
     (λ (h : key y < key x).
     not_none y (sym (found_none (key y) (x ∷ xs) (h, above_on (key y) (key x) xs (omega arith) r.0)) ∙ f (key y) ∙ found_here (key y) y ys refl))
     (λ (h : key x ≡ key y).
-    let one : some x ≡ some y = sym (found_here (key x) x xs refl) ∙ f (key x) ∙ found_here (key x) y ys (sym h) in
+    let one : Some x ≡ Some y = sym (found_here (key x) x xs refl) ∙ f (key x) ∙ found_here (key x) y ys (sym h) in
     let x-is : x ≡ y = cc one in
     let rest : xs ≡ ys = found_alike xs ys r.1 s.1 (alike h) in
     cc (x-is, rest))
@@ -94,25 +94,25 @@ found_alike (x ∷ xs) (y ∷ ys) r s f =
 -- ONE PUT IN
 
 -- what is found after a piece was put in: that one by its key, else what was found before
-found_put : (x : Piece) (es : List Piece) (n : ℕ) → found n (put_in x es) ≡ (if eqb (key x) n then some x else found n es)
+found_put : (x : Piece) (es : List Piece) (n : ℕ) → found n (put_in x es) ≡ (if eqb (key x) n then Some x else found n es)
 unfolding found put_in
 found_put x [] n = refl
 found_put x (y ∷ ys) n = by (found_put x ys n) (ltb (key x) (key y)) (eqb (key x) (key y)) refl refl
   where
     second : (p q : Bool) → (p ≡ true → q ≡ true) → (q ≡ true → p ≡ true)
-        → (if p then some x else found n ys) ≡ (if p then some x else if q then some y else found n ys)
+        → (if p then Some x else found n ys) ≡ (if p then Some x else if q then Some y else found n ys)
     second true q f g = refl
     second false true f g = let z : ◌≡◌ {A = ℕ} 0 1 = cc (g refl) in absurd (omega arith)
     second false false f g = refl
 
     later : (p q : Bool) → (p ≡ true → q ≡ true → ⊥)
-        → (if q then some y else if p then some x else found n ys) ≡ (if p then some x else if q then some y else found n ys)
+        → (if q then Some y else if p then Some x else found n ys) ≡ (if p then Some x else if q then Some y else found n ys)
     later true true f = absurd (f refl refl)
     later true false f = refl
     later false q f = refl
 
-    by : found n (put_in x ys) ≡ (if eqb (key x) n then some x else found n ys) → (t u : Bool) → ltb (key x) (key y) ≡ t
-        → eqb (key x) (key y) ≡ u → found n (put_in x (y ∷ ys)) ≡ (if eqb (key x) n then some x else found n (y ∷ ys))
+    by : found n (put_in x ys) ≡ (if eqb (key x) n then Some x else found n ys) → (t u : Bool) → ltb (key x) (key y) ≡ t
+        → eqb (key x) (key y) ≡ u → found n (put_in x (y ∷ ys)) ≡ (if eqb (key x) n then Some x else found n (y ∷ ys))
     by ih true u e f = rw e
     by ih false true e f =
         let is : key x ≡ key y = eqb-true (key x) (key y) f in
@@ -120,7 +120,7 @@ found_put x (y ∷ ys) n = by (found_put x ys n) (ltb (key x) (key y)) (eqb (key
         (second (eqb (key x) n) (eqb (key y) n) (λ (p : eqb (key x) n ≡ true). rw is at p) (λ (p : eqb (key y) n ≡ true). rw (← is) at p))
     by ih false false e f =
         rw (e, f)
-        (ap (λ (o : Option Piece). if eqb (key y) n then some y else o) ih
+        (ap (λ (o : Option Piece). if eqb (key y) n then Some y else o) ih
         ∙ later (eqb (key x) n) (eqb (key y) n) (λ p q. eqb-false (key x) (key y) f (eqb-true (key x) n p ∙ sym (eqb-true (key y) n q))))
 
 -- what is put in where the first is above it stands first
@@ -168,9 +168,9 @@ pub found_merged : (xs ys : List Piece) (n : ℕ) → found n (merged xs ys) ≡
 unfolding found merged
 found_merged [] ys n = refl
 found_merged (x ∷ xs) ys n =
-    found_put x (merged xs ys) n ∙ ap (λ (o : Option Piece). if eqb (key x) n then some x else o) (found_merged xs ys n) ∙ by (eqb (key x) n)
+    found_put x (merged xs ys) n ∙ ap (λ (o : Option Piece). if eqb (key x) n then Some x else o) (found_merged xs ys n) ∙ by (eqb (key x) n)
   where
-    by : (t : Bool) → (if t then some x else or_else (found n xs) (found n ys)) ≡ or_else (if t then some x else found n xs) (found n ys)
+    by : (t : Bool) → (if t then Some x else or_else (found n xs) (found n ys)) ≡ or_else (if t then Some x else found n xs) (found n ys)
     by true = refl
     by false = refl
 
@@ -255,13 +255,13 @@ clash_second y (x ∷ xs) ys a =
 
 -- the lowest key is in both
 pub clash_both : (x y : Piece) (xs ys : List Piece) → key x ≡ key y → Above (key x) xs
-    → clash (x ∷ xs) (y ∷ ys) ≡ (if not (same (piece_bytes x) (piece_bytes y)) then some (key x) else clash xs ys)
+    → clash (x ∷ xs) (y ∷ ys) ≡ (if not (same (piece_bytes x) (piece_bytes y)) then Some (key x) else clash xs ys)
 unfolding clash differs
 clash_both x y xs ys h a =
     rw (found_here (key x) y ys (sym h), clash_second y xs ys (above_on (key y) (key x) xs (omega arith) a))
 
 -- the empty list clashes with none
-pub clash_nothing : (xs : List Piece) → clash xs [] ≡ none
+pub clash_nothing : (xs : List Piece) → clash xs [] ≡ None
 unfolding clash differs found
 clash_nothing [] = refl
 clash_nothing (x ∷ xs) = clash_nothing xs
@@ -298,8 +298,8 @@ clash_sym =
     clash_both x y xs ys h r.0 ∙ meeting x y xs ys h (on r.1 s.1) ∙ sym (clash_both y x ys xs (sym h) s.0))
   where
     meeting : (x y : Piece) (xs ys : List Piece) → key x ≡ key y → clash xs ys ≡ clash ys xs
-        → (if not (same (piece_bytes x) (piece_bytes y)) then some (key x) else clash xs ys)
-        ≡ (if not (same (piece_bytes y) (piece_bytes x)) then some (key y) else clash ys xs)
+        → (if not (same (piece_bytes x) (piece_bytes y)) then Some (key x) else clash xs ys)
+        ≡ (if not (same (piece_bytes y) (piece_bytes x)) then Some (key y) else clash ys xs)
     meeting x y xs ys h e = rw (same_sym (piece_bytes x) (piece_bytes y), h, e)
 
 -- PIECES THAT ARE READ BACK
@@ -322,7 +322,7 @@ each_merged P [] ys a b = b
 each_merged P (x ∷ xs) ys a b = each_put P x (merged xs ys) a.0 (each_merged P xs ys a.1 b)
 
 -- what is found has what is asked of each
-pub each_found : (P : Piece → Type 0) (n : ℕ) (es : List Piece) (e : Piece) → Each P es → found n es ≡ some e → (key e ≡ n) × P e
+pub each_found : (P : Piece → Type 0) (n : ℕ) (es : List Piece) (e : Piece) → Each P es → found n es ≡ Some e → (key e ≡ n) × P e
 unfolding found
 each_found P n [] e a f = not_none e f
 each_found P n (x ∷ es) e a f =
@@ -348,20 +348,20 @@ read_same x y r s e =
 
 -- a key that is found in both finds the same
 abbrev pub Agree : List Piece → List Piece → Type 0
-Agree xs ys = (n : ℕ) (x y : Piece) → found n xs ≡ some x → found n ys ≡ some y → x ≡ y
+Agree xs ys = (n : ℕ) (x y : Piece) → found n xs ≡ Some x → found n ys ≡ Some y → x ≡ y
 
 -- pieces that do not differ are the same
-not_differs : (t : Bool) (k : ℕ) (later : Option ℕ) → (if not t then some k else later) ≡ none → (t ≡ true) × (later ≡ none)
+not_differs : (t : Bool) (k : ℕ) (later : Option ℕ) → (if not t then Some k else later) ≡ None → (t ≡ true) × (later ≡ None)
 not_differs true k later e = (refl, e)
 not_differs false k later e = let z : ◌≡◌ {A = ℕ} 0 1 = cc in absurd (omega arith)
 
 -- nor is there a clash later
-no_later : (t : Bool) (k : ℕ) (later : Option ℕ) → (if t then some k else later) ≡ none → later ≡ none
+no_later : (t : Bool) (k : ℕ) (later : Option ℕ) → (if t then Some k else later) ≡ None → later ≡ None
 no_later true k later e = let z : ◌≡◌ {A = ℕ} 0 1 = cc in absurd (omega arith)
 no_later false k later e = e
 
 -- lists without a clash agree
-pub agree : (xs ys : List Piece) → Each Read xs → Each Read ys → clash xs ys ≡ none → Agree xs ys
+pub agree : (xs ys : List Piece) → Each Read xs → Each Read ys → clash xs ys ≡ None → Agree xs ys
 unfolding found clash differs
 agree [] ys a b e n x y f g = not_none x f
 agree (z ∷ xs) ys a b e n x y f g =
@@ -369,13 +369,13 @@ agree (z ∷ xs) ys a b e n x y f g =
     (λ (t : eqb (key z) n ≡ true).
     let k : key z ≡ n = eqb-true (key z) n t in
     let is : z ≡ x = cc (sym (found_here n z xs k) ∙ f) in
-    let there : found (key z) ys ≡ some y = ap (λ (m : ℕ). found m ys) k ∙ g in
+    let there : found (key z) ys ≡ Some y = ap (λ (m : ℕ). found m ys) k ∙ g in
     sym is ∙ read_same z y a.0 (each_found Read n ys y b g).1 (not_differs (same (piece_bytes z) (piece_bytes y)) (key z) (clash xs ys) (rw there at e)).0)
     (λ (t : eqb (key z) n ≡ false).
     agree xs ys a.1 b (no_later (differs z (found (key z) ys)) (key z) (clash xs ys) e) n x y (sym (found_later n z xs (eqb-false (key z) n t)) ∙ f) g)
 
 -- lists that agree have no clash
-pub no_clash : (xs ys : List Piece) → Rising xs → Agree xs ys → clash xs ys ≡ none
+pub no_clash : (xs ys : List Piece) → Rising xs → Agree xs ys → clash xs ys ≡ None
 unfolding found clash differs
 no_clash [] ys r g = refl
 no_clash (x ∷ xs) ys r g = by (no_clash xs ys r.1 rest) (found (key x) ys) refl
@@ -387,9 +387,9 @@ no_clash (x ∷ xs) ys r g = by (no_clash xs ys r.1 rest) (found (key x) ys) ref
         not_none z (sym (found_none n xs (subst (λ (m : ℕ). Above m xs) (eqb-true (key x) n t) r.0)) ∙ f))
         (λ (t : eqb (key x) n ≡ false). g n z y (found_later n x xs (eqb-false (key x) n t) ∙ f) h)
 
-    by : clash xs ys ≡ none → (o : Option Piece) → found (key x) ys ≡ o → clash (x ∷ xs) ys ≡ none
-    by later none e = rw e later
-    by later (some y) e =
+    by : clash xs ys ≡ None → (o : Option Piece) → found (key x) ys ≡ o → clash (x ∷ xs) ys ≡ None
+    by later None e = rw e later
+    by later (Some y) e =
         let is : x ≡ y = g (key x) x y (found_here (key x) x xs refl) e in
         rw (e, ← is, same_refl (piece_bytes x)) later
 
@@ -399,10 +399,10 @@ module _ (P : List Piece → List Piece → List Piece → Type 0) (no-first : (
     (above : (x y : Piece) (xs ys zs : List Piece) → P (x ∷ xs) ys zs → P (x ∷ xs) (y ∷ ys) (y ∷ zs))
     (meets : (x : Piece) (xs ys zs : List Piece) → P xs ys zs → P (x ∷ xs) (x ∷ ys) (x ∷ zs)) where
   -- what holds of two lists without a clash and what is merged of them, piece by piece
-  pub merging : (xs ys : List Piece) → Rising xs → Rising ys → Each Read xs → Each Read ys → clash xs ys ≡ none → P xs ys (merged xs ys)
+  pub merging : (xs ys : List Piece) → Rising xs → Rising ys → Each Read xs → Each Read ys → clash xs ys ≡ None → P xs ys (merged xs ys)
   unfolding merged
   merging =
-      lowest_first (λ xs ys. Rising xs → Rising ys → Each Read xs → Each Read ys → clash xs ys ≡ none → P xs ys (merged xs ys))
+      lowest_first (λ xs ys. Rising xs → Rising ys → Each Read xs → Each Read ys → clash xs ys ≡ None → P xs ys (merged xs ys))
       (λ ys r s a b e. no-first ys)
       (λ x xs r s a b e. rw (merged_nothing (x ∷ xs) r) (no_second x xs))
       (λ x y xs ys h on r s a b e.

@@ -3,7 +3,7 @@ use Prim.Native.Nat.{ℕ, ◌+◌, ◌≤◌}
 use mathlib.Core.Path.{◌≡◌, refl, sym, ap, ◌∙◌, subst}
 use mathlib.Core.Bool.{Bool, true, false}
 use mathlib.Core.List.{List, []}
-use mathlib.Core.Option.{Option, none, some}
+use Rattle.std.specs.Prelude.{Option, None, Some}
 use native.Mathlib.Omega.{arith}
 use borrow.Author.Tests.{le-leb, le-ltb, ltb-false}
 use lib.Dec.{ltb}
@@ -28,27 +28,27 @@ use Rattle.join.proofs.UnionLaws.{Formed, formed, union_formed, union_bytes, uni
 pub record Accepts (a b : List ℕ) : Type 0 where
   pub first : well_formed a ≡ true
   pub second : well_formed b ≡ true
-  pub apart : clash (pieces a) (pieces b) ≡ none
+  pub apart : clash (pieces a) (pieces b) ≡ None
   pub well : well_formed (union a b) ≡ true
 
 -- what was found, or else the same
 else_same : {A : Type 0} (o : Option A) → or_else o o ≡ o
-else_same none = refl
-else_same (some x) = refl
+else_same None = refl
+else_same (Some x) = refl
 
 -- in the other order, where both are the same
-else_swap : {A : Type 0} (o p : Option A) → ((x y : A) → o ≡ some x → p ≡ some y → x ≡ y) → or_else o p ≡ or_else p o
-else_swap none none g = refl
-else_swap none (some y) g = refl
-else_swap (some x) none g = refl
-else_swap (some x) (some y) g = ap some (g x y refl refl)
+else_swap : {A : Type 0} (o p : Option A) → ((x y : A) → o ≡ Some x → p ≡ Some y → x ≡ y) → or_else o p ≡ or_else p o
+else_swap None None g = refl
+else_swap None (Some y) g = refl
+else_swap (Some x) None g = refl
+else_swap (Some x) (Some y) g = ap Some (g x y refl refl)
 
 -- grouped either way
 else_group : {A : Type 0} (o p q : Option A) → or_else (or_else o p) q ≡ or_else o (or_else p q)
-else_group none p q = refl
-else_group (some x) p q = refl
+else_group None p q = refl
+else_group (Some x) p q = refl
 
-module _ (a b : List ℕ) (fa : Formed a) (fb : Formed b) (apart : clash (pieces a) (pieces b) ≡ none) where
+module _ (a b : List ℕ) (fa : Formed a) (fb : Formed b) (apart : clash (pieces a) (pieces b) ≡ None) where
   -- what is found in both is the same
   agrees : Agree (pieces a) (pieces b)
   agrees = agree (pieces a) (pieces b) fa.read fb.read apart
@@ -115,8 +115,8 @@ swapped a b out bya byb = by (well_formed a) (well_formed b) refl refl
   where
     clashing : (o : Option ℕ) → clash (pieces a) (pieces b) ≡ o → well_formed a ≡ true → well_formed b ≡ true
         → unless_clash o (union a b) out ≡ unless_clash o (union b a) out
-    clashing none e wa wb = ap (λ (u : List ℕ). put_union u out) (union_swap a b (formed a bya wa) (formed b byb wb) e)
-    clashing (some n) e wa wb = refl
+    clashing None e wa wb = ap (λ (u : List ℕ). put_union u out) (union_swap a b (formed a bya wa) (formed b byb wb) e)
+    clashing (Some n) e wa wb = refl
 
     by : (t u : Bool) → well_formed a ≡ t → well_formed b ≡ u → join a b out ≡ join b a out
     by true true wa wb =
@@ -157,11 +157,11 @@ module _ (a b c : List ℕ) (bya : AllBytes a) (byb : AllBytes b) (byc : AllByte
   second_agree n y z p q = by (found n (pieces a)) refl
     where
       by : (o : Option Piece) → found n (pieces a) ≡ o → y ≡ z
-      by none e = union_agree n y z (union_found a b fa fb n ∙ rw e p) q
-      by (some x) e = sym (first_agree n x y e p) ∙ union_agree n x z (union_found a b fa fb n ∙ rw e) q
+      by None e = union_agree n y z (union_found a b fa fb n ∙ rw e p) q
+      by (Some x) e = sym (first_agree n x y e p) ∙ union_agree n x z (union_found a b fa fb n ∙ rw e) q
 
   -- they do not clash
-  second_apart : clash (pieces b) (pieces c) ≡ none
+  second_apart : clash (pieces b) (pieces c) ≡ None
   second_apart = no_clash (pieces b) (pieces c) fb.rising second_agree
 
   -- the last two, joined
@@ -173,18 +173,18 @@ module _ (a b c : List ℕ) (bya : AllBytes a) (byb : AllBytes b) (byc : AllByte
   group_agree n x w p q = by (found n (pieces b)) refl
     where
       by : (o : Option Piece) → found n (pieces b) ≡ o → x ≡ w
-      by none e =
+      by None e =
           let third : found n (pieces (union b c)) ≡ found n (pieces c) =
           union_found b c fb fc n ∙ ap (λ (o : Option Piece). or_else o (found n (pieces c))) e in
           union_agree n x w (union_found a b fa fb n ∙ rw p) (sym third ∙ q)
-      by (some y) e =
-          let second : found n (pieces (union b c)) ≡ some y =
+      by (Some y) e =
+          let second : found n (pieces (union b c)) ≡ Some y =
           union_found b c fb fc n ∙ ap (λ (o : Option Piece). or_else o (found n (pieces c))) e in
-          let is : some y ≡ some w = sym second ∙ q in
+          let is : Some y ≡ Some w = sym second ∙ q in
           first_agree n x w p (e ∙ is)
 
   -- they do not clash
-  group_apart : clash (pieces a) (pieces (union b c)) ≡ none
+  group_apart : clash (pieces a) (pieces (union b c)) ≡ None
   group_apart = no_clash (pieces a) (pieces (union b c)) fa.rising group_agree
 
   -- the unions are the same
@@ -251,7 +251,7 @@ itself a out by w h =
     let is : union a a ≡ a = whole f in
     accepted_as a a a out (record { first = w; second = w; apart = no_clash (pieces a) (pieces a) f.rising same; well = ap well_formed is ∙ w }) is h
   where
-    one : (x y : Piece) → some x ≡ some y → x ≡ y
+    one : (x y : Piece) → Some x ≡ Some y → x ≡ y
     one x y e = cc e
 
     whole : Formed a → union a a ≡ a
@@ -271,42 +271,42 @@ pub nothing_second : (a out : List ℕ) → AllBytes a → well_formed a ≡ tru
 nothing_second a out by w h = swapped a [] out by tt ∙ nothing_first a out by w h
 
 -- what joining made is the union of grammars that join
-made_told : (a b out u : List ℕ) → made (join a b out) ≡ some u → Accepts a b × (u ≡ union a b)
+made_told : (a b out u : List ℕ) → made (join a b out) ≡ Some u → Accepts a b × (u ≡ union a b)
 unfolding join made made_by
 made_told a b out u e = by (well_formed a) (well_formed b) (clash (pieces a) (pieces b)) (well_formed (union a b)) (ltb (length out) (length (union a b))) refl refl refl refl refl e
   where
-    no : {A : Type 0} → none ≡ some u → A
+    no : {A : Type 0} → None ≡ Some u → A
     no q = let z : ◌≡◌ {A = ℕ} 0 1 = cc q in absurd (omega arith)
 
     by : (p q : Bool) (o : Option ℕ) (r s : Bool) → well_formed a ≡ p → well_formed b ≡ q → clash (pieces a) (pieces b) ≡ o → well_formed (union a b) ≡ r
-        → ltb (length out) (length (union a b)) ≡ s → made (join a b out) ≡ some u → Accepts a b × (u ≡ union a b)
+        → ltb (length out) (length (union a b)) ≡ s → made (join a b out) ≡ Some u → Accepts a b × (u ≡ union a b)
     by false q o r s wa wb c wu l e = no (rw wa at e)
     by true false o r s wa wb c wu l e = no (rw (wa, wb) at e)
-    by true true (some n) r s wa wb c wu l e = no (rw (wa, wb, c) at e)
-    by true true none false s wa wb c wu l e = no (rw (wa, wb, c, wu) at e)
-    by true true none true true wa wb c wu l e = no (rw (wa, wb, c, wu, l) at e)
-    by true true none true false wa wb c wu l e =
-        let is : some (take (length (union a b)) (laid_over out (union a b))) ≡ some u = rw (wa, wb, c, wu, l) at e in
+    by true true (Some n) r s wa wb c wu l e = no (rw (wa, wb, c) at e)
+    by true true None false s wa wb c wu l e = no (rw (wa, wb, c, wu) at e)
+    by true true None true true wa wb c wu l e = no (rw (wa, wb, c, wu, l) at e)
+    by true true None true false wa wb c wu l e =
+        let is : Some (take (length (union a b)) (laid_over out (union a b))) ≡ Some u = rw (wa, wb, c, wu, l) at e in
         let first : take (length (union a b)) (laid_over out (union a b)) ≡ u = cc is in
         (record { first = wa; second = wb; apart = c; well = wu }, sym first ∙ laid_front out (union a b) (ltb-false (length out) (length (union a b)) l))
 
 -- grammars that join make their union, where there is room enough
-made_some : (a b out : List ℕ) → Accepts a b → 65535 ≤ length out → made (join a b out) ≡ some (union a b)
+made_some : (a b out : List ℕ) → Accepts a b → 65535 ≤ length out → made (join a b out) ≡ Some (union a b)
 unfolding made made_by
 made_some a b out j h =
     let fits : length (union a b) ≤ length out = omega (arith, h, (well_told (union a b) j.well).few) in
-    ap made (accepted a b out j fits) ∙ ap some (laid_front out (union a b) fits)
+    ap made (accepted a b out j fits) ∙ ap Some (laid_front out (union a b) fits)
 
 -- two that are there alike are the same
-option_same : {A : Type 0} (o p : Option A) → ((u : A) → o ≡ some u → p ≡ some u) → ((u : A) → p ≡ some u → o ≡ some u) → o ≡ p
-option_same none none f g = refl
-option_same none (some y) f g = g y refl
-option_same (some x) p f g = sym (f x refl)
+option_same : {A : Type 0} (o p : Option A) → ((u : A) → o ≡ Some u → p ≡ Some u) → ((u : A) → p ≡ Some u → o ≡ Some u) → o ≡ p
+option_same None None f g = refl
+option_same None (Some y) f g = g y refl
+option_same (Some x) p f g = sym (f x refl)
 
 -- what there is after going on
-then_told : {A B : Type 0} (o : Option A) (f : A → Option B) (u : B) → and_then o f ≡ some u → (l : A) × (o ≡ some l) × (f l ≡ some u)
-then_told none f u e = let z : ◌≡◌ {A = ℕ} 0 1 = cc e in absurd (omega arith)
-then_told (some l) f u e = (l, refl, e)
+then_told : {A B : Type 0} (o : Option A) (f : A → Option B) (u : B) → and_then o f ≡ Some u → (l : A) × (o ≡ Some l) × (f l ≡ Some u)
+then_told None f u e = let z : ◌≡◌ {A = ℕ} 0 1 = cc e in absurd (omega arith)
+then_told (Some l) f u e = (l, refl, e)
 
 -- the first two, then the third
 record Lefts (a b c u : List ℕ) : Type 0 where
@@ -349,21 +349,21 @@ pub grouped : (a b c x y z w : List ℕ) → AllBytes a → AllBytes b → AllBy
     → and_then (made (join a b x)) (λ l. made (join l c y)) ≡ and_then (made (join b c z)) (λ l. made (join a l w))
 grouped a b c x y z w bya byb byc hx hy hz hw = option_same _ _ to from
   where
-    to : (u : List ℕ) → and_then (made (join a b x)) (λ l. made (join l c y)) ≡ some u → and_then (made (join b c z)) (λ l. made (join a l w)) ≡ some u
+    to : (u : List ℕ) → and_then (made (join a b x)) (λ l. made (join l c y)) ≡ Some u → and_then (made (join b c z)) (λ l. made (join a l w)) ≡ Some u
     to u e =
         let t = then_told (made (join a b x)) (λ l. made (join l c y)) u e in
         let i = made_told a b x t.0 t.1 in
-        let o = made_told (union a b) c y u (subst (λ (l : List ℕ). made (join l c y) ≡ some u) i.1 t.2) in
+        let o = made_told (union a b) c y u (subst (λ (l : List ℕ). made (join l c y) ≡ Some u) i.1 t.2) in
         let r = lefts_right a b c bya byb byc u (record { inner = i.0; outer = o.0; is = o.1 }) in
-        rw (made_some b c z r.inner hz) (made_some a (union b c) w r.outer hw ∙ ap some (sym r.is))
+        rw (made_some b c z r.inner hz) (made_some a (union b c) w r.outer hw ∙ ap Some (sym r.is))
 
-    from : (u : List ℕ) → and_then (made (join b c z)) (λ l. made (join a l w)) ≡ some u → and_then (made (join a b x)) (λ l. made (join l c y)) ≡ some u
+    from : (u : List ℕ) → and_then (made (join b c z)) (λ l. made (join a l w)) ≡ Some u → and_then (made (join a b x)) (λ l. made (join l c y)) ≡ Some u
     from u e =
         let t = then_told (made (join b c z)) (λ l. made (join a l w)) u e in
         let i = made_told b c z t.0 t.1 in
-        let o = made_told a (union b c) w u (subst (λ (l : List ℕ). made (join a l w) ≡ some u) i.1 t.2) in
+        let o = made_told a (union b c) w u (subst (λ (l : List ℕ). made (join a l w) ≡ Some u) i.1 t.2) in
         let l = rights_left a b c u bya byb byc (record { inner = i.0; outer = o.0; is = o.1 }) in
-        rw (made_some a b x l.inner hx) (made_some (union a b) c y l.outer hy ∙ ap some (sym l.is))
+        rw (made_some a b x l.inner hx) (made_some (union a b) c y l.outer hy ∙ ap Some (sym l.is))
 
 -- OVER ANY CALLS THAT RETURNED
 
@@ -385,9 +385,9 @@ said_any a b x y hx hy = by (well_formed a) (well_formed b) (clash (pieces a) (p
         → (join a b x).said ≡ (join a b y).said
     by false q o r wa wb c wu = rw wa
     by true false o r wa wb c wu = rw (wa, wb)
-    by true true (some n) r wa wb c wu = rw (wa, wb, c)
-    by true true none false wa wb c wu = rw (wa, wb, c, wu)
-    by true true none true wa wb c wu =
+    by true true (Some n) r wa wb c wu = rw (wa, wb, c)
+    by true true None false wa wb c wu = rw (wa, wb, c, wu)
+    by true true None true wa wb c wu =
         let few = (well_told (union a b) wu).few in
         rw (wa, wb, c, wu, le-ltb (length x) (length (union a b)) (omega (arith, few, hx)), le-ltb (length y) (length (union a b)) (omega (arith, few, hy)))
 
@@ -395,8 +395,8 @@ said_any a b x y hx hy = by (well_formed a) (well_formed b) (clash (pieces a) (p
 made_any : (a b x y : List ℕ) → 65535 ≤ length x → 65535 ≤ length y → made (join a b x) ≡ made (join a b y)
 made_any a b x y hx hy = option_same _ _ (to x y hy) (to y x hx)
   where
-    to : (x y : List ℕ) → 65535 ≤ length y → (u : List ℕ) → made (join a b x) ≡ some u → made (join a b y) ≡ some u
-    to x y hy u e = let t = made_told a b x u e in made_some a b y t.0 hy ∙ ap some (sym t.1)
+    to : (x y : List ℕ) → 65535 ≤ length y → (u : List ℕ) → made (join a b x) ≡ Some u → made (join a b y) ≡ Some u
+    to x y hy u e = let t = made_told a b x u e in made_some a b y t.0 hy ∙ ap Some (sym t.1)
 
 -- two calls, in either order: the same number, place, value and count, and the same bytes
 pub calls_swapped : (a b x y : List ℕ) → AllBytes a → AllBytes b → 65535 ≤ length x → 65535 ≤ length y → {r s : Joined} {o p : List ℕ}
@@ -410,20 +410,20 @@ calls_swapped a b x y bya byb hx hy j k =
 module _ (a b c x y z w : List ℕ) (bya : AllBytes a) (byb : AllBytes b) (byc : AllBytes c) (hx : 65535 ≤ length x) (hy : 65535 ≤ length y)
     (hz : 65535 ≤ length z) (hw : 65535 ≤ length w) {r s : Joined} {o p : List ℕ} (i : Joins (join a b x) r o) (j : Joins (join b c z) s p) where
   -- four calls: where the first two and then the third are joined, the last two are, and the first with them to the same bytes
-  pub calls_grouped : {t : Joined} {q l u : List ℕ} → made_by r o ≡ some l → Joins (join l c y) t q → made_by t q ≡ some u
-      → (m : List ℕ) × (made_by s p ≡ some m) × ((k : Joined) (v : List ℕ) → Joins (join a m w) k v → made_by k v ≡ some u)
+  pub calls_grouped : {t : Joined} {q l u : List ℕ} → made_by r o ≡ Some l → Joins (join l c y) t q → made_by t q ≡ Some u
+      → (m : List ℕ) × (made_by s p ≡ Some m) × ((k : Joined) (v : List ℕ) → Joins (join a m w) k v → made_by k v ≡ Some u)
   calls_grouped {l = l} {u = u} e k f =
-      let ab : made (join a b x) ≡ some l = call_made i ∙ e in
-      let left : and_then (made (join a b x)) (λ l. made (join l c y)) ≡ some u = rw ab (call_made k ∙ f) in
+      let ab : made (join a b x) ≡ Some l = call_made i ∙ e in
+      let left : and_then (made (join a b x)) (λ l. made (join l c y)) ≡ Some u = rw ab (call_made k ∙ f) in
       let t = then_told (made (join b c z)) (λ l. made (join a l w)) u (sym (grouped a b c x y z w bya byb byc hx hy hz hw) ∙ left) in
       (t.0, sym (call_made j) ∙ t.1, λ n v h. sym (call_made h) ∙ t.2)
 
   -- and the other way
-  pub calls_grouped_back : {t : Joined} {q m u : List ℕ} → made_by s p ≡ some m → Joins (join a m w) t q → made_by t q ≡ some u
-      → (l : List ℕ) × (made_by r o ≡ some l) × ((k : Joined) (v : List ℕ) → Joins (join l c y) k v → made_by k v ≡ some u)
+  pub calls_grouped_back : {t : Joined} {q m u : List ℕ} → made_by s p ≡ Some m → Joins (join a m w) t q → made_by t q ≡ Some u
+      → (l : List ℕ) × (made_by r o ≡ Some l) × ((k : Joined) (v : List ℕ) → Joins (join l c y) k v → made_by k v ≡ Some u)
   calls_grouped_back {m = m} {u = u} e k f =
-      let bc : made (join b c z) ≡ some m = call_made j ∙ e in
-      let right : and_then (made (join b c z)) (λ l. made (join a l w)) ≡ some u = rw bc (call_made k ∙ f) in
+      let bc : made (join b c z) ≡ Some m = call_made j ∙ e in
+      let right : and_then (made (join b c z)) (λ l. made (join a l w)) ≡ Some u = rw bc (call_made k ∙ f) in
       let t = then_told (made (join a b x)) (λ l. made (join l c y)) u (grouped a b c x y z w bya byb byc hx hy hz hw ∙ right) in
       (t.0, sym (call_made i) ∙ t.1, λ n v h. sym (call_made h) ∙ t.2)
 

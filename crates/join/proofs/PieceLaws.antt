@@ -266,9 +266,9 @@ head_first broken xs e = never e refl
 -- a piece's items before others that begin with no operand or parameter
 pub head_back : (h : Item) (b r : List Item) → rule start h ≡ true → body_of b ≡ b → body_of r ≡ []
     → (body_of (h ∷ b ++ r) ≡ []) × (pieces_of (h ∷ b ++ r) ≡ record { head = h; body = b } ∷ pieces_of r)
-head_back h b r e parts none =
+head_back h b r e parts None =
     let t = parts_before b r parts in
-    let is : body_of (b ++ r) ≡ b = t.0 ∙ ap (λ (z : List Item). b ++ z) none ∙ append-nil b in
+    let is : body_of (b ++ r) ≡ b = t.0 ∙ ap (λ (z : List Item). b ++ z) None ∙ append-nil b in
     let f = head_first h (b ++ r) e in
     (f.0, f.1 ∙ rw (is, t.1))
 

@@ -7,7 +7,7 @@ use Prim.Native.Nat.{ℕ, ◌+◌, ◌-◌, ◌≤◌, ◌<◌}
 use mathlib.Core.Path.{◌≡◌, refl, sym, ap, ◌∙◌, subst}
 use mathlib.Core.Bool.{Bool, true, false, not, ◌||◌}
 use mathlib.Core.List.{List, [], ◌∷◌, ◌++◌, append_assoc}
-use mathlib.Core.Option.{some}
+use Rattle.std.specs.Prelude.{Some}
 use native.Mathlib.Omega.{arith}
 use borrow.Author.Tests.{lt-ltb, le-ltb, ltb-true}
 use lib.Dec.{ltb, eqb}
@@ -241,7 +241,7 @@ module _ {a b : List ℕ} {i j : ℕ} (bya : AllBytes a) (byb : AllBytes b) (sa 
   module _ {e f : ℕ} (t : Stretch a i e) (u : Stretch b j f) (meets : key t.piece ≡ key u.piece) where
     -- the lowest key is in both: whether the pieces differ
     meeting : clash (pieces (drop i a)) (pieces (drop j b))
-        ≡ (if not (same (between i e a) (between j f b)) then some (key t.piece) else clash (pieces (drop e a)) (pieces (drop f b)))
+        ≡ (if not (same (between i e a) (between j f b)) then Some (key t.piece) else clash (pieces (drop e a)) (pieces (drop f b)))
     meeting =
         ap (λ (l : List Piece). clash l (pieces (drop j b))) t.first ∙ ap (clash (t.piece ∷ pieces (drop e a))) u.first
         ∙ clash_both t.piece u.piece (pieces (drop e a)) (pieces (drop f b)) meets (stretch_above bya sa t)
@@ -263,7 +263,7 @@ module _ {a b : List ℕ} {i j : ℕ} (bya : AllBytes a) (byb : AllBytes b) (sa 
     }
 
     -- they differ
-    pub both_differ : (between i e a ≡ between j f b → ⊥) → clash (pieces (drop i a)) (pieces (drop j b)) ≡ some (key t.piece)
+    pub both_differ : (between i e a ≡ between j f b → ⊥) → clash (pieces (drop i a)) (pieces (drop j b)) ≡ Some (key t.piece)
     both_differ apart = meeting ∙ rw (fails (same (between i e a) (between j f b)) (λ q. apart (same_is (between i e a) (between j f b) q)))
 
 -- BY WHAT THE CODE READ
@@ -304,8 +304,8 @@ module _ {a b : List ℕ} {i j : ℕ} (bya : AllBytes a) (byb : AllBytes b) (sa 
     same_step = both_on bya byb sa sb t u keys_meet
 
     -- their bytes are not
-    pub differ_step : (between i e a ≡ between j f b → ⊥) → clash (pieces (drop i a)) (pieces (drop j b)) ≡ some x
-    differ_step apart = both_differ bya byb sa sb t u keys_meet apart ∙ ap some (stretch_key bya sa ha t ∙ sym kx)
+    pub differ_step : (between i e a ≡ between j f b → ⊥) → clash (pieces (drop i a)) (pieces (drop j b)) ≡ Some x
+    differ_step apart = both_differ bya byb sa sb t u keys_meet apart ∙ ap Some (stretch_key bya sa ha t ∙ sym kx)
 
 -- of two keys neither is the lower
 pub same_keys : {x y m n : ℕ} → x ≡ m → y ≡ n → y ≤ x → x ≤ y → (x ≡ m) × (x ≡ n)

@@ -3,7 +3,7 @@ use Prim.Native.Nat.{ℕ, zero, suc, ◌+◌, ◌*◌, ◌≤◌, ◌<◌}
 use mathlib.Core.Path.{◌≡◌, refl, sym, ap, ◌∙◌, subst}
 use mathlib.Core.Bool.{Bool, true, false, not, ◌&&◌, and-true, and_assoc}
 use mathlib.Core.List.{List, [], ◌∷◌, ◌++◌}
-use mathlib.Core.Option.{Option, none, some}
+use Rattle.std.specs.Prelude.{Option, None, Some}
 use native.Mathlib.Omega.{arith}
 use borrow.Author.Tests.{eq-eqb, ne_eqb, eqb-true, eqb-false}
 use lib.Dec.{leb, eqb}
@@ -79,13 +79,13 @@ formed g by w = formed_by g by (well_told g w).rules
 
 -- the operands of a piece that was found
 abbrev slots_in : Option Piece → Option (List Slot)
-slots_in none = none
-slots_in (some e) = some (slots_of e.body)
+slots_in None = None
+slots_in (Some e) = Some (slots_of e.body)
 
 -- the parameters of a piece that was found
 abbrev parameters_in : Option Piece → Option (List ℕ)
-parameters_in none = none
-parameters_in (some e) = some (parameters_of e.body)
+parameters_in None = None
+parameters_in (Some e) = Some (parameters_of e.body)
 
 -- the operands that items begin with are in what belongs to a head
 slots_body : (xs : List Item) → slots_of (body_of xs) ≡ slots_of xs
@@ -109,14 +109,14 @@ parameters_body (broken ∷ xs) = refl
 
 -- one of two rows
 slots_if : (t : Bool) (e : Piece) (o : Option Piece) (ss : List Slot) (p : Option (List Slot)) → ss ≡ slots_of e.body → p ≡ slots_in o
-    → (if t then some ss else p) ≡ slots_in (if t then some e else o)
-slots_if true e o ss p a b = ap some a
+    → (if t then Some ss else p) ≡ slots_in (if t then Some e else o)
+slots_if true e o ss p a b = ap Some a
 slots_if false e o ss p a b = b
 
 -- one of two enumerants
 parameters_if : (t : Bool) (e : Piece) (o : Option Piece) (ps : List ℕ) (p : Option (List ℕ)) → ps ≡ parameters_of e.body → p ≡ parameters_in o
-    → (if t then some ps else p) ≡ parameters_in (if t then some e else o)
-parameters_if true e o ps p a b = ap some a
+    → (if t then Some ps else p) ≡ parameters_in (if t then Some e else o)
+parameters_if true e o ps p a b = ap Some a
 parameters_if false e o ps p a b = b
 
 -- an opcode's row is found by the opcode
@@ -190,7 +190,7 @@ and_swap false true c = refl
 and_swap false false c = refl
 
 -- each of two merged passes where each of both does
-pub every_merged : (f : Piece → Bool) (xs ys : List Piece) → Rising xs → Rising ys → Each Read xs → Each Read ys → clash xs ys ≡ none
+pub every_merged : (f : Piece → Bool) (xs ys : List Piece) → Rising xs → Rising ys → Each Read xs → Each Read ys → clash xs ys ≡ None
     → every f (merged xs ys) ≡ every f xs && every f ys
 every_merged f =
     merging (λ xs ys zs. every f zs ≡ every f xs && every f ys) (λ ys. refl) (λ x xs. sym (and-true (f x && every f xs)))
@@ -206,13 +206,13 @@ every_merged f =
 
 -- what is there of one's operands, or else of the other's
 slots_else : (o p : Option Piece) → slots_in (or_else o p) ≡ or_else (slots_in o) (slots_in p)
-slots_else none p = refl
-slots_else (some e) p = refl
+slots_else None p = refl
+slots_else (Some e) p = refl
 
 -- what is there of one's parameters, or else of the other's
 parameters_else : (o p : Option Piece) → parameters_in (or_else o p) ≡ or_else (parameters_in o) (parameters_in p)
-parameters_else none p = refl
-parameters_else (some e) p = refl
+parameters_else None p = refl
+parameters_else (Some e) p = refl
 
 -- each element passes two tests where it passes each
 every_both : {A : Type 0} (f g h : A → Bool) → ((x : A) → f x ≡ g x && h x) → (xs : List A) → every f xs ≡ every g xs && every h xs
@@ -274,7 +274,7 @@ module _ (a b : List ℕ) (fa : Formed a) (fb : Formed b) where
       ∙ parameters_else (found (key_of (enumerant (suc k) v)) (pieces a)) (found (key_of (enumerant (suc k) v)) (pieces b))
       ∙ rw (enumerant_by (suc k) v one h (items a) fa.fine fa.small, enumerant_by (suc k) v one h (items b) fb.fine fb.small)
 
-  module _ (apart : clash (pieces a) (pieces b) ≡ none) where
+  module _ (apart : clash (pieces a) (pieces b) ≡ None) where
     -- each of its enumerants passes a test where each of both does
     every_union : (f : Enumerant → Bool)
         → every f (enumerants_of (items (union a b))) ≡ every f (enumerants_of (items a)) && every f (enumerants_of (items b))

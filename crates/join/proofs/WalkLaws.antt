@@ -3,7 +3,7 @@ use Prim.Native.Nat.{ℕ, zero, suc, ◌+◌, ◌-◌, ◌≤◌, ◌<◌}
 use mathlib.Core.Path.{◌≡◌, refl, sym, ap, ◌∙◌, subst}
 use mathlib.Core.Bool.{Bool, true, false, ◌||◌}
 use mathlib.Core.List.{List, [], ◌∷◌, ◌++◌, append_assoc, append-nil}
-use mathlib.Core.Option.{none, some}
+use Rattle.std.specs.Prelude.{None, Some}
 use native.Mathlib.Omega.{arith}
 use native.Mathlib.Nat.{zero-add}
 use borrow.Author.Tests.{lt-ltb, le-ltb, ltb-false}
@@ -98,7 +98,7 @@ unfolding Stepped
 on_told {a} {b} {i} {j} s i' j' h e = subst (Stepped a i b j) e h
 
 -- where it stops
-pub differ_told : (a : List ℕ) (i : ℕ) (b : List ℕ) (j : ℕ) (s : Step) (n : ℕ) → Stepped a i b j s → s ≡ Differs n → clash (pieces (drop i a)) (pieces (drop j b)) ≡ some n
+pub differ_told : (a : List ℕ) (i : ℕ) (b : List ℕ) (j : ℕ) (s : Step) (n : ℕ) → Stepped a i b j s → s ≡ Differs n → clash (pieces (drop i a)) (pieces (drop j b)) ≡ Some n
 unfolding Stepped
 differ_told a i b j s n h e = subst (Stepped a i b j) e h
 
@@ -173,13 +173,13 @@ module _ {a b out₀ out : List ℕ} {keep : Bool} {i j at : ℕ} (r : Walking a
     walk_less = omega (arith, o.up.0, o.up.1, o.up.2, o.first.within, o.second.within)
 
   -- two pieces differ
-  pub walk_clash : (n : ℕ) → (keep ≡ true → MayKeep a b out₀) → clash (pieces (drop i a)) (pieces (drop j b)) ≡ some n
+  pub walk_clash : (n : ℕ) → (keep ≡ true → MayKeep a b out₀) → clash (pieces (drop i a)) (pieces (drop j b)) ≡ Some n
       → Walked a b keep out₀ out (Clash n)
   unfolding Walked MayKeep kept
   walk_clash n may e = (r.apart ∙ e, r.stored ∙ untouched keep may)
     where
       untouched : (k : Bool) → (k ≡ true → MayKeep a b out₀) → kept k out₀ 0 r.done ≡ out₀
-      untouched true may = let z : none ≡ some n = sym (may refl).0 ∙ r.apart ∙ e in let y : ◌≡◌ {A = ℕ} 0 1 = cc z in absurd (omega arith)
+      untouched true may = let z : None ≡ Some n = sym (may refl).0 ∙ r.apart ∙ e in let y : ◌≡◌ {A = ℕ} 0 1 = cc z in absurd (omega arith)
       untouched false may = refl
 
   -- nothing is left

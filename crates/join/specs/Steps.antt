@@ -1,6 +1,6 @@
 -- The walk over two grammars, lowest piece first: what holds where a piece ends, after each step, and at the end.
 use Rattle.std.specs.Prelude.{ℕ, ◌+◌, ◌-◌, ◌≤◌, ◌<◌, ◌≡◌, Bool, true, false, ◌&&◌, List, ◌∷◌, ◌++◌, ltb, length, take, drop, if◌then◌else◌}
-use Rattle.std.proofs.Math.Option.{none, some}
+use Rattle.std.specs.Prelude.{None, Some}
 use Rattle.spec.specs.Grammar.{Item, row, operand, enumerant, parameter, broken, items, start, rules_from, enumerants_of}
 use Rattle.spec.specs.declared.Joined.{Joined}
 use Rattle.spec.specs.Join.{Piece, pieces, piece_bytes, clash, union, Joining}
@@ -51,17 +51,17 @@ pub record Onward (a : List ℕ) (i i' : ℕ) (b : List ℕ) (j j' : ℕ) : Type
 -- what a step says: where it goes, or the key of the pieces that differ
 unfoldable pub Stepped : List ℕ → ℕ → List ℕ → ℕ → Step → Type 0
 Stepped a i b j (On i' j') = Onward a i i' b j j'
-Stepped a i b j (Differs n) = clash (pieces (drop i a)) (pieces (drop j b)) ≡ some n
+Stepped a i b j (Differs n) = clash (pieces (drop i a)) (pieces (drop j b)) ≡ Some n
 
 -- what the walk says, and leaves in the output: the lowest key that clashes, or the length of the union, which is kept where it is to be
 unfoldable pub Walked : List ℕ → List ℕ → Bool → List ℕ → List ℕ → Merged → Type 0
-Walked a b keep before after (Clash n) = (clash (pieces a) (pieces b) ≡ some n) × (after ≡ before)
+Walked a b keep before after (Clash n) = (clash (pieces a) (pieces b) ≡ Some n) × (after ≡ before)
 Walked a b keep before after (Bytes n) =
-    (clash (pieces a) (pieces b) ≡ none) × (n ≡ length (union a b)) × (after ≡ kept keep before 0 (union a b))
+    (clash (pieces a) (pieces b) ≡ None) × (n ≡ length (union a b)) × (after ≡ kept keep before 0 (union a b))
 
 -- the union may be kept: nothing clashes, and there is room for it
 unfoldable pub MayKeep : List ℕ → List ℕ → List ℕ → Type 0
-MayKeep a b out = (clash (pieces a) (pieces b) ≡ none) × (length (union a b) ≤ length out)
+MayKeep a b out = (clash (pieces a) (pieces b) ≡ None) × (length (union a b) ≤ length out)
 
 -- the parameters of each grammar are of kinds that have none in the other
 unfoldable pub flat_both : List ℕ → List ℕ → Bool

@@ -2,7 +2,6 @@
 #![tactic(auto)]
 
 ghost use Rattle.std.specs.Prelude.{◌≡◌, true, ◌||◌, ◌+◌, ◌-◌, ◌≤◌, ◌<◌, ltb, length};
-ghost use Rattle.std.proofs.Math.Option.{none};
 ghost use Rattle.spec.specs.Words.{AllBytes};
 ghost use Rattle.spec.specs.Grammar.{well_formed};
 ghost use Rattle.spec.specs.Join.{key_of, pieces, clash, union, join as join_of};
@@ -184,7 +183,7 @@ fn refused(number: u32, place: u32, value: u32) -> Joined
 // The union of so many bytes, written where it meets the rules and fits.
 fn put_union(first: &[u8], second: &[u8], flat: bool, bytes: usize, out: &mut [u8]) -> Joined
     requires first_value { (well_formed first.now ≡ true) × (well_formed second.now ≡ true) × (flat ≡ flat_both first.now second.now) }
-    requires second_value { (clash (pieces first.now) (pieces second.now) ≡ none) × (bytes ≡ length (union first.now second.now)) }
+    requires second_value { (clash (pieces first.now) (pieces second.now) ≡ None) × (bytes ≡ length (union first.now second.now)) }
     ensures { Joins (join_of first.now second.now out.old) result out.new }
 {
     if 65535 < bytes {

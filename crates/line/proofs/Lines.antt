@@ -3,7 +3,8 @@ use Prim.Native.Nat.{ℕ, zero, suc, ◌+◌, ◌-◌, ◌%◌, ◌<◌, ◌≤�
 use mathlib.Core.Path.{◌≡◌, refl, ap, sym, subst, ◌∙◌}
 use mathlib.Core.Bool.{Bool, true, false, not, ◌&&◌, ◌||◌}
 use mathlib.Core.List.{List, [], ◌∷◌, ◌++◌, append_assoc}
-use mathlib.Core.Option.{Option, none, some, some-ne-none}
+use Rattle.std.specs.Prelude.{Option, None, Some}
+use Rattle.std.proofs.lemmas.Option.{none-some}
 use native.Mathlib.Omega.{arith}
 use borrow.Author.Tests.{eqb-true, eqb-false, ne_eqb, ltb-true, ltb-false, lt-ltb}
 use lib.Dec.{leb, ltb, eqb}
@@ -72,8 +73,8 @@ has_some (suc n) log strings a = sym (lt-ltb 0 (suc n) (omega arith))
 -- the result type's text
 type_text_lem : (t : Option ℕ) (os : List Operand) (more : Bool) → has 1 os ≡ more → type_by t more ≡ type_text t os
 unfolding type_by type_text
-type_text_lem none os more e = refl
-type_text_lem (some i) os more e = ap (λ (b : Bool). ascii "  " ++ id_text i ++ (if b then ascii " " else [])) (sym e)
+type_text_lem None os more e = refl
+type_text_lem (Some i) os more e = ap (λ (b : Bool). ascii "  " ++ id_text i ++ (if b then ascii " " else [])) (sym e)
 
 -- five pieces, one after the other
 pieces : (r n t o : List ℕ) → r ++ ascii "Op" ++ n ++ t ++ o ≡ r ++ ((79 ∷ 112 ∷ []) ++ (n ++ (t ++ o)))
@@ -104,7 +105,7 @@ operands_none is log strings f run r e q =
 
 -- with a name
 operands_named : (is : List Placed) (log strings : List ℕ) (f : Fields) (run : List ℕ) (r : Named) (start end : ℕ) → text_found run r ≡ name_in is (said_by log strings f) → r ≡ At start end
-    → spaced_by (some (take (end - start) (drop start run))) (operands_from f.count log strings f.start) ≡ operands_text is (said_by log strings f)
+    → spaced_by (Some (take (end - start) (drop start run))) (operands_from f.count log strings f.start) ≡ operands_text is (said_by log strings f)
 unfolding operands_text name_in text_found said_by placed_of
 operands_named is log strings f run r start end e q =
     ap (λ (n : Option (List ℕ)). spaced_by n (operands_from f.count log strings f.start)) (sym (ap (text_found run) q) ∙ e)
@@ -148,19 +149,19 @@ unfolding operand_after
 after_is log a k e t = rw (ap is_two e ∙ t)
 
 -- by tests of which one fails
-fails_left : (t u : Bool) (x : Option (List ℕ)) → t ≡ false → (if t && u then x else none) ≡ none
+fails_left : (t u : Bool) (x : Option (List ℕ)) → t ≡ false → (if t && u then x else None) ≡ None
 fails_left t u x e = rw e
 
-fails_right : (t u : Bool) (x : Option (List ℕ)) → u ≡ false → (if t && u then x else none) ≡ none
+fails_right : (t u : Bool) (x : Option (List ℕ)) → u ≡ false → (if t && u then x else None) ≡ None
 fails_right true u x e = rw e
 fails_right false u x e = refl
 
 -- the first is no id
-first_other : (is : List Placed) (log strings : List ℕ) (a : ℕ) (p : Operand) (os : List Operand) → (get_or log a 0 ≡ 33 → ⊥) → ext_name is (operand_at log strings a ∷ p ∷ os) ≡ none
+first_other : (is : List Placed) (log strings : List ℕ) (a : ℕ) (p : Operand) (os : List Operand) → (get_or log a 0 ≡ 33 → ⊥) → ext_name is (operand_at log strings a ∷ p ∷ os) ≡ None
 unfolding operand_by ext_name
 first_other is log strings a p os n = by (is_two (get_or log a 0)) (is_long (get_or log a 0)) refl refl p
   where
-    by : (t u : Bool) → is_two (get_or log a 0) ≡ t → is_long (get_or log a 0) ≡ u → (p : Operand) → ext_name is (operand_at log strings a ∷ p ∷ os) ≡ none
+    by : (t u : Bool) → is_two (get_or log a 0) ≡ t → is_long (get_or log a 0) ≡ u → (p : Operand) → ext_name is (operand_at log strings a ∷ p ∷ os) ≡ None
     by false u e f (narrow j v) = ap (λ (o : Operand). ext_name is (o ∷ narrow j v ∷ os)) (sym (operand_is log strings a false u e f)) ∙ fails_left (eqb (get_or log a 0) 33) (eqb j 35) _ (ne_eqb (get_or log a 0) 33 n)
     by false u e f (wide j v) = ap (λ (o : Operand). ext_name is (o ∷ wide j v ∷ os)) (sym (operand_is log strings a false u e f))
     by false u e f (text s) = ap (λ (o : Operand). ext_name is (o ∷ text s ∷ os)) (sym (operand_is log strings a false u e f))
@@ -168,18 +169,18 @@ first_other is log strings a p os n = by (is_two (get_or log a 0)) (is_long (get
     by true false e f p = ap (λ (o : Operand). ext_name is (o ∷ p ∷ os)) (sym (operand_is log strings a true false e f))
 
 -- the second is no number of an instruction
-second_other : (is : List Placed) (log strings : List ℕ) (b k v : ℕ) (os : List Operand) → (get_or log b 0 ≡ 35 → ⊥) → ext_name is (narrow k v ∷ operand_at log strings b ∷ os) ≡ none
+second_other : (is : List Placed) (log strings : List ℕ) (b k v : ℕ) (os : List Operand) → (get_or log b 0 ≡ 35 → ⊥) → ext_name is (narrow k v ∷ operand_at log strings b ∷ os) ≡ None
 unfolding operand_by ext_name
 second_other is log strings b k v os n = by (is_two (get_or log b 0)) (is_long (get_or log b 0)) refl refl
   where
-    by : (t u : Bool) → is_two (get_or log b 0) ≡ t → is_long (get_or log b 0) ≡ u → ext_name is (narrow k v ∷ operand_at log strings b ∷ os) ≡ none
+    by : (t u : Bool) → is_two (get_or log b 0) ≡ t → is_long (get_or log b 0) ≡ u → ext_name is (narrow k v ∷ operand_at log strings b ∷ os) ≡ None
     by false u e f = ap (λ (o : Operand). ext_name is (narrow k v ∷ o ∷ os)) (sym (operand_is log strings b false u e f)) ∙ fails_right (eqb k 33) (eqb (get_or log b 0) 35) _ (ne_eqb (get_or log b 0) 35 n)
     by true true e f = ap (λ (o : Operand). ext_name is (narrow k v ∷ o ∷ os)) (sym (operand_is log strings b true true e f))
     by true false e f = ap (λ (o : Operand). ext_name is (narrow k v ∷ o ∷ os)) (sym (operand_is log strings b true false e f))
 
 module _ (is : List Placed) (log strings : List ℕ) (a n : ℕ) (h : 2 ≤ n) where
   -- the first is no id
-  pub ext_first : (get_or log a 0 ≡ 33 → ⊥) → ext_name is (operands_from n log strings a) ≡ none
+  pub ext_first : (get_or log a 0 ≡ 33 → ⊥) → ext_name is (operands_from n log strings a) ≡ None
   ext_first k = ap (ext_name is) (two_first n log strings a h) ∙ first_other is log strings a _ _ k
 
   module _ (k : get_or log a 0 ≡ 33) where
@@ -191,7 +192,7 @@ module _ (is : List Placed) (log strings : List ℕ) (a n : ℕ) (h : 2 ≤ n) w
         ∙ ap (λ (o : Operand). o ∷ operand_at log strings (a + 5) ∷ operands_from (n - 2) log strings (operand_after log (a + 5))) (narrow_is log strings a 33 k refl)
 
     -- it is no number
-    pub ext_second : (get_or log (a + 5) 0 ≡ 35 → ⊥) → ext_name is (operands_from n log strings a) ≡ none
+    pub ext_second : (get_or log (a + 5) 0 ≡ 35 → ⊥) → ext_name is (operands_from n log strings a) ≡ None
     ext_second j = ap (ext_name is) second_at ∙ second_other is log strings (a + 5) 33 (four_at (a + 1) log) _ j
 
     module _ (j : get_or log (a + 5) 0 ≡ 35) where
@@ -242,7 +243,7 @@ extended true false c e = let y : ◌≡◌ {A = ℕ} 0 1 = cc in absurd (omega 
 extended false t c e = let y : ◌≡◌ {A = ℕ} 0 1 = cc in absurd (omega arith)
 
 -- few operands have no name
-ext_few : (is : List Placed) (n : ℕ) (log strings : List ℕ) (a : ℕ) → n < 2 → ext_name is (operands_from n log strings a) ≡ none
+ext_few : (is : List Placed) (n : ℕ) (log strings : List ℕ) (a : ℕ) → n < 2 → ext_name is (operands_from n log strings a) ≡ None
 unfolding operands_from ext_name
 ext_few is zero log strings a h = refl
 ext_few is (suc zero) log strings a h = refl
@@ -251,7 +252,7 @@ ext_few is (suc (suc n)) log strings a h = absurd (omega arith)
 module _ (is : List Placed) (log strings : List ℕ) (f : Fields) where
   -- by the tests
   name_by_lem : (o t : Bool) (x : Option (List ℕ)) → eqb (f.head % 65536) 12 ≡ o → eqb f.tag 15 ≡ t → ext_name is (operands_from f.count log strings f.start) ≡ x
-      → (if o && t then x else none) ≡ name_in is (said_by log strings f)
+      → (if o && t then x else None) ≡ name_in is (said_by log strings f)
   unfolding name_in said_by placed_of
   name_by_lem o t x a b c = rw (a, b, c)
 
@@ -260,10 +261,10 @@ module _ (is : List Placed) (log strings : List ℕ) (f : Fields) where
   unfolding text_found
   name_off run e = by (eqb (f.head % 65536) 12) (eqb f.tag 15) (ltb f.count 2) refl refl refl e
     where
-      by : (o t c : Bool) → eqb (f.head % 65536) 12 ≡ o → eqb f.tag 15 ≡ t → ltb f.count 2 ≡ c → ((not o || not t) || c) ≡ true → none ≡ name_in is (said_by log strings f)
+      by : (o t c : Bool) → eqb (f.head % 65536) 12 ≡ o → eqb f.tag 15 ≡ t → ltb f.count 2 ≡ c → ((not o || not t) || c) ≡ true → None ≡ name_in is (said_by log strings f)
       by false t c p q s e = name_by_lem false t _ p q refl
       by true false c p q s e = name_by_lem true false _ p q refl
-      by true true true p q s e = name_by_lem true true none p q (ext_few is f.count log strings f.start (ltb-true f.count 2 s))
+      by true true true p q s e = name_by_lem true true None p q (ext_few is f.count log strings f.start (ltb-true f.count 2 s))
       by true true false p q s e = let y : ◌≡◌ {A = ℕ} 0 1 = cc in absurd (omega arith)
 
   module _ (e : ((not (eqb (f.head % 65536) 12) || not (eqb f.tag 15)) || ltb f.count 2) ≡ false) where
@@ -283,9 +284,9 @@ module _ (is : List Placed) (log strings : List ℕ) (f : Fields) where
     unfolding text_found
     name_kinds run g = by (eqb (get_or log f.start 0) 33) (eqb (get_or log (f.start + 5) 0) 35) refl refl g
       where
-        by : (k j : Bool) → eqb (get_or log f.start 0) 33 ≡ k → eqb (get_or log (f.start + 5) 0) 35 ≡ j → (not k || not j) ≡ true → none ≡ name_in is (said_by log strings f)
-        by false j p q g = name_of_lem none (ext_first is log strings f.start f.count name_two (eqb-false _ _ p))
-        by true false p q g = name_of_lem none (ext_second is log strings f.start f.count name_two (eqb-true _ _ p) (eqb-false _ _ q))
+        by : (k j : Bool) → eqb (get_or log f.start 0) 33 ≡ k → eqb (get_or log (f.start + 5) 0) 35 ≡ j → (not k || not j) ≡ true → None ≡ name_in is (said_by log strings f)
+        by false j p q g = name_of_lem None (ext_first is log strings f.start f.count name_two (eqb-false _ _ p))
+        by true false p q g = name_of_lem None (ext_second is log strings f.start f.count name_two (eqb-true _ _ p) (eqb-false _ _ q))
         by true true p q g = let y : ◌≡◌ {A = ℕ} 0 1 = cc in absurd (omega arith)
 
     module _ (g : (not (eqb (get_or log f.start 0) 33) || not (eqb (get_or log (f.start + 5) 0) 35)) ≡ false) where
@@ -319,8 +320,8 @@ module _ (is : List Placed) (log strings : List ℕ) (f : Fields) where
             ∙ by_set
 
 -- some is not none
-some_none : {A : Type 0} (x : List ℕ) (y : Option (List ℕ)) → some x ≡ y → y ≡ none → A
-some_none x y e f = absurd (some-ne-none x (e ∙ f))
+some_none : {A : Type 0} (x : List ℕ) (y : Option (List ℕ)) → Some x ≡ y → y ≡ None → A
+some_none x y e f = absurd (none-some x (sym (e ∙ f)))
 
 -- what a name that is there tells of the operands: there are two, and where the next stand
 pub record Third (log : List ℕ) (f : Fields) : Type 0 where
@@ -329,12 +330,12 @@ pub record Third (log : List ℕ) (f : Fields) : Type 0 where
   pub third : operand_after log (f.start + 5) ≡ f.start + 10
 
 -- it is that of the operands
-ext_there : (b : Bool) (x : List ℕ) (y : Option (List ℕ)) → some x ≡ (if b then y else none) → some x ≡ y
+ext_there : (b : Bool) (x : List ℕ) (y : Option (List ℕ)) → Some x ≡ (if b then y else None) → Some x ≡ y
 ext_there true x y e = e
-ext_there false x y e = some_none x none e refl
+ext_there false x y e = some_none x None e refl
 
 -- so the operands are of the kinds
-third_by : (is : List Placed) (log strings : List ℕ) (f : Fields) (x : List ℕ) → some x ≡ ext_name is (operands_from f.count log strings f.start) → Third log f
+third_by : (is : List Placed) (log strings : List ℕ) (f : Fields) (x : List ℕ) → Some x ≡ ext_name is (operands_from f.count log strings f.start) → Third log f
 third_by is log strings f x e = by (ltb f.count 2) (eqb (get_or log f.start 0) 33) (eqb (get_or log (f.start + 5) 0) 35) refl refl refl
   where
     by : (c k j : Bool) → ltb f.count 2 ≡ c → eqb (get_or log f.start 0) 33 ≡ k → eqb (get_or log (f.start + 5) 0) 35 ≡ j → Third log f

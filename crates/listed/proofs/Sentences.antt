@@ -149,8 +149,8 @@ module _ {a b ws : List ℕ} {at end count i : ℕ} (r : Lined a b ws at end cou
   pub lined_all : count ≤ i → Wrote a b at end (lines_of 1 count ws)
   unfolding lines_of
   lined_all h =
-      let none : count - i ≡ 0 = omega arith in
-      rw (r.whole, none, append-nil) r.wrote
+      let None : count - i ≡ 0 = omega arith in
+      rw (r.whole, None, append-nil) r.wrote
 
 -- the lines of instructions have at most 105 bytes each
 pub record_lines_few : (index : ℕ) (ps : List Placed) → length (record_lines index ps) ≤ 105 * length ps

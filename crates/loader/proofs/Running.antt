@@ -56,9 +56,9 @@ module _ (g : Grammar) (room : Counts) (h s : List ℕ) (at : ℕ) where
   load_ends : (n : ℕ) (b : Book) → length s - at < 4
       → load_from g room h n b (reader_at s at Unlimited) ≡ stop h b (end_number b.state) at 0
   unfolding load_from reader_at
-  load_ends zero b none = refl
-  load_ends (suc n) b none =
-      let no_word : has 4 (drop at s) ≡ false = has_leb 4 (drop at s) ∙ lt-leb 4 (length (drop at s)) (simp length-drop none) in
+  load_ends zero b None = refl
+  load_ends (suc n) b None =
+      let no_word : has 4 (drop at s) ≡ false = has_leb 4 (drop at s) ∙ lt-leb 4 (length (drop at s)) (simp length-drop None) in
       rw no_word
 
   -- an instruction behind which it goes on
@@ -205,11 +205,11 @@ module _ {s g : List ℕ} {room : Counts} {before now : Stores} {h₀ hs : List 
   -- no word is left
   pub ends : length s - p.at < 4 → (n : ℕ) → n ≡ end_number p.state
       → LoadsFrom g s before now (record { progress = p; refusal = refusal n p.at 0; breaks = p.breaks })
-  ends none n e =
+  ends None n e =
       let b = book_of r.kept (entries_of p.tracker.count now.types) p in
       stopped (refusal n p.at 0) p.breaks (λ z. refl)
       (λ h.
-      r.left h ∙ load_ends (grammar_of g) room h s p.at r.fuel b none ∙ ap (λ (m : ℕ). stop h b m p.at 0) (sym e))
+      r.left h ∙ load_ends (grammar_of g) room h s p.at r.fuel b None ∙ ap (λ (m : ℕ). stop h b m p.at 0) (sym e))
 
   module _ (more : 4 ≤ length s - p.at) where
     -- what is left, where there is fuel
@@ -217,10 +217,10 @@ module _ {s g : List ℕ} {room : Counts} {before now : Stores} {h₀ hs : List 
         → load_from (grammar_of g) (room_in before) h (length s / 4) empty_book (reader_at s 20 Unlimited)
         ≡ load_from (grammar_of g) room h (suc (r.fuel - 1)) (book_of r.kept (entries_of p.tracker.count now.types) p) (reader_at s p.at Unlimited)
     left_more h =
-        let some : r.fuel ≡ suc (r.fuel - 1) = omega (arith, r.enough) in
+        let Some : r.fuel ≡ suc (r.fuel - 1) = omega (arith, r.enough) in
         r.left h
         ∙ ap (λ (n : ℕ). load_from (grammar_of g) room h n (book_of r.kept (entries_of p.tracker.count now.types) p) (reader_at s p.at Unlimited))
-        some
+        Some
 
     -- the load stops at an instruction
     pub halts : (y : Refusal) → Stops s g now.types room p y

@@ -2,7 +2,7 @@
 use mathlib.Core.Path.{◌≡◌, refl, sym, ap, ◌∙◌}
 use mathlib.Core.Bool.{Bool, true}
 use mathlib.Core.List.{List, [], ◌∷◌, ◌++◌}
-use mathlib.Core.Option.{Option, none, some}
+use Rattle.std.specs.Prelude.{Option, None, Some}
 use Prim.Native.Nat.{ℕ, zero, suc, ◌+◌, ◌-◌, ◌/◌, ◌%◌, ◌≤◌, ◌<◌}
 use native.Mathlib.Nat.{add-zero}
 use native.Mathlib.Omega.{arith}
@@ -78,7 +78,7 @@ name_told s n x e =
     (eqb-true x.set s (left (eqb x.set s) (eqb x.number n) e), eqb-true x.number n (right (eqb x.set s) (eqb x.number n) e))
 
 -- a text that is there is not none
-never : {A : Type 0} {t : List ℕ} → some t ≡ none → A
+never : {A : Type 0} {t : List ℕ} → Some t ≡ None → A
 never e = let z : ◌≡◌ {A = ℕ} 0 1 = cc in absurd (omega arith)
 
 -- a name with a set, a number and a text, at a place of the run
@@ -93,7 +93,7 @@ record Found (run : List ℕ) (p s n : ℕ) (t : List ℕ) : Type 0 where
 record Listed (run : List ℕ) (p : ℕ) (xs : List Name) : Type 0 where
   pub name : Name
   pub has : Has run p name
-  pub listed : named name.set name.number xs ≡ none → ⊥
+  pub listed : named name.set name.number xs ≡ None → ⊥
 
 module _ (run : List ℕ) where
   -- the run after a name
@@ -105,7 +105,7 @@ module _ (run : List ℕ) where
 
   -- a name that is looked up stands where its slot says
   found : (index : List ℕ) (s n : ℕ) (t : List ℕ) (at : ℕ) (xs : List Name) → drop at run ≡ joined name_bytes xs → every is_read xs ≡ true → slotted index at xs ≡ true
-      → named s n xs ≡ some t → Found run (place_in index s n) s n t
+      → named s n xs ≡ Some t → Found run (place_in index s n) s n t
   unfolding slotted named
   found index s n t at [] e r h f = let z : ◌≡◌ {A = ℕ} 0 1 = cc in absurd (omega arith)
   found index s n t at (x ∷ xs) e r h f =
@@ -118,7 +118,7 @@ module _ (run : List ℕ) where
           let told = name_told s n x it in
           let here : place_in index x.set x.number ≡ at = eqb-true _ at (left (eqb (place_in index x.set x.number) at) (slotted index (at + name_size x) xs) h) in
           let place : at ≡ place_in index s n = sym here ∙ rw (told.0, told.1) in
-          let text : some x.text ≡ some t = rw it at f in
+          let text : Some x.text ≡ Some t = rw it at f in
           record {
             name = x;
             has = rw place at (has run at x (joined name_bytes xs) e (left (is_read x) (every is_read xs) r));
@@ -182,7 +182,7 @@ module _ (run index : List ℕ) (ix : Indexed run index) (s n p : ℕ) (at : p �
       standing run p 0 name_table whole all_read_lem (rw slot at (every_at (λ q. has_place q (places_from 0 name_table)) (drop 48 index) i ix.places low))
 
   -- a name that is looked up stands at the place of its slot
-  looked : (t : List ℕ) → name_of s n ≡ some t → Found run p s n t
+  looked : (t : List ℕ) → name_of s n ≡ Some t → Found run p s n t
   unfolding name_of
   looked t f = rw at (found run index s n t 0 name_table whole all_read_lem ix.slots f)
 
@@ -196,23 +196,23 @@ module _ (run index : List ℕ) (ix : Indexed run index) (s n p : ℕ) (at : p �
 
   module _ (size : ℕ) (sized : size ≡ get_or run (p + 5) 0) where
     -- the text of a name found: where it stands, and how long it is
-    text_read : (t : List ℕ) → Found run p s n t → text_found run (At (p + 6) (p + 6 + size)) ≡ some t
+    text_read : (t : List ℕ) → Found run p s n t → text_found run (At (p + 6) (p + 6 + size)) ≡ Some t
     unfolding text_found
     text_read t f =
         let long : p + 6 + size - (p + 6) ≡ length f.name.text = omega (arith, sized, f.has.size) in
-        ap (λ (k : ℕ). some (take k (drop (p + 6) run))) long ∙ ap some (f.has.text ∙ f.text)
+        ap (λ (k : ℕ). Some (take k (drop (p + 6) run))) long ∙ ap Some (f.has.text ∙ f.text)
 
     -- the name there is the one that is looked for
     pub hit : (w : ℕ) → get_or run p 0 ≡ s → w ≡ four_at (p + 1) run → w ≡ n → Right (At (p + 6) (p + 6 + size))
     unfolding name_of Inside
     hit w set read number = (by (name_of s n) refl, (omega arith, omega (arith, sized, inside)))
       where
-        sought : named s n name_table ≡ none → ⊥
+        sought : named s n name_table ≡ None → ⊥
         sought = rw (sym there.has.set ∙ set, sym there.has.number ∙ sym read ∙ number) at there.listed
 
         by : (o : Option (List ℕ)) → name_of s n ≡ o → text_found run (At (p + 6) (p + 6 + size)) ≡ o
-        by none e = absurd (sought e)
-        by (some t) e = text_read t (looked t e)
+        by None e = absurd (sought e)
+        by (Some t) e = text_read t (looked t e)
 
   -- the name there is another, so that there is none
   miss : ((get_or run p 0 ≡ s) × (four_at (p + 1) run ≡ n) → ⊥) → Right Nothing
@@ -220,8 +220,8 @@ module _ (run index : List ℕ) (ix : Indexed run index) (s n p : ℕ) (at : p �
   miss not = (by (name_of s n) refl, tt)
     where
       by : (o : Option (List ℕ)) → name_of s n ≡ o → text_found run Nothing ≡ o
-      by none e = refl
-      by (some t) e = let f = looked t e in absurd (not (f.has.set ∙ f.set, f.has.number ∙ f.number))
+      by None e = refl
+      by (Some t) e = let f = looked t e in absurd (not (f.has.set ∙ f.set, f.has.number ∙ f.number))
 
   -- its set is another
   pub other_set : (get_or run p 0 ≡ s → ⊥) → Right Nothing

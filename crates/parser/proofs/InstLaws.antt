@@ -3,7 +3,7 @@ use Prim.Native.Nat.{ℕ, zero, suc, ◌+◌, ◌*◌, ◌/◌, ◌%◌, ◌≤�
 use mathlib.Core.Path.{◌≡◌, refl, ap, sym, ◌∙◌, subst}
 use mathlib.Core.Bool.{Bool, true, false}
 use mathlib.Core.List.{List, [], ◌∷◌}
-use mathlib.Core.Option.{Option, none, some}
+use Rattle.std.specs.Prelude.{Option, None, Some}
 use native.Mathlib.Omega.{arith}
 use borrow.Author.Tests.{eq-eqb, ne_eqb, eqb-true}
 use lib.Dec.{eqb}
@@ -164,12 +164,12 @@ module _ (g : List ℕ) (types : List Entry) (s : List ℕ) (f : Frame) where
 -- THE FIRST WORD
 
 -- the operands of the row that was found
-found_at : (g : List ℕ) (r : Found) (o : Option (List Slot)) (p : ℕ) → row_found g r ≡ o → r ≡ At p → o ≡ some (slots_at g p)
+found_at : (g : List ℕ) (r : Found) (o : Option (List Slot)) (p : ℕ) → row_found g r ≡ o → r ≡ At p → o ≡ Some (slots_at g p)
 unfolding row_found slots_at
 found_at g r o p e q = sym e ∙ ap (row_found g) q
 
 -- no row was found
-found_none : (g : List ℕ) (r : Found) (o : Option (List Slot)) → row_found g r ≡ o → r ≡ Nothing → o ≡ none
+found_none : (g : List ℕ) (r : Found) (o : Option (List Slot)) → row_found g r ≡ o → r ≡ Nothing → o ≡ None
 unfolding row_found
 found_none g r o e q = sym e ∙ ap (row_found g) q
 

@@ -1,6 +1,6 @@
 -- Text placed in an output: the room it needs, and what was written or only measured; and pieces of text that the code makes one by one.
 use Rattle.std.specs.Prelude.{ℕ, ◌+◌, ◌<◌, ◌≤◌, min, ◌≡◌, Bool, true, false, not, ◌&&◌, List, [], ◌++◌, eqb, length, if◌then◌else◌}
-use Rattle.std.proofs.Math.Option.{Option, none, some}
+use Rattle.std.specs.Prelude.{Option, None, Some}
 use Rattle.spec.specs.Base.{joined, ascii}
 use Rattle.spec.specs.Kinds.{is_mask}
 use Rattle.spec.specs.Names.{name_of}
@@ -32,8 +32,8 @@ bit_text set digit bit bar = if eqb digit 1 then (if bar then ascii "|" else [])
 
 -- a result type that is there, with a blank before operands
 unfoldable pub type_by : Option ℕ → Bool → List ℕ
-type_by none more = []
-type_by (some t) more = ascii "  " ++ id_text t ++ (if more then ascii " " else [])
+type_by None more = []
+type_by (Some t) more = ascii "  " ++ id_text t ++ (if more then ascii " " else [])
 
 -- has a bit a name, where it is set
 unfoldable pub bit_named : ℕ → ℕ → ℕ → Bool

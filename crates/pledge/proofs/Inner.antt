@@ -3,7 +3,7 @@
 use Prim.Native.Nat.{ℕ}
 use mathlib.Core.Path.{◌≡◌, refl, ap₂, sym, ◌∙◌}
 use mathlib.Core.List.{List}
-use mathlib.Core.Option.{Option, none, some}
+use Rattle.std.specs.Prelude.{Option, None, Some}
 use native.Mathlib.Omega.{arith}
 use borrow.Author.Tests.{eqb-true}
 use lib.Dec.{eqb}
@@ -134,7 +134,7 @@ same_id (Is i) Absent e = let z : ◌≡◌ {A = ℕ} 0 1 = cc in absurd (omega 
 same_id (Is i) (Is j) e = cc
 
 -- no kind is one
-some_none : (k : ℕ) → ◌≡◌ {A = Option ℕ} (some k) none → ⊥
+some_none : (k : ℕ) → ◌≡◌ {A = Option ℕ} (Some k) None → ⊥
 some_none k e = let z : ◌≡◌ {A = ℕ} 0 1 = cc in absurd (omega arith)
 
 -- kinds of a literal, 0 for none
@@ -144,10 +144,10 @@ same_kind j k e =
     cases (eqb j 0)
     (λ a.
     cases (eqb k 0) (λ b. eqb-true j 0 a ∙ sym (eqb-true k 0 b))
-    (λ b. let f : ◌≡◌ {A = Option ℕ} none (some k) = rw (a, b) at e in absurd (some_none k (sym f))))
+    (λ b. let f : ◌≡◌ {A = Option ℕ} None (Some k) = rw (a, b) at e in absurd (some_none k (sym f))))
     (λ a.
-    cases (eqb k 0) (λ b. let f : ◌≡◌ {A = Option ℕ} (some j) none = rw (a, b) at e in absurd (some_none j f))
-    (λ b. let f : ◌≡◌ {A = Option ℕ} (some j) (some k) = rw (a, b) at e in cc))
+    cases (eqb k 0) (λ b. let f : ◌≡◌ {A = Option ℕ} (Some j) None = rw (a, b) at e in absurd (some_none j f))
+    (λ b. let f : ◌≡◌ {A = Option ℕ} (Some j) (Some k) = rw (a, b) at e in cc))
 
 -- what is stored of an instruction that was read
 same_stored : (s g types l₀ s₀ l₁ s₁ l₂ s₂ : List ℕ) (p : Progress) (i : Instr) (r : Reader) → read_at s g types p ≡ got i r

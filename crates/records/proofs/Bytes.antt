@@ -2,7 +2,7 @@
 use Prim.Native.Nat.{ℕ, ◌+◌, ◌*◌, ◌-◌, ◌%◌}
 use mathlib.Core.Path.{◌≡◌, refl, ◌∙◌}
 use mathlib.Core.List.{List, [], ◌∷◌}
-use mathlib.Core.Option.{Option, none, some}
+use Rattle.std.specs.Prelude.{Option, None, Some}
 use native.Mathlib.Omega.{arith}
 use lib.Dec.{leb, eqb}
 use lib.ListN.{length, replicate, length-append, length-replicate}
@@ -31,8 +31,8 @@ operands_bytes (o ∷ os) = omega (arith, length-append (operand_bytes o) (joine
 -- an id that is there or not
 id_bytes_lem : (o : Option ℕ) → length (id_bytes o) ≡ 4 * id_size o
 unfolding bytes_of
-id_bytes_lem none = refl
-id_bytes_lem (some i) = refl
+id_bytes_lem None = refl
+id_bytes_lem (Some i) = refl
 
 -- an instruction
 instr_bytes_lem : (i : Instr)

@@ -3,7 +3,7 @@ use Prim.Native.Nat.{ℕ, suc, ◌+◌, ◌*◌, ◌%◌, ◌<◌, ◌≤◌}
 use mathlib.Core.Path.{◌≡◌, refl, ap, sym, ◌∙◌, subst}
 use mathlib.Core.Bool.{Bool, true, false, not, ◌&&◌}
 use mathlib.Core.List.{List, [], ◌∷◌}
-use mathlib.Core.Option.{Option, none, some}
+use Rattle.std.specs.Prelude.{Option, None, Some}
 use native.Mathlib.Nat.{add-zero, le_of_lt}
 use native.Mathlib.Omega.{arith}
 use borrow.Author.Tests.{leb-true, leb-false, le-leb, lt-leb, eq-eqb, ne_eqb}
@@ -113,16 +113,16 @@ module _ (s : State) (f : Fields) (cell : Cell) (p : cell ≡ layout_of (f.head 
 
 -- is there none
 unfoldable is_none : Option (List ℕ) → Bool
-is_none none = true
-is_none (some bs) = false
+is_none None = true
+is_none (Some bs) = false
 
 -- a byte before others, by whether it is zero and what string they hold
 free_cons : (b : ℕ) (s : List ℕ) (z : Bool) (o : Option (List ℕ)) → eqb b 0 ≡ z → until_zero s ≡ o → every (λ x. not (eqb x 0)) s ≡ is_none o
     → every (λ x. not (eqb x 0)) (b ∷ s) ≡ is_none (until_zero (b ∷ s))
 unfolding until_zero is_none
 free_cons b s true o e f h = simp e
-free_cons b s false none e f h = simp (e, f, h)
-free_cons b s false (some bs) e f h = simp (e, f, h)
+free_cons b s false None e f h = simp (e, f, h)
+free_cons b s false (Some bs) e f h = simp (e, f, h)
 
 -- no byte is zero where no string ends
 zero_free : (s : List ℕ) → every (λ x. not (eqb x 0)) s ≡ is_none (until_zero s)
@@ -133,8 +133,8 @@ zero_free (b ∷ s) = free_cons b s (eqb b 0) (until_zero s) refl refl (zero_fre
 -- the answer of the search decides
 free_by : (o : Option (List ℕ)) (x : Found) → x ≡ zero_after o → (t : Bool) → is_none o ≡ t → ((i : ℕ) → x ≡ At i → t ≡ false) × (x ≡ Nothing → t ≡ true)
 unfolding zero_after is_none
-free_by none x e t f = (λ i g. let z : ◌≡◌ {A = ℕ} 0 1 = cc in absurd (omega arith), λ g. sym f)
-free_by (some bs) x e t f = (λ i g. sym f, λ g. let z : ◌≡◌ {A = ℕ} 0 1 = cc in absurd (omega arith))
+free_by None x e t f = (λ i g. let z : ◌≡◌ {A = ℕ} 0 1 = cc in absurd (omega arith), λ g. sym f)
+free_by (Some bs) x e t f = (λ i g. sym f, λ g. let z : ◌≡◌ {A = ℕ} 0 1 = cc in absurd (omega arith))
 
 module _ (s : List ℕ) (x : Found) (e : x ≡ zero_in s) where
   -- a zero byte

@@ -3,7 +3,7 @@ use Prim.Native.Nat.{ℕ, zero, suc, ◌+◌, ◌*◌, ◌<◌, ◌≤◌}
 use mathlib.Core.Path.{◌≡◌, refl, ap, sym, subst, ◌∙◌}
 use mathlib.Core.Bool.{Bool, true, false}
 use mathlib.Core.List.{List, [], ◌∷◌}
-use mathlib.Core.Option.{Option, none}
+use Rattle.std.specs.Prelude.{Option, None}
 use native.Mathlib.Omega.{arith}
 use borrow.Author.Tests.{eqb-true}
 use lib.Dec.{eqb}
@@ -68,7 +68,7 @@ module _ (lc sc : ℕ) (log strings : List ℕ) where
   scan_counts (says s more) i = scan_counts more (said_reach log strings i s).inside
 
 -- each record of a fold without fault
-fields_said : (fs : List Fields) (i at : ℕ) → fields_fault i at fs ≡ none → (k : ℕ) (f : Fields) (gs : List Fields) → drop k fs ≡ f ∷ gs → f.words ≤ 65535
+fields_said : (fs : List Fields) (i at : ℕ) → fields_fault i at fs ≡ None → (k : ℕ) (f : Fields) (gs : List Fields) → drop k fs ≡ f ∷ gs → f.words ≤ 65535
 unfolding fields_fault
 fields_said [] i at n k f gs e = cons_none f gs (sym (drop-nil k) ∙ e)
 fields_said (c ∷ fs) i at n zero f gs e =
@@ -79,7 +79,7 @@ fields_said (c ∷ fs) i at n (suc k) f gs e =
     fields_said fs (suc i) (at + 4 * c.words) (none_if i (fields_good at c) (fields_fault (suc i) (at + 4 * c.words) fs) n).1 k f gs e
 
 -- the first record of a fold without fault is at its offset
-fields_first : (fs : List Fields) (i at : ℕ) → fields_fault i at fs ≡ none → (f : Fields) (gs : List Fields) → fs ≡ f ∷ gs → f.offset ≡ at
+fields_first : (fs : List Fields) (i at : ℕ) → fields_fault i at fs ≡ None → (f : Fields) (gs : List Fields) → fs ≡ f ∷ gs → f.offset ≡ at
 unfolding fields_fault
 fields_first [] i at n f gs e = cons_none f gs e
 fields_first (c ∷ fs) i at n f gs e =
@@ -88,7 +88,7 @@ fields_first (c ∷ fs) i at n f gs e =
     (fields_told at c (none_if i (fields_good at c) (fields_fault (suc i) (at + 4 * c.words) fs) n).0).0
 
 -- each later one is behind the one before it
-fields_next : (fs : List Fields) (i at : ℕ) → fields_fault i at fs ≡ none → (k : ℕ) (f : Fields) (gs : List Fields) → drop k fs ≡ f ∷ gs
+fields_next : (fs : List Fields) (i at : ℕ) → fields_fault i at fs ≡ None → (k : ℕ) (f : Fields) (gs : List Fields) → drop k fs ≡ f ∷ gs
     → (g : Fields) (hs : List Fields) → drop (suc k) fs ≡ g ∷ hs → g.offset ≡ f.offset + 4 * f.words
 unfolding fields_fault
 fields_next [] i at n k f gs e g hs h = cons_none f gs (sym (drop-nil k) ∙ e)
@@ -148,7 +148,7 @@ module _ (x : Given) (good_x : Good x) where
   -- as many records as are asked for
   record_count : length (records_in record_size x) ≡ x.count
   unfolding missing
-  record_count = eqb-true _ _ (none_if (length (records_in record_size x) + 1) (eqb (length (records_in record_size x)) x.count) none faultless.present).0
+  record_count = eqb-true _ _ (none_if (length (records_in record_size x) + 1) (eqb (length (records_in record_size x)) x.count) None faultless.present).0
 
   -- log and strings from their first bytes on
   abbrev whole_left : Left

@@ -3,7 +3,8 @@ use Prim.Native.Nat.{ℕ, zero, suc, ◌+◌, ◌*◌, ◌-◌, ◌%◌, ◌<◌
 use mathlib.Core.Path.{◌≡◌, refl, ap, sym, subst, ◌∙◌}
 use mathlib.Core.Bool.{Bool, true, false, not, ◌&&◌, and_assoc, and-false, or-false, true≢false, false≢true}
 use mathlib.Core.List.{List, [], ◌∷◌}
-use mathlib.Core.Option.{Option, none, some, none-ne-some, some-injective}
+use Rattle.std.specs.Prelude.{Option, None, Some}
+use Rattle.std.proofs.lemmas.Option.{none-some, same_Some}
 use native.Mathlib.Nat.{zero-add, add-zero, add_assoc}
 use native.Mathlib.Omega.{arith}
 use borrow.Author.Tests.{not-true, not-false, le-leb, lt-leb, eqb-true, eq-eqb, ne_eqb}
@@ -91,12 +92,12 @@ module _ (log strings : List ℕ) (a b : ℕ) where
       let v = four_at (a + 1) log in
       let n = four_at (a + 5) log in
       if has 5 (drop a log) && is_logged k then
-      (if not (is_two k) then some (narrow k v, left_at log strings (a + 5) b)
-      else if not (has 9 (drop a log)) then none
-      else if is_long k then some (wide k (long v n), left_at log strings (a + 9) b)
-      else if text_good strings b v n then some (text (take n (drop b strings)), left_at log strings (a + 9) (b + n))
-      else none)
-      else none)
+      (if not (is_two k) then Some (narrow k v, left_at log strings (a + 5) b)
+      else if not (has 9 (drop a log)) then None
+      else if is_long k then Some (wide k (long v n), left_at log strings (a + 9) b)
+      else if text_good strings b v n then Some (text (take n (drop b strings)), left_at log strings (a + 9) (b + n))
+      else None)
+      else None)
   unfolding take_operand left_at text_good is_string
   operand_by_lem = simp (get_or-drop, add-zero, add_assoc, drop-drop, and_assoc)
 
@@ -162,14 +163,14 @@ module _ (log strings : List ℕ) (a b : ℕ) where
       let k = get_or log a 0 in
       let P : Option (Operand × Left) → Type 0 = IfSome (Taken log strings (left_at log strings a b)) in
       rw operand_by_lem
-      (either P (has 5 (drop a log) && is_logged k) _ none
+      (either P (has 5 (drop a log) && is_logged k) _ None
       (λ e. let known : is_logged k ≡ true = right (has 5 (drop a log)) _ e in
       either P (not (is_two k)) _ _
       (λ t. one_taken in_log in_strings known (rest_true 5 a log in_log (left _ _ e)) (not-true (is_two k) t))
-      (λ t. either P (not (has 9 (drop a log))) none _ (λ _. tt)
+      (λ t. either P (not (has 9 (drop a log))) None _ (λ _. tt)
       (λ f. let nine : a + 9 ≤ length log = rest_true 9 a log in_log (not-false _ f) in
       either P (is_long k) _ _ (long_taken in_log in_strings known nine)
-      (λ g. either P (text_good strings b (four_at (a + 1) log) (four_at (a + 5) log)) _ none
+      (λ g. either P (text_good strings b (four_at (a + 1) log) (four_at (a + 5) log)) _ None
       (text_taken in_log in_strings known nine (not-false (is_two k) t) g) (λ _. tt)))))
       (λ _. tt))
 
@@ -211,7 +212,7 @@ module _ (log strings : List ℕ) where
 -- what was passed, up to two places
 pub record Passes {A : Type 0} (size : A → ℕ) (log strings : List ℕ) (l : Left) (a' b' w : ℕ) (y : Option (A × Left)) : Type 0 where
   pub value : A
-  pub is : y ≡ some (value, left_at log strings a' b')
+  pub is : y ≡ Some (value, left_at log strings a' b')
   pub words : size value ≡ w
   pub in_log : a' ≤ length log
   pub in_strings : b' ≤ length strings
@@ -223,8 +224,8 @@ module _ {A : Type 0} (size : A → ℕ) where
       → ((x : A × Left) → P x → Reached log strings l (size x.0) x.1) → (y : Option (A × Left)) → IfSome P y
       → (x : Passed) (a' b' w : ℕ) → x ≡ passed_by size y → x ≡ passed.Got a' b' w → Passes size log strings l a' b' w y
   unfolding passed_by
-  passes log strings l P reach none p x a' b' w e f = let z : ◌≡◌ {A = ℕ} 0 1 = cc in absurd (omega arith)
-  passes log strings l P reach (some z) p x a' b' w e f =
+  passes log strings l P reach None p x a' b' w e f = let z : ◌≡◌ {A = ℕ} 0 1 = cc in absurd (omega arith)
+  passes log strings l P reach (Some z) p x a' b' w e f =
       let r = reach z p in
       let ea : a' ≡ z.1.log_at = cc in
       let eb : b' ≡ z.1.strings_at = cc in
@@ -232,7 +233,7 @@ module _ {A : Type 0} (size : A → ℕ) where
       rw (ea, eb, ew)
       (record {
         value = z.0;
-        is = ap (λ (m : Left). some (z.0, m)) r.inside.left;
+        is = ap (λ (m : Left). Some (z.0, m)) r.inside.left;
         words = refl;
         in_log = r.inside.in_log;
         in_strings = r.inside.in_strings;
@@ -240,16 +241,16 @@ module _ {A : Type 0} (size : A → ℕ) where
       })
 
   -- where nothing was
-  pub passes_none : (y : Option (A × Left)) (x : Passed) → x ≡ passed_by size y → x ≡ passed.Refused → y ≡ none
+  pub passes_none : (y : Option (A × Left)) (x : Passed) → x ≡ passed_by size y → x ≡ passed.Refused → y ≡ None
   unfolding passed_by
-  passes_none none x e f = refl
-  passes_none (some z) x e f = let z : ◌≡◌ {A = ℕ} 0 1 = cc in absurd (omega arith)
+  passes_none None x e f = refl
+  passes_none (Some z) x e f = let z : ◌≡◌ {A = ℕ} 0 1 = cc in absurd (omega arith)
 
   -- where nothing can be
   not_passed : (P : A × Left → Type 0) (y : Option (A × Left)) → IfSome P y → ((x : A × Left) → P x → ⊥) → passed.Refused ≡ passed_by size y
   unfolding passed_by
-  not_passed P none p n = refl
-  not_passed P (some x) p n = absurd (n x p)
+  not_passed P None p n = refl
+  not_passed P (Some x) p n = absurd (n x p)
 
 -- a kind below those of the log
 pub unknown_low : (k : ℕ) → k < 1 → is_logged k ≡ false
@@ -374,17 +375,17 @@ pass_starts log strings count a b h g =
 
 -- one operand before others
 passed_add : (w : ℕ) (o : Operand) (y : Option (List Operand × Left))
-    → passed_all w (and_then y (λ xs. some (o ∷ xs.0, xs.1))) ≡ passed_all (w + operand_size o) y
+    → passed_all w (and_then y (λ xs. Some (o ∷ xs.0, xs.1))) ≡ passed_all (w + operand_size o) y
 unfolding passed_all passed_by operands_size
-passed_add w o none = refl
-passed_add w o (some x) = ap (passed.Got x.1.log_at x.1.strings_at) (omega arith)
+passed_add w o None = refl
+passed_add w o (Some x) = ap (passed.Got x.1.log_at x.1.strings_at) (omega arith)
 
 module _ {log strings : List ℕ} {count a₀ b₀ a b words done : ℕ} (r : Passing log strings count a₀ b₀ a b words done) where
   module _ (h : done < count) (x : Passed) (e : x ≡ passed_one (take_operand (left_at log strings a b))) where
     -- the operand at the places decides
     pass_here : (y : Option (Operand × Left)) → take_operand (left_at log strings a b) ≡ y
         → passed_all 0 (take_operands count (left_at log strings a₀ b₀))
-        ≡ passed_all words (and_then y (λ z. and_then (take_operands (count - (done + 1)) z.1) (λ xs. some (z.0 ∷ xs.0, xs.1))))
+        ≡ passed_all words (and_then y (λ z. and_then (take_operands (count - (done + 1)) z.1) (λ xs. Some (z.0 ∷ xs.0, xs.1))))
     unfolding take_operands
     pass_here y f =
         let q : count - done ≡ suc (count - (done + 1)) = omega arith in
@@ -413,7 +414,7 @@ module _ {log strings : List ℕ} {count a₀ b₀ a b words done : ℕ} (r : Pa
     -- at one that is not good
     pub pass_fails : x ≡ passed.Refused → passed.Refused ≡ passed_all 0 (take_operands count (left_at log strings a₀ b₀))
     unfolding passed_all passed_by passed_one
-    pass_fails f = sym (pass_here none (passes_none operand_size _ x e f))
+    pass_fails f = sym (pass_here None (passes_none operand_size _ x e f))
 
   -- at the end
   pub pass_ends : count ≤ done → passed.Got a b words ≡ passed_all 0 (take_operands count (left_at log strings a₀ b₀))
@@ -462,7 +463,7 @@ module _ (log strings : List ℕ) (a b : ℕ) (f : Fields) where
     -- one of them is bad
     pub after_bad : x ≡ passed.Refused → passed.Refused ≡ operands_after f (left_at log strings a b)
     unfolding passed_all
-    after_bad g = no_record (λ y s. none-ne-some _ (sym (passes_none _ _ x e g) ∙ s.taken))
+    after_bad g = no_record (λ y s. none-some _ (sym (passes_none _ _ x e g) ∙ s.taken))
 
     module _ (in_log : a ≤ length log) (in_strings : b ≤ length strings) (a' b' w : ℕ) (g : x ≡ passed.Got a' b' w) where
       -- they were passed
@@ -495,7 +496,7 @@ module _ (log strings : List ℕ) (a b : ℕ) (f : Fields) where
       pub after_wrong : (r : ℕ) → r ≡ result_words f → (f.words ≡ 1 + r + w → ⊥) → passed.Refused ≡ operands_after f (left_at log strings a b)
       after_wrong r q k =
           no_record
-          (λ y s. let same = some-injective _ _ (sym s.taken ∙ all_pass.is) in
+          (λ y s. let same = same_Some _ _ (sym s.taken ∙ all_pass.is) in
           let size = ap (λ (z : List Operand × Left). operands_size z.0) same in
           k (omega (arith, words_told f s.operands s.words, size, all_pass.words)))
 

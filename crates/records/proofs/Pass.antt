@@ -3,7 +3,7 @@ use Prim.Native.Nat.{ℕ, suc, ◌+◌, ◌*◌, ◌-◌, ◌/◌, ◌%◌, ◌<
 use mathlib.Core.Path.{◌≡◌, refl, ap, sym, ◌∙◌}
 use mathlib.Core.Bool.{Bool, true, false, not, ◌&&◌, ◌||◌}
 use mathlib.Core.List.{List, [], ◌∷◌}
-use mathlib.Core.Option.{Option, none, some}
+use Rattle.std.specs.Prelude.{Option, None, Some}
 use native.Mathlib.Nat.{zero-add, le-div_iff_mul-le, div-lt_iff_lt-mul}
 use native.Mathlib.Numerals.{add-one}
 use native.Mathlib.Omega.{arith}
@@ -75,34 +75,34 @@ missing_next : (i n : ℕ) (f : Fields) (fs : List Fields) → missing_from i (s
 unfolding missing_from
 missing_next i n f fs =
     let k : suc (length fs) + i ≡ length fs + suc i = omega arith in
-    ap (λ (t : Bool). if t then none else some (suc (length fs) + i)) (eqb-suc-suc (length fs) n)
-    ∙ ap (λ (x : ℕ). if eqb (length fs) n then none else some x) k
+    ap (λ (t : Bool). if t then None else Some (suc (length fs) + i)) (eqb-suc-suc (length fs) n)
+    ∙ ap (λ (x : ℕ). if eqb (length fs) n then None else Some x) k
 
 -- none of those asked for does
-missing_here : (i n m : ℕ) → m ≡ suc n → missing_from i m [] ≡ some i
+missing_here : (i n m : ℕ) → m ≡ suc n → missing_from i m [] ≡ Some i
 unfolding missing_from
 missing_here i n m e =
-    ap (λ (x : ℕ). if eqb 0 x then none else some (0 + i)) e
-    ∙ ap (λ (t : Bool). if t then none else some (0 + i)) (eqb-zero-suc n)
-    ∙ ap some (zero-add i)
+    ap (λ (x : ℕ). if eqb 0 x then None else Some (0 + i)) e
+    ∙ ap (λ (t : Bool). if t then None else Some (0 + i)) (eqb-zero-suc n)
+    ∙ ap Some (zero-add i)
 
 -- fields and offset
 offset_told : (i at n : ℕ) (fs : List Fields) (t : Bool) (x : Offset) → x ≡ (if t then offset.Got n else offset.Refused)
-    → (x ≡ offset.Got at → (if t then fields_fault (suc i) n fs else some i) ≡ fields_fault (suc i) at fs)
-    × (x ≡ offset.Refused → (if t then fields_fault (suc i) n fs else some i) ≡ some i)
+    → (x ≡ offset.Got at → (if t then fields_fault (suc i) n fs else Some i) ≡ fields_fault (suc i) at fs)
+    × (x ≡ offset.Refused → (if t then fields_fault (suc i) n fs else Some i) ≡ Some i)
 offset_told i at n fs true x e =
     (λ g. let q : n ≡ at = cc in ap (λ (k : ℕ). fields_fault (suc i) k fs) q, λ g. let z : ◌≡◌ {A = ℕ} 0 1 = cc in absurd (omega arith))
 offset_told i at n fs false x e = (λ g. let z : ◌≡◌ {A = ℕ} 0 1 = cc in absurd (omega arith), λ g. refl)
 
 -- tags
 tag_if : (i : ℕ) (s : State) (more : State → Option ℕ) (t : Bool) (u : State) (x : Tagging) → x ≡ (if t then tagging.Got u else tagging.Refused)
-    → (x ≡ tagging.Got s → (if t then more u else some i) ≡ more s) × (x ≡ tagging.Refused → (if t then more u else some i) ≡ some i)
+    → (x ≡ tagging.Got s → (if t then more u else Some i) ≡ more s) × (x ≡ tagging.Refused → (if t then more u else Some i) ≡ Some i)
 tag_if i s more true u x e = (λ g. let q : u ≡ s = cc in ap more q, λ g. let z : ◌≡◌ {A = ℕ} 0 1 = cc in absurd (omega arith))
 tag_if i s more false u x e = (λ g. let z : ◌≡◌ {A = ℕ} 0 1 = cc in absurd (omega arith), λ g. refl)
 
 -- by the cell of the table
 tag_told : (i tag : ℕ) (s : State) (more : State → Option ℕ) (c : Cell) (x : Tagging) → x ≡ tag_by tag c
-    → (x ≡ tagging.Got s → on_tag i tag c more ≡ more s) × (x ≡ tagging.Refused → on_tag i tag c more ≡ some i)
+    → (x ≡ tagging.Got s → on_tag i tag c more ≡ more s) × (x ≡ tagging.Refused → on_tag i tag c more ≡ Some i)
 unfolding tag_by
 tag_told i tag s more (Tagged t u) x e = tag_if i s more (eqb tag t) u x e
 tag_told i tag s more (Refuses n) x e = (λ g. let z : ◌≡◌ {A = ℕ} 0 1 = cc in absurd (omega arith), λ g. refl)
@@ -115,33 +115,33 @@ lower_same m f s t m' f' s' t' d e g h = rw (d, e, g, h)
 
 -- one fold names the record at the index: no other names one before it
 module _ (q : Asked) (i n at : ℕ) (l : Left) (s : State) (fs : List Fields) where
-  by_missing : missing_from i n fs ≡ some i → faults_from q i n at l s fs ≡ some i
+  by_missing : missing_from i n fs ≡ Some i → faults_from q i n at l s fs ≡ Some i
   unfolding faults_from
   by_missing = lowest_1 i _ _ _ _ (missing_late i n fs) (fields_late i at fs) (scan_late q.log q.strings i l fs) (tags_late q.whole i s fs)
 
-  by_fields : fields_fault i at fs ≡ some i → faults_from q i n at l s fs ≡ some i
+  by_fields : fields_fault i at fs ≡ Some i → faults_from q i n at l s fs ≡ Some i
   unfolding faults_from
   by_fields = lowest_2 i _ _ _ _ (missing_late i n fs) (fields_late i at fs) (scan_late q.log q.strings i l fs) (tags_late q.whole i s fs)
 
-  by_scan : (scan_from q.log q.strings i l fs).fault ≡ some i → faults_from q i n at l s fs ≡ some i
+  by_scan : (scan_from q.log q.strings i l fs).fault ≡ Some i → faults_from q i n at l s fs ≡ Some i
   unfolding faults_from
   by_scan = lowest_3 i _ _ _ _ (missing_late i n fs) (fields_late i at fs) (scan_late q.log q.strings i l fs) (tags_late q.whole i s fs)
 
-  by_tags : tags_fault q.whole i s fs ≡ some i → faults_from q i n at l s fs ≡ some i
+  by_tags : tags_fault q.whole i s fs ≡ Some i → faults_from q i n at l s fs ≡ Some i
   unfolding faults_from
   by_tags = lowest_4 i _ _ _ _ (missing_late i n fs) (fields_late i at fs) (scan_late q.log q.strings i l fs) (tags_late q.whole i s fs)
 
 module _ (q : Asked) (log strings : List ℕ) (i at a b : ℕ) (s : State) (f : Fields) (fs : List Fields) (n : ℕ) where
   -- a record whose fields are bad
   faults_fields : (x : Offset) → x ≡ offset_after at f → x ≡ offset.Refused
-      → faults_from q i (suc n) at (left_at log strings a b) s (f ∷ fs) ≡ some i
+      → faults_from q i (suc n) at (left_at log strings a b) s (f ∷ fs) ≡ Some i
   unfolding offset_after fields_fault
   faults_fields x e g =
       by_fields q i (suc n) at (left_at log strings a b) s (f ∷ fs) ((offset_told i at (at + 4 * f.words) fs (fields_good at f) x e).1 g)
 
   -- one whose operands are bad
   faults_operands : (x : Passed) → x ≡ operands_after f (left_at log strings a b) → x ≡ passed.Refused
-      → faults_from q i (suc n) at (left_at log strings a b) s (f ∷ fs) ≡ some i
+      → faults_from q i (suc n) at (left_at log strings a b) s (f ∷ fs) ≡ Some i
   unfolding operands_after scan_from
   faults_operands x e g =
       by_scan q i (suc n) at (left_at log strings a b) s (f ∷ fs)
@@ -149,7 +149,7 @@ module _ (q : Asked) (log strings : List ℕ) (i at a b : ℕ) (s : State) (f : 
 
   -- one whose tag is bad
   faults_tag : (x : Tagging) → x ≡ tag_after s f → x ≡ tagging.Refused
-      → faults_from q i (suc n) at (left_at log strings a b) s (f ∷ fs) ≡ some i
+      → faults_from q i (suc n) at (left_at log strings a b) s (f ∷ fs) ≡ Some i
   unfolding tag_after tags_fault
   faults_tag x e g =
       by_tags q i (suc n) at (left_at log strings a b) s (f ∷ fs)
@@ -157,7 +157,7 @@ module _ (q : Asked) (log strings : List ℕ) (i at a b : ℕ) (s : State) (f : 
 
   -- one that is good in each fold
   faults_next : (x : Offset) (at' : ℕ) → x ≡ offset_after at f → x ≡ offset.Got at'
-      → (y : Placed) (a' b' : ℕ) → take_record f (left_at log strings a b) ≡ some (y, left_at log strings a' b')
+      → (y : Placed) (a' b' : ℕ) → take_record f (left_at log strings a b) ≡ Some (y, left_at log strings a' b')
       → (z : Tagging) (s' : State) → z ≡ tag_after s f → z ≡ tagging.Got s'
       → faults_from q i (suc n) at (left_at log strings a b) s (f ∷ fs) ≡ faults_from q (suc i) n at' (left_at log strings a' b') s' fs
   unfolding faults_from offset_after fields_fault scan_from tag_after tags_fault
@@ -171,7 +171,7 @@ module _ (q : Asked) (log strings : List ℕ) (i at a b : ℕ) (s : State) (f : 
 -- the end: log, strings and state decide
 faults_end : (q : Asked) (log strings : List ℕ) (i at a b : ℕ) (s : State) (m : ℕ) → m ≡ 0
     → faults_from q i m at (left_at log strings a b) s []
-    ≡ (if eqb a q.log && eqb b q.strings && (not q.whole || is_outside s) then none else some i)
+    ≡ (if eqb a q.log && eqb b q.strings && (not q.whole || is_outside s) then None else Some i)
 unfolding faults_from missing_from fields_fault scan_from tags_fault left_at is_outside
 faults_end q log strings i at a b s m e = rw e (both_ends i (eqb a q.log && eqb b q.strings) (not q.whole || eqb (end_number s) 0))
 
@@ -185,16 +185,16 @@ pub record Checking (q : Asked) (ws log strings : List ℕ) (i at a b : ℕ) (s 
   pub in_strings : b ≤ length strings
 
 -- the fault that the answer at the end names
-end_is : (t : Bool) (i : ℕ) → checked_is (end_answer t (i + 1)) ≡ (if t then none else some (suc i))
+end_is : (t : Bool) (i : ℕ) → checked_is (end_answer t (i + 1)) ≡ (if t then None else Some (suc i))
 unfolding checked_is end_answer
 end_is true i = refl
-end_is false i = ap some (add-one i)
+end_is false i = ap Some (add-one i)
 
 -- no fault is a good answer
 pub free_good : (t : Bool) (x : Option ℕ) → t ≡ is_free x → t ≡ true → checked_is Good ≡ x
 unfolding checked_is is_free
-free_good t none e q = refl
-free_good t (some i) e q = let z : ◌≡◌ {A = Bool} true false = sym q ∙ e in let k : ◌≡◌ {A = ℕ} 0 1 = cc in absurd (omega arith)
+free_good t None e q = refl
+free_good t (Some i) e q = let z : ◌≡◌ {A = Bool} true false = sym q ∙ e in let k : ◌≡◌ {A = ℕ} 0 1 = cc in absurd (omega arith)
 
 -- a bad answer is a fault
 pub bad_fault : (k : ℕ) (x : Option ℕ) → checked_is (Bad k) ≡ x → false ≡ is_free x
@@ -202,7 +202,7 @@ unfolding checked_is is_free
 bad_fault k x e = ap is_free e
 
 -- one test decides
-free_by : (t : Bool) (i : ℕ) → t ≡ is_free (if t then none else some (suc i))
+free_by : (t : Bool) (i : ℕ) → t ≡ is_free (if t then None else Some (suc i))
 unfolding is_free
 free_by true i = refl
 free_by false i = refl
@@ -226,10 +226,10 @@ check_starts q ws log strings =
 module _ {q : Asked} {ws log strings : List ℕ} {i at a b : ℕ} {s : State} (some_size : field_size ≤ q.size)
     (r : Checking q ws log strings i at a b s) where
   -- an answer that names the record
-  bad_here : faults_from q (suc i) (q.count - i) at (left_at log strings a b) s (records_of q.size (q.count - i) (drop (q.size * i) ws)) ≡ some (suc i)
+  bad_here : faults_from q (suc i) (q.count - i) at (left_at log strings a b) s (records_of q.size (q.count - i) (drop (q.size * i) ws)) ≡ Some (suc i)
       → checked_is (Bad (i + 1)) ≡ fault_in q ws log strings
   unfolding checked_is
-  bad_here e = ap some (add-one i) ∙ sym (r.fault ∙ e)
+  bad_here e = ap Some (add-one i) ∙ sym (r.fault ∙ e)
 
   -- a record that does not lie wholly in the store
   pub check_missing : i < q.count → length ws / q.size ≤ i → checked_is (Bad (i + 1)) ≡ fault_in q ws log strings
@@ -292,13 +292,13 @@ module _ {q : Asked} {ws log strings : List ℕ} {i at a b : ℕ} {s : State} (s
     ended = eqb a q.log && eqb b q.strings && (not q.whole || o)
 
     -- it decides
-    ends : (if ended then none else some (suc i)) ≡ fault_in q ws log strings
+    ends : (if ended then None else Some (suc i)) ≡ fault_in q ws log strings
     ends =
         let z : q.count - i ≡ 0 = omega arith in
         sym (r.fault
         ∙ ap (faults_from q (suc i) (q.count - i) at (left_at log strings a b) s) (records_end q.size (drop (q.size * i) ws) (q.count - i) z)
         ∙ faults_end q log strings (suc i) at a b s (q.count - i) z
-        ∙ ap (λ (x : Bool). if eqb a q.log && eqb b q.strings && (not q.whole || x) then none else some (suc i)) (sym e))
+        ∙ ap (λ (x : Bool). if eqb a q.log && eqb b q.strings && (not q.whole || x) then None else Some (suc i)) (sym e))
 
     -- whether there is a fault
     pub check_free : ended ≡ is_free (fault_in q ws log strings)

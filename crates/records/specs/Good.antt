@@ -1,6 +1,6 @@
 -- Good records: what the check gives, and what every getter of a record or an operand asks for.
 use Rattle.std.specs.Prelude.{ℕ, ◌+◌, ◌/◌, ◌%◌, ◌≤◌, ◌≡◌, Bool, true, false, List, length, take, drop, get_or}
-use Rattle.std.proofs.Math.Option.{none}
+use Rattle.std.specs.Prelude.{None}
 use Rattle.spec.specs.declared.Numbers.{Numbers}
 use Rattle.spec.specs.Words.{four_at, long}
 use Rattle.spec.specs.Kinds.{is_logged, is_long}
@@ -11,7 +11,7 @@ use Rattle.operand.specs.Parts.{parts, is_two, Fits}
 
 -- the stores are good for the counts, in the order read
 unfoldable pub Good : Given → Type 0
-Good x = fault_of record_size false x ≡ none
+Good x = fault_of record_size false x ≡ None
 
 -- the numbers that the words of a record end with
 unfoldable pub numbers_at : List ℕ → Numbers

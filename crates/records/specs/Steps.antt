@@ -1,6 +1,6 @@
 -- The check as one pass over the records: what each of its three steps answers for a record, by the definitions of spec/Check.
 use Rattle.std.specs.Prelude.{ℕ, ◌+◌, ◌*◌, ◌%◌, Bool, true, false, not, ◌&&◌, List, leb, ltb, eqb, length, take, drop, if◌then◌else◌}
-use Rattle.std.proofs.Math.Option.{Option, none, some}
+use Rattle.std.specs.Prelude.{Option, None, Some}
 use Rattle.spec.specs.declared.State.{State}
 use Rattle.spec.specs.declared.State.TheVariants.{Outside}
 use Rattle.spec.specs.declared.Cell.{Cell}
@@ -35,8 +35,8 @@ given instructions log strings count log_count string_count =
 
 -- the fault that an answer of the check names
 unfoldable pub checked_is : Checked → Option ℕ
-checked_is Good = none
-checked_is (Bad i) = some i
+checked_is Good = None
+checked_is (Bad i) = Some i
 
 -- the answer at the end: good, or bad at an index
 unfoldable pub end_answer : Bool → ℕ → Checked
@@ -78,8 +78,8 @@ text_passed strings a b start n = if text_good strings b start n then passed.Got
 
 -- past what was taken, with its words
 unfoldable pub passed_by : {A : Type 0} → (A → ℕ) → Option (A × Left) → Passed
-passed_by size none = passed.Refused
-passed_by size (some x) = passed.Got x.1.log_at x.1.strings_at (size x.0)
+passed_by size None = passed.Refused
+passed_by size (Some x) = passed.Got x.1.log_at x.1.strings_at (size x.0)
 
 -- past an operand
 unfoldable pub passed_one : Option (Operand × Left) → Passed
@@ -121,7 +121,7 @@ is_outside s = eqb (end_number s) 0
 
 -- the first of so many records, from an index on, that does not lie wholly in the store
 unfoldable pub missing_from : ℕ → ℕ → List Fields → Option ℕ
-missing_from index count fs = if eqb (length fs) count then none else some (length fs + index)
+missing_from index count fs = if eqb (length fs) count then None else Some (length fs + index)
 
 -- the lowest fault of the records from an index on, by what is asked for: so many are left, at an offset, with so much left and in a
 -- state
@@ -137,5 +137,5 @@ fault_in q instructions log strings =
 
 -- free of faults
 unfoldable pub is_free : Option ℕ → Bool
-is_free none = true
-is_free (some i) = false
+is_free None = true
+is_free (Some i) = false

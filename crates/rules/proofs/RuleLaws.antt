@@ -2,7 +2,7 @@
 use mathlib.Core.Path.{◌≡◌, refl, sym, ap, ◌∙◌}
 use mathlib.Core.Bool.{Bool, true, false, ◌&&◌, ◌||◌, and-false, and-true, and_assoc, or-false, false≢true, true≢false}
 use mathlib.Core.List.{List, [], ◌∷◌, ◌++◌}
-use mathlib.Core.Option.{none, some}
+use Rattle.std.specs.Prelude.{None, Some}
 use mathlib.Core.Logic.{◌⊎◌, inl, inr, ⊎_elim}
 use Prim.Native.Nat.{ℕ, zero, suc, ◌+◌, ◌*◌, ◌/◌, ◌%◌, ◌^◌, ◌<◌}
 use native.Mathlib.Numerals.{add-one}
@@ -233,7 +233,7 @@ unfolding is_fixed
 unfixed op before k q e = by (eqb op 21) (eqb op 22) e
   where
     by : (a b : Bool) → a || b ≡ false
-        → fixed_next (if a then some (47 ∷ 34 ∷ 34 ∷ []) else if b then some (47 ∷ 34 ∷ []) else none) before k q ≡ true
+        → fixed_next (if a then Some (47 ∷ 34 ∷ 34 ∷ []) else if b then Some (47 ∷ 34 ∷ []) else None) before k q ≡ true
     by true b e = absurd (true≢false e)
     by false true e = absurd (true≢false e)
     by false false e = refl

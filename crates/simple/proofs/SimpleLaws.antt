@@ -3,7 +3,7 @@ use Prim.Native.Nat.{ℕ, zero, suc, ◌+◌, ◌-◌, ◌≤◌}
 use mathlib.Core.Path.{◌≡◌, refl, ap, sym, subst, ◌∙◌}
 use mathlib.Core.Bool.{true, false}
 use mathlib.Core.List.{List, []}
-use mathlib.Core.Option.{some}
+use Rattle.std.specs.Prelude.{Some}
 use native.Mathlib.Omega.{arith}
 use borrow.Author.Tests.{ne_eqb}
 use lib.ListN.{length, drop}
@@ -120,7 +120,7 @@ module _ (s : List ℕ) (d : Decoder) (h : There s d) where
 -- VALUES
 
 -- a mask of no bits is known, with no parameters
-mask_zero : (k : ℕ) (g : Grammar) → is_mask k ≡ true → parameters_for k 0 g ≡ some []
+mask_zero : (k : ℕ) (g : Grammar) → is_mask k ≡ true → parameters_for k 0 g ≡ Some []
 unfolding parameters_for bits_of bits_from bits_listed
 mask_zero k g m = simp m
 

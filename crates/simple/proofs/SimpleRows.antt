@@ -3,7 +3,7 @@ use Prim.Native.Nat.{ℕ, ◌+◌, ◌*◌, ◌-◌, ◌≤◌}
 use mathlib.Core.Path.{◌≡◌, sym, ◌∙◌}
 use mathlib.Core.Bool.{Bool, true, false}
 use mathlib.Core.List.{List, ◌∷◌}
-use mathlib.Core.Option.{some}
+use Rattle.std.specs.Prelude.{Some}
 use native.Mathlib.Omega.{arith}
 use lib.Dec.{eqb}
 use lib.ListN.{length}
@@ -38,7 +38,7 @@ no_result k x y = fails (is_result k) (λ e. omega (arith, in_range 46 k 47 e, x
 module _ (s : List ℕ) (g : Grammar) (j l : ℕ) (d : Decoder) (log strs : List ℕ) (u : Used) (t : Bool) (p : t ≡ is_result j) (types : List Entry)
     (f : kind_is l ≡ literal_for types u j) where
   -- a result
-  pub reads_result : t ≡ true → Few s d u → (v : ℕ) (e : Decoder) → Word v e ≡ word_from s d → (i : ℕ) → word_is i ≡ some v → (n : Used) → n ≡ with_result j i u
+  pub reads_result : t ≡ true → Few s d u → (v : ℕ) (e : Decoder) → Word v e ≡ word_from s d → (i : ℕ) → word_is i ≡ Some v → (n : Used) → n ≡ with_result j i u
       → IfTaken (SlotWalks s d j (λ x. read_slot g types x j (reader_of s d)) log strs log strs u) (Taken e n)
   reads_result q m v e h i o n z = take _ e n (walks_result s g j l d log strs u t p types f q m v e h i o n z)
 

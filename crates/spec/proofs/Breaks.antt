@@ -110,8 +110,8 @@ operand_within at (text s) bs n h =
     not_zero_within (at + m) (drop m (take (4 * text_words m) bs)) n
     (λ k. let size = length-drop m (take (4 * text_words m) bs) in
     let cut = length-take (4 * text_words m) bs in
-    let some : 1 ≤ length bs = omega arith in
-    omega (arith, h some))
+    let Some : 1 ≤ length bs = omega arith in
+    omega (arith, h Some))
 
 -- so are those of operands
 operands_within : (at : ℕ) (os : List Operand) (bs : List ℕ) (n : ℕ) → (1 ≤ length bs → at + length bs ≤ n) → operands_break at os bs ≤ n
@@ -120,7 +120,7 @@ operands_within at [] bs n h = omega arith
 operands_within at (o ∷ os) bs n h =
     let k : ℕ = 4 * operand_size o in
     first_within _ _ n (operand_within at o bs n h)
-    (operands_within (at + k) os (drop k bs) n (λ some.
+    (operands_within (at + k) os (drop k bs) n (λ Some.
     let size = length-drop k bs in
     let all : 1 ≤ length bs = omega arith in
     omega (arith, h all)))
@@ -133,7 +133,7 @@ kept_within s (p ∷ ps) =
     let i : Instr = p.instr in
     let at : ℕ = i.offset + 4 in
     first_within _ _ (length s)
-    (operands_within at (in_order i.result_type i.result_id i.operands) (drop at s) (length s) (λ some. let size = length-drop at s in omega arith))
+    (operands_within at (in_order i.result_type i.result_id i.operands) (drop at s) (length s) (λ Some. let size = length-drop at s in omega arith))
     (kept_within s ps)
 
 -- what breaks a module lies in it

@@ -2,7 +2,7 @@
 use Prim.Native.Nat.{ℕ, ◌≤◌}
 use mathlib.Core.Path.{◌≡◌, refl}
 use mathlib.Core.Bool.{Bool, true, false, ◌&&◌, ◌||◌, and-eq-true_iff, true≢false, false≢true}
-use mathlib.Core.Option.{Option, none, some}
+use Rattle.std.specs.Prelude.{Option, None, Some}
 use borrow.Author.Tests.{leb-true}
 use lib.Dec.{leb}
 use Rattle.std.specs.Prelude.{if◌then◌else◌}
@@ -47,14 +47,14 @@ either P false a b x y = y refl
 
 -- a property of what is there
 abbrev pub IfSome : {A : Type 0} → (A → Type 0) → Option A → Type 0
-IfSome P none = Unit
-IfSome P (some a) = P a
+IfSome P None = Unit
+IfSome P (Some a) = P a
 
 -- it holds of what comes of going on where it holds after each thing that may be there
-pub if_then : {A B : Type 0} (P : B → Type 0) (o : Option A) (f : A → Option B) → ((a : A) → o ≡ some a → IfSome P (f a))
+pub if_then : {A B : Type 0} (P : B → Type 0) (o : Option A) (f : A → Option B) → ((a : A) → o ≡ Some a → IfSome P (f a))
     → IfSome P (and_then o f)
-if_then P none f on = tt
-if_then P (some a) f on = on a refl
+if_then P None f on = tt
+if_then P (Some a) f on = on a refl
 
 -- a number in a range
 pub in_range : (a k b : ℕ) → within a k b ≡ true → (a ≤ k) × (k ≤ b)

@@ -3,7 +3,8 @@ use Prim.Native.Nat.{ℕ, suc, ◌%◌, ◌≤◌}
 use mathlib.Core.Path.{◌≡◌, refl, ap, sym}
 use mathlib.Core.Bool.{Bool, true, false, ◌&&◌}
 use mathlib.Core.List.{List, [], ◌∷◌}
-use mathlib.Core.Option.{Option, none, some, some-ne-none}
+use Rattle.std.specs.Prelude.{Option, None, Some}
+use Rattle.std.proofs.lemmas.Option.{none-some}
 use native.Mathlib.Omega.{arith}
 use borrow.Author.Tests.{eqb-true, eq-eqb, leb-true}
 use lib.Dec.{leb, ltb, eqb}
@@ -22,28 +23,28 @@ use Rattle.spec.proofs.Choice.{left, right, either, IfSome, if_then}
 -- THE FOLDS
 
 -- the lower of two faults is none where both are
-none_lower : (a b : Option ℕ) → lower a b ≡ none → (a ≡ none) × (b ≡ none)
-none_lower none b e = (refl, e)
-none_lower (some i) none e = absurd (some-ne-none i e)
-none_lower (some i) (some j) e =
+none_lower : (a b : Option ℕ) → lower a b ≡ None → (a ≡ None) × (b ≡ None)
+none_lower None b e = (refl, e)
+none_lower (Some i) None e = absurd (none-some i (sym e))
+none_lower (Some i) (Some j) e =
     absurd
-    (either (λ (o : Option ℕ). o ≡ none → ⊥) (leb i j) (some i) (some j) (λ c. some-ne-none i)
-    (λ c. some-ne-none j) e)
+    (either (λ (o : Option ℕ). o ≡ None → ⊥) (leb i j) (Some i) (Some j) (λ c e. none-some i (sym e))
+    (λ c e. none-some j (sym e)) e)
 
 -- a test without fault holds, and what it goes on with is without fault
-pub none_if : (i : ℕ) (t : Bool) (x : Option ℕ) → (if t then x else some i) ≡ none → (t ≡ true) × (x ≡ none)
+pub none_if : (i : ℕ) (t : Bool) (x : Option ℕ) → (if t then x else Some i) ≡ None → (t ≡ true) × (x ≡ None)
 none_if i true x e = (refl, e)
-none_if i false x e = absurd (some-ne-none i e)
+none_if i false x e = absurd (none-some i (sym e))
 
 -- where there is no fault, no fold finds one
 pub record Faultless (size : ℕ) (whole : Bool) (x : Given) : Type 0 where
-  pub present : missing x.count (records_in size x) ≡ none
-  pub fields : fields_fault 1 20 (records_in size x) ≡ none
-  pub scan : (scan_of size x).fault ≡ none
-  pub tags : tags_fault whole 1 Outside (records_in size x) ≡ none
+  pub present : missing x.count (records_in size x) ≡ None
+  pub fields : fields_fault 1 20 (records_in size x) ≡ None
+  pub scan : (scan_of size x).fault ≡ None
+  pub tags : tags_fault whole 1 Outside (records_in size x) ≡ None
 
 -- that is what no fault says
-pub no_faults : (size : ℕ) (whole : Bool) (x : Given) → fault_of size whole x ≡ none → Faultless size whole x
+pub no_faults : (size : ℕ) (whole : Bool) (x : Given) → fault_of size whole x ≡ None → Faultless size whole x
 unfolding fault_of
 no_faults size whole x e =
     let others = none_lower (missing x.count (records_in size x)) _ e in
@@ -53,13 +54,13 @@ no_faults size whole x e =
 
 -- where the check is passed, there is no fault
 pub good_told : (size : ℕ) (whole : Bool) (x : Given) (is : List Placed) → check size whole x ≡ good is
-    → (fault_of size whole x ≡ none) × ((scan_of size x).instrs ≡ is)
+    → (fault_of size whole x ≡ None) × ((scan_of size x).instrs ≡ is)
 unfolding check
 good_told size whole x is e = by (fault_of size whole x) e
   where
-    by : (o : Option ℕ) → checked_by o (scan_of size x).instrs ≡ good is → (o ≡ none) × ((scan_of size x).instrs ≡ is)
-    by none e = (refl, (cc))
-    by (some i) e = let z : ◌≡◌ {A = ℕ} 0 1 = cc in absurd (omega arith)
+    by : (o : Option ℕ) → checked_by o (scan_of size x).instrs ≡ good is → (o ≡ None) × ((scan_of size x).instrs ≡ is)
+    by None e = (refl, (cc))
+    by (Some i) e = let z : ◌≡◌ {A = ℕ} 0 1 = cc in absurd (omega arith)
 
 -- THE FIELDS
 
@@ -77,7 +78,7 @@ fields_told at f e =
 -- what a record that was taken says, and what is left after it
 pub record Said (f : Fields) (l : Left) (x : Placed × Left) : Type 0 where
   pub operands : List Operand
-  pub taken : take_operands f.count l ≡ some (operands, x.1)
+  pub taken : take_operands f.count l ≡ Some (operands, x.1)
   pub start : f.start ≡ l.log_at
   pub words : words_good (placed_of f operands) ≡ true
   pub is : x.0 ≡ placed_of f operands
@@ -87,7 +88,7 @@ pub record_said : (f : Fields) (l : Left) → IfSome (Said f l) (take_record f l
 unfolding take_record
 record_said f l =
     if_then (Said f l) (take_operands f.count l) _
-    (λ y e. either (IfSome (Said f l)) (eqb f.start l.log_at && words_good (placed_of f y.0)) _ none
+    (λ y e. either (IfSome (Said f l)) (eqb f.start l.log_at && words_good (placed_of f y.0)) _ None
     (λ t. record {
       operands = y.0;
       taken = e;
@@ -107,17 +108,17 @@ module _ (log_count string_count : ℕ) where
   -- a record and those after it
   scans_on : (index : ℕ) (f : Fields) (fs : List Fields) (l : Left) (more : Left → Scan) (o : Option (Placed × Left))
       → IfSome (Said f l) o
-      → ((m : Left) → (more m).fault ≡ none → Scans log_count string_count m fs (more m).instrs)
-      → (on_record index o more).fault ≡ none → Scans log_count string_count l (f ∷ fs) (on_record index o more).instrs
-  scans_on index f fs l more none p on e = absurd (some-ne-none index e)
-  scans_on index f fs l more (some x) p on e = says p (on x.1 e)
+      → ((m : Left) → (more m).fault ≡ None → Scans log_count string_count m fs (more m).instrs)
+      → (on_record index o more).fault ≡ None → Scans log_count string_count l (f ∷ fs) (on_record index o more).instrs
+  scans_on index f fs l more None p on e = absurd (none-some index (sym e))
+  scans_on index f fs l more (Some x) p on e = says p (on x.1 e)
 
   -- records without fault
-  pub scans : (fs : List Fields) (index : ℕ) (l : Left) → (scan_from log_count string_count index l fs).fault ≡ none
+  pub scans : (fs : List Fields) (index : ℕ) (l : Left) → (scan_from log_count string_count index l fs).fault ≡ None
       → Scans log_count string_count l fs (scan_from log_count string_count index l fs).instrs
   unfolding scan_from
   scans [] index l e =
-      let t = (none_if index (eqb l.log_at log_count && eqb l.strings_at string_count) none e).0 in
+      let t = (none_if index (eqb l.log_at log_count && eqb l.strings_at string_count) None e).0 in
       ends (eqb-true _ _ (left _ _ t)) (eqb-true _ _ (right (eqb l.log_at log_count) _ t))
   scans (f ∷ fs) index l e =
       scans_on index f fs l (λ m. scan_from log_count string_count (suc index) m fs) (take_record f l) (record_said f l)
@@ -126,15 +127,15 @@ module _ (log_count string_count : ℕ) where
 -- THE TAGS
 
 -- a tag without fault is the one that the table gives, and so on after it
-pub tag_told : (index tag : ℕ) (c : Cell) (more : State → Option ℕ) → on_tag index tag c more ≡ none
-    → (s : State) × (c ≡ Tagged tag s) × (more s ≡ none)
-tag_told index tag (Refuses n) more e = absurd (some-ne-none index e)
+pub tag_told : (index tag : ℕ) (c : Cell) (more : State → Option ℕ) → on_tag index tag c more ≡ None
+    → (s : State) × (c ≡ Tagged tag s) × (more s ≡ None)
+tag_told index tag (Refuses n) more e = absurd (none-some index (sym e))
 tag_told index tag (Tagged t s) more e =
     let same = none_if index (eqb tag t) (more s) e in
     (s, ap (λ (k : ℕ). Tagged k s) (sym (eqb-true tag t same.0)), same.1)
 
 -- tags without fault that end outside functions are so wherever they may end
-tags_part : (fs : List Fields) (index : ℕ) (s : State) → tags_fault true index s fs ≡ none → tags_fault false index s fs ≡ none
+tags_part : (fs : List Fields) (index : ℕ) (s : State) → tags_fault true index s fs ≡ None → tags_fault false index s fs ≡ None
 unfolding tags_fault
 tags_part [] index s e = refl
 tags_part (f ∷ fs) index s e =
@@ -142,7 +143,7 @@ tags_part (f ∷ fs) index s e =
     rw (t.1, eq-eqb f.tag f.tag refl) (tags_part fs (suc index) t.0 t.2)
 
 -- so are the records
-pub part_faultless : (size : ℕ) (x : Given) → fault_of size true x ≡ none → fault_of size false x ≡ none
+pub part_faultless : (size : ℕ) (x : Given) → fault_of size true x ≡ None → fault_of size false x ≡ None
 unfolding fault_of
 part_faultless size x e =
     let z = no_faults size true x e in

@@ -4,7 +4,7 @@
 -- of them finds it so, and each judges it by itself and the records before it: so the first bad record is the lowest that they name.
 -- How many words a record has is a number that the check is given; `record_size` is that of the records that a load keeps.
 use Rattle.std.specs.Prelude.{ℕ, zero, suc, ◌+◌, ◌*◌, ◌/◌, ◌%◌, Bool, true, false, not, ◌&&◌, ◌||◌, List, [], ◌∷◌, leb, ltb, eqb, length, take, drop, get_or, if◌then◌else◌}
-use Rattle.std.proofs.Math.Option.{Option, none, some}
+use Rattle.std.specs.Prelude.{Option, None, Some}
 use Rattle.spec.specs.declared.State.{State}
 use Rattle.spec.specs.declared.State.TheVariants.{Outside}
 use Rattle.spec.specs.declared.Cell.{Cell}
@@ -42,9 +42,9 @@ given_by t n =
 
 -- the lower of two indices, where one is there
 abbrev pub lower : Option ℕ → Option ℕ → Option ℕ
-lower none b = b
-lower (some i) none = some i
-lower (some i) (some j) = if leb i j then some i else some j
+lower None b = b
+lower (Some i) None = Some i
+lower (Some i) (Some j) = if leb i j then Some i else Some j
 
 -- THE RECORDS
 
@@ -57,7 +57,7 @@ records_of size (suc n) ws =
 
 -- the first record that does not
 unfoldable pub missing : ℕ → List Fields → Option ℕ
-missing count fs = if eqb (length fs) count then none else some (length fs + 1)
+missing count fs = if eqb (length fs) count then None else Some (length fs + 1)
 
 -- 1. FIELDS AND OFFSETS: "unknown .. presence bits, a result field not 0 without its bit", "offsets (the first is 20) .. that do not
 -- follow on", a word count over 65,535
@@ -74,10 +74,10 @@ fields_good at f =
 
 -- the first record whose fields are bad, the first of them at an index and an offset
 unfoldable pub fields_fault : ℕ → ℕ → List Fields → Option ℕ
-fields_fault index at [] = none
+fields_fault index at [] = None
 fields_fault index at (f ∷ fs) =
     let later = fields_fault (suc index) (at + 4 * f.words) fs in
-    if fields_good at f then later else some index
+    if fields_good at f then later else Some index
 
 -- 2. LOG AND STRINGS: "unknown kinds", "ranges past a store", "logs that do not follow on, strings with a zero byte or not UTF-8, a
 -- word count that is wrong", and log or string bytes left over
@@ -99,34 +99,34 @@ past n m l =
 abbrev pub take_text : ℕ → ℕ → Left → Option (Operand × Left)
 take_text start n l =
     let s = take n l.strings in
-    if eqb start l.strings_at && has n l.strings && every (λ b. not (eqb b 0)) s && is_utf8 s then some (text s, past 9 n l)
-    else none
+    if eqb start l.strings_at && has n l.strings && every (λ b. not (eqb b 0)) s && is_utf8 s then Some (text s, past 9 n l)
+    else None
 
 -- an operand of a kind, with its first number
 abbrev pub take_kind : ℕ → ℕ → Left → Option (Operand × Left)
 take_kind k v l =
-    if not (is_long k || is_text k) then some (narrow k v, past 5 0 l)
-    else if not (has 9 l.log) then none
-    else if is_long k then some (wide k (long v (four_at 5 l.log)), past 9 0 l)
+    if not (is_long k || is_text k) then Some (narrow k v, past 5 0 l)
+    else if not (has 9 l.log) then None
+    else if is_long k then Some (wide k (long v (four_at 5 l.log)), past 9 0 l)
     else take_text v (four_at 5 l.log) l
 
 -- the operand that the log begins with, and what is left, where it is good
 unfoldable pub take_operand : Left → Option (Operand × Left)
 take_operand l =
-    if has 5 l.log && is_logged (get_or l.log 0 0) then take_kind (get_or l.log 0 0) (four_at 1 l.log) l else none
+    if has 5 l.log && is_logged (get_or l.log 0 0) then take_kind (get_or l.log 0 0) (four_at 1 l.log) l else None
 
 -- so many operands, and what is left, where all are good
 unfoldable pub take_operands : ℕ → Left → Option (List Operand × Left)
-take_operands zero l = some ([], l)
+take_operands zero l = Some ([], l)
 take_operands (suc n) l = do
   x ← take_operand l
   xs ← take_operands n x.1
-  some (x.0 ∷ xs.0, xs.1)
+  Some (x.0 ∷ xs.0, xs.1)
 
 -- a result field that is there
 abbrev pub field_in : Bool → ℕ → Option ℕ
-field_in true v = some v
-field_in false v = none
+field_in true v = Some v
+field_in false v = None
 
 -- the instruction that a record and its operands say
 unfoldable pub placed_of : Fields → List Operand → Placed
@@ -155,7 +155,7 @@ words_good p =
 unfoldable pub take_record : Fields → Left → Option (Placed × Left)
 take_record f l = do
   x ← take_operands f.count l
-  if eqb f.start l.log_at && words_good (placed_of f x.0) then some (placed_of f x.0, x.1) else none
+  if eqb f.start l.log_at && words_good (placed_of f x.0) then Some (placed_of f x.0, x.1) else None
 
 -- the instructions before the first record whose operands are bad, and its index
 pub record Scan : Type 0 where
@@ -164,13 +164,13 @@ pub record Scan : Type 0 where
 
 -- a record's instruction before those of the records after it, or the fault there
 abbrev pub on_record : ℕ → Option (Placed × Left) → (Left → Scan) → Scan
-on_record index none more = record { instrs = []; fault = some index }
-on_record index (some x) more = let later = more x.1 in record { instrs = x.0 ∷ later.instrs; fault = later.fault }
+on_record index None more = record { instrs = []; fault = Some index }
+on_record index (Some x) more = let later = more x.1 in record { instrs = x.0 ∷ later.instrs; fault = later.fault }
 
 -- the operands of records, the first of them at an index; all of both counts is taken in the end
 unfoldable pub scan_from : ℕ → ℕ → ℕ → Left → List Fields → Scan
 scan_from log_count string_count index l [] =
-    record { instrs = []; fault = if eqb l.log_at log_count && eqb l.strings_at string_count then none else some index }
+    record { instrs = []; fault = if eqb l.log_at log_count && eqb l.strings_at string_count then None else Some index }
 scan_from log_count string_count index l (f ∷ fs) =
     on_record index (take_record f l) (λ m. scan_from log_count string_count (suc index) m fs)
 
@@ -178,12 +178,12 @@ scan_from log_count string_count index l (f ∷ fs) =
 
 -- go on where the tag is the one that the table gives
 abbrev pub on_tag : ℕ → ℕ → Cell → (State → Option ℕ) → Option ℕ
-on_tag index tag (Tagged t s) more = if eqb tag t then more s else some index
-on_tag index tag (Refuses n) more = some index
+on_tag index tag (Tagged t s) more = if eqb tag t then more s else Some index
+on_tag index tag (Refuses n) more = Some index
 
 -- the first record whose tag is bad, the first of them at an index and in a state; whole: the end must be outside functions
 unfoldable pub tags_fault : Bool → ℕ → State → List Fields → Option ℕ
-tags_fault whole index s [] = if implies whole (eqb (end_number s) 0) then none else some index
+tags_fault whole index s [] = if implies whole (eqb (end_number s) 0) then None else Some index
 tags_fault whole index s (f ∷ fs) =
     on_tag index f.tag (layout_of (f.head % 65536) s) (λ t. tags_fault whole (suc index) t fs)
 
@@ -213,8 +213,8 @@ pub data Checked : Type 0 where
 
 -- by the first fault, where there is one
 abbrev pub checked_by : Option ℕ → List Placed → Checked
-checked_by none is = good is
-checked_by (some i) is = bad i
+checked_by None is = good is
+checked_by (Some i) is = bad i
 
 -- the check of given records of a length
 unfoldable pub check : ℕ → Bool → Given → Checked

@@ -3,7 +3,7 @@
 -- Names come from the table of names alone (`name_of`). An instruction that lacks one is refused before any text is made, so that the
 -- text need not say what stands there: a name that is missing is left out.
 use Rattle.std.specs.Prelude.{ℕ, suc, ◌≡◌, refl, Bool, true, false, ◌&&◌, ◌||◌, List, [], ◌∷◌, ◌++◌, eqb, take, drop, get_or, if◌then◌else◌}
-use Rattle.std.proofs.Math.Option.{Option, none, some}
+use Rattle.std.specs.Prelude.{Option, None, Some}
 use Rattle.spec.specs.Base.{within, is_in, has, and_then as ◌>>=◌, or_else, same, joined, every, ascii}
 use Rattle.spec.specs.Words.{major, minor, bits_from, bits_of}
 use Rattle.spec.specs.Digits.{digits_from, decimal, hex_digit, hex_digits}
@@ -37,13 +37,13 @@ string_text s = ascii "\"" ++ joined byte_text s ++ ascii "\""
 
 -- is there a name
 abbrev pub is_there : Option (List ℕ) → Bool
-is_there none = false
-is_there (some n) = true
+is_there None = false
+is_there (Some n) = true
 
 -- the name that is there
 abbrev pub or_nothing : Option (List ℕ) → List ℕ
-or_nothing none = []
-or_nothing (some n) = n
+or_nothing None = []
+or_nothing (Some n) = n
 
 -- the name of a number in a set of names
 unfoldable pub name_text : ℕ → ℕ → List ℕ
@@ -94,29 +94,29 @@ operand_named (text s) = true
 -- the set of a name, where it is recognised
 unfoldable pub set_named : List ℕ → Option ℕ
 set_named s =
-    if same s (ascii "GLSL.std.450") then some glsl_set
-    else if same s (ascii "OpenCL.std") then some opencl_set
-    else none
+    if same s (ascii "GLSL.std.450") then Some glsl_set
+    else if same s (ascii "OpenCL.std") then Some opencl_set
+    else None
 
 -- the set that the operands of an import name: its first is the set's name
 unfoldable pub set_in : List Operand → Option ℕ
-set_in [] = none
-set_in (narrow k v ∷ os) = none
-set_in (wide k v ∷ os) = none
+set_in [] = None
+set_in (narrow k v ∷ os) = None
+set_in (wide k v ∷ os) = None
 set_in (text s ∷ os) = set_named s
 
 -- is it the id that is there
 abbrev pub is_id : ℕ → Option ℕ → Bool
-is_id id none = false
-is_id id (some i) = eqb i id
+is_id id None = false
+is_id id (Some i) = eqb i id
 
 -- the set that an instruction imports under an id, where it is an OpExtInstImport, as those of tag 3 are
 unfoldable pub import_of : ℕ → Placed → Option ℕ
-import_of id p = if has_tag 3 p && is_id id p.instr.result_id then set_in p.instr.operands else none
+import_of id p = if has_tag 3 p && is_id id p.instr.result_id then set_in p.instr.operands else None
 
 -- the set of an id: the last import that is recognised holds
 unfoldable pub set_of : ℕ → List Placed → Option ℕ
-set_of id [] = none
+set_of id [] = None
 set_of id (p ∷ ps) = or_else (set_of id ps) (import_of id p)
 
 -- the name of an instruction in the set of an id
@@ -127,13 +127,13 @@ name_by is id n = do
 
 -- the name that operands of an extended instruction begin with: after an id (33) the number (35) of an instruction
 unfoldable pub ext_name : List Placed → List Operand → Option (List ℕ)
-ext_name is [] = none
-ext_name is (o ∷ []) = none
-ext_name is (narrow k id ∷ narrow j n ∷ os) = let name = name_by is id n in if eqb k 33 && eqb j 35 then name else none
-ext_name is (narrow k id ∷ wide j n ∷ os) = none
-ext_name is (narrow k id ∷ text s ∷ os) = none
-ext_name is (wide k v ∷ o ∷ os) = none
-ext_name is (text s ∷ o ∷ os) = none
+ext_name is [] = None
+ext_name is (o ∷ []) = None
+ext_name is (narrow k id ∷ narrow j n ∷ os) = let name = name_by is id n in if eqb k 33 && eqb j 35 then name else None
+ext_name is (narrow k id ∷ wide j n ∷ os) = None
+ext_name is (narrow k id ∷ text s ∷ os) = None
+ext_name is (wide k v ∷ o ∷ os) = None
+ext_name is (text s ∷ o ∷ os) = None
 
 -- INSTRUCTIONS: `impl Disassemble for dr::Instruction`, `disas_ext_inst`
 
@@ -143,24 +143,24 @@ spaced os = joined (λ o. ascii " " ++ operand_text o) os
 
 -- with a name in place of the second
 unfoldable pub spaced_by : Option (List ℕ) → List Operand → List ℕ
-spaced_by none os = spaced os
-spaced_by (some n) os = spaced (take 1 os) ++ ascii " " ++ n ++ spaced (drop 2 os)
+spaced_by None os = spaced os
+spaced_by (Some n) os = spaced (take 1 os) ++ ascii " " ++ n ++ spaced (drop 2 os)
 
 -- an instruction's operands; an OpExtInst in a block has its instruction's name, where that is known
 unfoldable pub operands_text : List Placed → Placed → List ℕ
 operands_text is p =
     let name = ext_name is p.instr.operands in
-    spaced_by (if eqb p.instr.opcode 12 && has_tag 15 p then name else none) p.instr.operands
+    spaced_by (if eqb p.instr.opcode 12 && has_tag 15 p then name else None) p.instr.operands
 
 -- "%{} = "
 unfoldable pub result_text : Option ℕ → List ℕ
-result_text none = []
-result_text (some id) = id_text id ++ ascii " = "
+result_text None = []
+result_text (Some id) = id_text id ++ ascii " = "
 
 -- "extra space both before and after the result type"; after it only before operands
 unfoldable pub type_text : Option ℕ → List Operand → List ℕ
-type_text none os = []
-type_text (some t) os = ascii "  " ++ id_text t ++ (if has 1 os then ascii " " else [])
+type_text None os = []
+type_text (Some t) os = ascii "  " ++ id_text t ++ (if has 1 os then ascii " " else [])
 
 -- an instruction among all of a module
 unfoldable pub instr_text : List Placed → Placed → List ℕ
@@ -192,10 +192,10 @@ is_named p = is_there (name_of opcode_set p.instr.opcode) && every operand_named
 
 -- the first instruction that lacks a name, the first of them at an index
 unfoldable pub unnamed : ℕ → List Placed → Option ℕ
-unnamed index [] = none
+unnamed index [] = None
 unnamed index (p ∷ ps) =
     let later = unnamed (suc index) ps in
-    if is_named p then later else some index
+    if is_named p then later else Some index
 
 -- "30 as in module order, here also for an opcode or enumerant without a name": the lowest record that is bad in either way
 unfoldable pub check_named : Given → Checked
@@ -225,20 +225,20 @@ said tag op type id os =
 -- the instructions
 abbrev pub sine : List Placed
 sine =
-    said 4 14 none none (narrow 11 0 ∷ narrow 12 1 ∷ [])
-    ∷ said 3 11 none (some 1) (text (ascii "GLSL.std.450") ∷ [])
-    ∷ said 11 22 none (some 2) (narrow 34 32 ∷ [])
-    ∷ said 11 33 none (some 3) (narrow 33 2 ∷ [])
-    ∷ said 11 43 (some 2) (some 4) (narrow 37 0x3F800000 ∷ [])
-    ∷ said 12 54 (some 2) (some 5) (narrow 5 6 ∷ narrow 33 3 ∷ [])
-    ∷ said 14 248 none (some 6) []
-    ∷ said 15 12 (some 2) (some 7) (narrow 33 1 ∷ narrow 35 13 ∷ narrow 33 4 ∷ [])
-    ∷ said 15 254 none none (narrow 33 7 ∷ [])
-    ∷ said 16 56 none none []
+    said 4 14 None None (narrow 11 0 ∷ narrow 12 1 ∷ [])
+    ∷ said 3 11 None (Some 1) (text (ascii "GLSL.std.450") ∷ [])
+    ∷ said 11 22 None (Some 2) (narrow 34 32 ∷ [])
+    ∷ said 11 33 None (Some 3) (narrow 33 2 ∷ [])
+    ∷ said 11 43 (Some 2) (Some 4) (narrow 37 0x3F800000 ∷ [])
+    ∷ said 12 54 (Some 2) (Some 5) (narrow 5 6 ∷ narrow 33 3 ∷ [])
+    ∷ said 14 248 None (Some 6) []
+    ∷ said 15 12 (Some 2) (Some 7) (narrow 33 1 ∷ narrow 35 13 ∷ narrow 33 4 ∷ [])
+    ∷ said 15 254 None None (narrow 33 7 ∷ [])
+    ∷ said 16 56 None None []
     ∷ []
 
 -- each has its names
-pub sine_named : unnamed 1 sine ≡ none
+pub sine_named : unnamed 1 sine ≡ None
 unfolding bits_from bits_of name_of named name_table set_of_kind names_in operand_named is_named unnamed
 sine_named = refl
 

@@ -1,6 +1,6 @@
 -- A grammar's bytes as items, the rules that make it well-formed, and its rows and enumerants.
 use Rattle.std.specs.Prelude.{ℕ, zero, suc, ◌+◌, ◌*◌, Bool, true, false, not, ◌&&◌, ◌||◌, List, [], ◌∷◌, ◌++◌, leb, ltb, eqb, length, get_or, if◌then◌else◌}
-use Rattle.std.proofs.Math.Option.{Option, none, some}
+use Rattle.std.specs.Prelude.{Option, None, Some}
 use Rattle.spec.specs.Base.{implies, has, every}
 use Rattle.spec.specs.Words.{four_at, bits_of}
 use Rattle.spec.specs.Kinds.{is_mask, is_enum, may_be_operand, may_be_parameter, is_result}
@@ -86,17 +86,17 @@ literal_rule op before k q =
 
 -- "Rows 21 and 22, where present, are 47, 34, 34 and 47, 34, all One."
 abbrev pub fixed_row : ℕ → Option (List ℕ)
-fixed_row op = if eqb op 21 then some (47 ∷ 34 ∷ 34 ∷ []) else if eqb op 22 then some (47 ∷ 34 ∷ []) else none
+fixed_row op = if eqb op 21 then Some (47 ∷ 34 ∷ 34 ∷ []) else if eqb op 22 then Some (47 ∷ 34 ∷ []) else None
 
 -- the next operand of such a row is the one that stands at its place
 abbrev pub fixed_next : Option (List ℕ) → List Slot → ℕ → ℕ → Bool
-fixed_next none before k q = true
-fixed_next (some ks) before k q = eqb q 0 && eqb k (get_or ks (length before) 0)
+fixed_next None before k q = true
+fixed_next (Some ks) before k q = eqb q 0 && eqb k (get_or ks (length before) 0)
 
 -- such a row ends where all its operands are there
 abbrev pub fixed_end : Option (List ℕ) → List Slot → Bool
-fixed_end none before = true
-fixed_end (some ks) before = eqb (length before) (length ks)
+fixed_end None before = true
+fixed_end (Some ks) before = eqb (length before) (length ks)
 
 -- the next operand of a row, after those before it
 abbrev pub operand_rule : ℕ → List Slot → ℕ → ℕ → Bool
@@ -256,25 +256,25 @@ well_formed g = leb (length g) 65535 && well_formed_items (items g)
 
 -- the operands of the row with an opcode
 unfoldable pub row_of : ℕ → List Row → Option (List Slot)
-row_of op [] = none
-row_of op (r ∷ rs) = let later = row_of op rs in if eqb r.opcode op then some r.slots else later
+row_of op [] = None
+row_of op (r ∷ rs) = let later = row_of op rs in if eqb r.opcode op then Some r.slots else later
 
 -- the parameters of the enumerant with a kind and a value
 unfoldable pub listed : ℕ → ℕ → List Enumerant → Option (List ℕ)
-listed k v [] = none
+listed k v [] = None
 listed k v (e ∷ es) =
     let later = listed k v es in
-    if eqb e.kind k && eqb e.value v then some e.parameters else later
+    if eqb e.kind k && eqb e.value v then Some e.parameters else later
 
 -- the parameters of two values, where both are listed
 abbrev pub both_listed : Option (List ℕ) → Option (List ℕ) → Option (List ℕ)
-both_listed none b = none
-both_listed (some a) none = none
-both_listed (some a) (some b) = some (a ++ b)
+both_listed None b = None
+both_listed (Some a) None = None
+both_listed (Some a) (Some b) = Some (a ++ b)
 
 -- the parameters of each of some bits, in their order
 unfoldable pub bits_listed : ℕ → List ℕ → List Enumerant → Option (List ℕ)
-bits_listed k [] es = some []
+bits_listed k [] es = Some []
 bits_listed k (b ∷ bs) es = both_listed (listed k b es) (bits_listed k bs es)
 
 -- "A value must be listed. A mask is known when each set bit is listed; zero always is. Parameters follow, for masks lowest bit

@@ -1,6 +1,6 @@
 -- Two grammars joined into one: their rows and enumerants in document 01's layout, those that are in both taken once.
 use Rattle.std.specs.Prelude.{ℕ, ◌+◌, ◌*◌, ◌/◌, ◌%◌, ◌≡◌, refl, Bool, true, false, not, List, [], ◌∷◌, ltb, eqb, length, if◌then◌else◌}
-use Rattle.std.proofs.Math.Option.{Option, none, some}
+use Rattle.std.specs.Prelude.{Option, None, Some}
 use Rattle.spec.specs.declared.Joined.{Joined}
 use Rattle.spec.specs.Base.{same, joined}
 use Rattle.spec.specs.Words.{bytes_of, bits_from, bits_of}
@@ -70,8 +70,8 @@ value_in n = n % 4294967296
 
 -- the piece with a key
 unfoldable pub found : ℕ → List Piece → Option Piece
-found n [] = none
-found n (e ∷ es) = let later = found n es in if eqb (key e) n then some e else later
+found n [] = None
+found n (e ∷ es) = let later = found n es in if eqb (key e) n then Some e else later
 
 -- MERGED
 
@@ -91,13 +91,13 @@ merged (x ∷ xs) ys = put_in x (merged xs ys)
 
 -- is there a piece, and not "equal in every byte"
 unfoldable pub differs : Piece → Option Piece → Bool
-differs x none = false
-differs x (some y) = not (same (piece_bytes x) (piece_bytes y))
+differs x None = false
+differs x (Some y) = not (same (piece_bytes x) (piece_bytes y))
 
 -- the first key of two pieces that differ: the lowest, since the keys of a well-formed grammar rise
 unfoldable pub clash : List Piece → List Piece → Option ℕ
-clash [] ys = none
-clash (x ∷ xs) ys = let later = clash xs ys in if differs x (found (key x) ys) then some (key x) else later
+clash [] ys = None
+clash (x ∷ xs) ys = let later = clash xs ys in if differs x (found (key x) ys) then Some (key x) else later
 
 -- JOINING
 
@@ -123,8 +123,8 @@ put_union u out =
 
 -- "34 with the lowest clashing opcode as value and place 0, or else the lowest clashing kind as place and its value"
 abbrev pub unless_clash : Option ℕ → List ℕ → List ℕ → Joining
-unless_clash (some n) u out = unjoined 34 (kind_in n) (value_in n) out
-unless_clash none u out = put_union u out
+unless_clash (Some n) u out = unjoined 34 (kind_in n) (value_in n) out
+unless_clash None u out = put_union u out
 
 -- "Refusals, in this order: 24 for the first input, 24 for the second, 34 .., 24 when the union breaks a rule, 35 when it does not fit"
 unfoldable pub join : List ℕ → List ℕ → List ℕ → Joining
@@ -158,6 +158,6 @@ unfolding join house union pieces pieces_of body_of piece_bytes key_of found put
 house_clashes out = refl
 
 -- no row of the built-in grammar is the house's, and the two together are well-formed
-house_beside_builtin : (clash (pieces builtin) (pieces house) ≡ none) × (well_formed (union builtin house) ≡ true)
+house_beside_builtin : (clash (pieces builtin) (pieces house) ≡ None) × (well_formed (union builtin house) ≡ true)
 unfolding builtin table house union pieces pieces_of body_of piece_bytes key_of found put_in merged clash differs bytes_of items items_from well_formed well_formed_items rule next rules_from enumerants_of parameters_of parameterless all_flat bits_of bits_from
 house_beside_builtin = (refl, refl)

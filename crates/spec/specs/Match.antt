@@ -1,6 +1,6 @@
 -- Matching: the operands of an instruction against the row of its opcode ("Matching"; the standard, 2.3 and 3).
 use Rattle.std.specs.Prelude.{ℕ, zero, suc, ◌-◌, ◌/◌, ◌%◌, Bool, List, [], ◌∷◌, ◌++◌, eqb, if◌then◌else◌}
-use Rattle.std.proofs.Math.Option.{Option, none, some}
+use Rattle.std.specs.Prelude.{Option, None, Some}
 use Rattle.spec.specs.declared.Limit.TheVariants.{Unlimited, Words}
 use Rattle.spec.specs.Base.{is_in, every}
 use Rattle.spec.specs.Kinds.{is_enum, is_result, may_embed, is_long, is_text}
@@ -17,8 +17,8 @@ pub data Known : Type 0 where
 
 -- "A value must be listed": 10 at its word, with the value, where it is not
 abbrev pub known_or : ℕ → ℕ → Option (List ℕ) → Parse Known
-known_or at v none = refuse_with 10 at v
-known_or at v (some ps) = give (known v ps)
+known_or at v None = refuse_with 10 at v
+known_or at v (Some ps) = give (known v ps)
 
 -- an enumerant's word; "On a spent limit an enumerant read gives the number" 9
 unfoldable pub read_enumerant : Grammar → ℕ → Parse Known
@@ -68,23 +68,23 @@ read_operand g k = if is_enum k then read_enumerant g k >>= with_parameters g k 
 abbrev pub literal_kind : ℕ → ℕ → Option ℕ
 literal_kind width sort =
     if eqb sort 3
-    then (if is_in width (16 ∷ 32 ∷ []) then some 37 else if eqb width 64 then some 38 else none)
-    else (if is_in width (8 ∷ 16 ∷ 32 ∷ []) then some 34 else if eqb width 64 then some 36 else none)
+    then (if is_in width (16 ∷ 32 ∷ []) then Some 37 else if eqb width 64 then Some 38 else None)
+    else (if is_in width (8 ∷ 16 ∷ 32 ∷ []) then Some 34 else if eqb width 64 then Some 36 else None)
 
 -- "unknown type one word"
 abbrev pub literal_kind_of : Option Entry → Option ℕ
-literal_kind_of none = some 34
-literal_kind_of (some (entry id width sort)) = literal_kind width sort
+literal_kind_of None = Some 34
+literal_kind_of (Some (entry id width sort)) = literal_kind width sort
 
 -- a literal as a record of a kind: 12 at the position, before a word is read, where there is none
 unfoldable pub read_literal_as : Option ℕ → Parse Operand
-read_literal_as none = here >>= (λ at. refuse 12 at)
-read_literal_as (some k) = if is_long k then read_long into wide k else read_word into narrow k
+read_literal_as None = here >>= (λ at. refuse 12 at)
+read_literal_as (Some k) = if is_long k then read_long into wide k else read_word into narrow k
 
 -- the entry of an id that is there
 abbrev pub type_of : Option ℕ → List Entry → Option Entry
-type_of none types = none
-type_of (some id) types = entry_of id types
+type_of None types = None
+type_of (Some id) types = entry_of id types
 
 -- `parse_literal`: a literal by the type of an id
 unfoldable pub read_literal : List Entry → Option ℕ → Parse Operand
@@ -107,8 +107,8 @@ embeds (slot k q) = may_embed k
 
 -- 13 for no row, 14 for a row with 39, 48 or 49: "13 and 14 name the place after the number"
 abbrev pub embedded_by : Grammar → ℕ → Option (List Slot) → Parse (List Operand)
-embedded_by g op none = here >>= (λ at. refuse 13 at)
-embedded_by g op (some ss) =
+embedded_by g op None = here >>= (λ at. refuse 13 at)
+embedded_by g op (Some ss) =
     if every embeds ss then read_once g ss into (λ os. narrow 39 op ∷ os) else here >>= (λ at. refuse 14 at)
 
 -- `parse_spec_constant_op`: "the low sixteen bits of the word are looked up"
@@ -127,15 +127,15 @@ pub record Seen : Type 0 where
 
 -- nothing read yet
 abbrev pub nothing_seen : Seen
-nothing_seen = record { result_type = none; result_id = none; operands = [] }
+nothing_seen = record { result_type = None; result_id = None; operands = [] }
 
 -- a result type more
 abbrev pub with_type : Seen → ℕ → Seen
-with_type s w = record { result_type = some w; result_id = s.result_id; operands = s.operands }
+with_type s w = record { result_type = Some w; result_id = s.result_id; operands = s.operands }
 
 -- a result id more
 abbrev pub with_id : Seen → ℕ → Seen
-with_id s w = record { result_type = s.result_type; result_id = some w; operands = s.operands }
+with_id s w = record { result_type = s.result_type; result_id = Some w; operands = s.operands }
 
 -- operands more
 abbrev pub with_operands : Seen → List Operand → Seen
@@ -143,10 +143,10 @@ with_operands s os = record { result_type = s.result_type; result_id = s.result_
 
 -- the id that the first operand holds
 abbrev pub selector : List Operand → Option ℕ
-selector (narrow k v ∷ os) = if eqb k 33 then some v else none
-selector (wide k v ∷ os) = none
-selector (text s ∷ os) = none
-selector [] = none
+selector (narrow k v ∷ os) = if eqb k 33 then Some v else None
+selector (wide k v ∷ os) = None
+selector (text s ∷ os) = None
+selector [] = None
 
 -- kind 49: a literal "by the type of the first operand", then an id
 unfoldable pub read_pair : List Entry → List Operand → Parse (List Operand)
@@ -213,8 +213,8 @@ all_read i = do
 
 -- an opcode without a row is 5, with the opcode; then "operands left to right; words left over"
 abbrev pub read_body : Grammar → List Entry → ℕ → ℕ → ℕ → Option (List Slot) → Parse Instr
-read_body g types at count op none = refuse_with 5 at op
-read_body g types at count op (some ss) = do
+read_body g types at count op None = refuse_with 5 at op
+read_body g types at count op (Some ss) = do
   u ← with_limit (Words (count - 1))
   s ← read_row g types (count - 1) ss nothing_seen
   all_read (instr_of at count op s)

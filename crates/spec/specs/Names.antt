@@ -1,6 +1,6 @@
 -- Names: "opcode and enumerant names as constant tables", and the names of extended instructions.
 use Rattle.std.specs.Prelude.{ℕ, Bool, ◌&&◌, List, [], ◌∷◌, eqb, if◌then◌else◌}
-use Rattle.std.proofs.Math.Option.{Option, none, some}
+use Rattle.std.specs.Prelude.{Option, None, Some}
 use Rattle.spec.specs.NameTable.{Name, name_table}
 
 -- THE SETS: the enumerants of an operand kind are the set of its number, and there are three more
@@ -25,8 +25,8 @@ is_name_of s n x = eqb x.set s && eqb x.number n
 
 -- the text of the first name of a number in a set
 unfoldable pub named : ℕ → ℕ → List Name → Option (List ℕ)
-named s n [] = none
-named s n (x ∷ xs) = let later = named s n xs in if is_name_of s n x then some x.text else later
+named s n [] = None
+named s n (x ∷ xs) = let later = named s n xs in if is_name_of s n x then Some x.text else later
 
 -- the text of a number in a set, where it has a name
 unfoldable pub name_of : ℕ → ℕ → Option (List ℕ)

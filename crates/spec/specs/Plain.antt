@@ -1,7 +1,7 @@
 -- Plain form: nothing in the bytes that the header words and records do not say; and the lowest offset of what breaks it. No operand
 -- stands at offset 0, so 0 is none.
 use Rattle.std.specs.Prelude.{ℕ, ◌+◌, ◌*◌, ◌/◌, ◌%◌, ◌&&◌, List, [], ◌∷◌, ◌++◌, ltb, eqb, length, drop, if◌then◌else◌}
-use Rattle.std.proofs.Math.Option.{Option, none, some}
+use Rattle.std.specs.Prelude.{Option, None, Some}
 use Rattle.spec.specs.Words.{four_at}
 use Rattle.spec.specs.Text.{text_break}
 use Rattle.spec.specs.Records.{Operand, narrow, wide, text, Instr, Placed, operand_size}
@@ -25,8 +25,8 @@ operands_break at (o ∷ os) bs =
 
 -- a result that is there is a word, as an id is
 abbrev pub as_ids : Option ℕ → List Operand
-as_ids none = []
-as_ids (some w) = narrow 33 w ∷ []
+as_ids None = []
+as_ids (Some w) = narrow 33 w ∷ []
 
 -- results and operands in the order of their words
 abbrev pub in_order : Option ℕ → Option ℕ → List Operand → List Operand

@@ -1,6 +1,6 @@
 -- Reading: a position, a limit, and the bytes from the position on ("The decoder is a position and a limit").
 use Rattle.std.specs.Prelude.{ℕ, zero, suc, ◌+◌, ◌*◌, ◌-◌, Bool, false, List, ltb, eqb, length, take, drop, if◌then◌else◌}
-use Rattle.std.proofs.Math.Option.{Option, none, some}
+use Rattle.std.specs.Prelude.{Option, None, Some}
 use Rattle.spec.specs.declared.Limit.{Limit}
 use Rattle.spec.specs.declared.Limit.TheVariants.{Unlimited, Words}
 use Rattle.spec.specs.declared.Refusal.{Refusal}
@@ -121,8 +121,8 @@ past_text n r = reader (r.at + 4 * text_words n) (less r.limit (text_words n)) (
 
 -- a string that ends: 11 at its start where it is not UTF-8, else its words are taken
 abbrev pub text_found : Option (List ℕ) → Parse (List ℕ)
-text_found none r = no_zero r.limit r
-text_found (some s) r = if is_utf8 s then got s (past_text (length s) r) else refuse 11 r.at r
+text_found None r = no_zero r.limit r
+text_found (Some s) r = if is_utf8 s then got s (past_text (length s) r) else refuse 11 r.at r
 
 -- the limit runs past the bytes
 abbrev pub limit_past : Limit → List ℕ → Bool

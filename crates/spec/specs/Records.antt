@@ -1,6 +1,6 @@
 -- An instruction as data, the bytes it is written as, and what it puts into the stores ("Stores and writing").
 use Rattle.std.specs.Prelude.{ℕ, ◌+◌, ◌*◌, ◌/◌, ◌%◌, List, [], ◌∷◌, ◌++◌, map, length, get_or}
-use Rattle.std.proofs.Math.Option.{Option, none, some}
+use Rattle.std.specs.Prelude.{Option, None, Some}
 use Rattle.spec.specs.declared.Fields.{Fields}
 use Rattle.spec.specs.declared.Numbers.{Numbers}
 use Rattle.spec.specs.Base.{or_zero, joined}
@@ -47,8 +47,8 @@ operands_size (o ∷ os) = operand_size o + operands_size os
 
 -- how many words an id takes
 abbrev pub id_size : Option ℕ → ℕ
-id_size none = 0
-id_size (some i) = 1
+id_size None = 0
+id_size (Some i) = 1
 
 -- a 64-bit literal's bytes, the low word first
 abbrev pub long_bytes : ℕ → List ℕ
@@ -62,8 +62,8 @@ operand_bytes (text s) = padded s
 
 -- an id's bytes
 abbrev pub id_bytes : Option ℕ → List ℕ
-id_bytes none = []
-id_bytes (some i) = bytes_of i
+id_bytes None = []
+id_bytes (Some i) = bytes_of i
 
 -- an instruction's bytes: opcode and word count, result type, result id, operands
 unfoldable pub instr_bytes : Instr → List ℕ
@@ -108,10 +108,10 @@ log_from strings (p ∷ ps) =
 
 -- "1 for a result type, 2 for a result id"
 abbrev pub presence : Option ℕ → Option ℕ → ℕ
-presence none none = 0
-presence (some t) none = 1
-presence none (some i) = 2
-presence (some t) (some i) = 3
+presence None None = 0
+presence (Some t) None = 1
+presence None (Some i) = 2
+presence (Some t) (Some i) = 3
 
 -- the fields of an instruction whose operands start there in the log
 unfoldable pub fields_of : ℕ → Placed → Fields

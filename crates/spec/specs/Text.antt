@@ -1,19 +1,19 @@
 -- Strings: where one ends, how many words it takes, and whether its bytes are UTF-8 (the standard, 2.2.1, Literal).
 use Rattle.std.specs.Prelude.{ℕ, zero, suc, ◌+◌, ◌*◌, ◌-◌, ◌/◌, ◌%◌, Bool, true, false, List, [], ◌∷◌, ◌++◌, eqb, length, take, drop, replicate, if◌then◌else◌}
-use Rattle.std.proofs.Math.Option.{Option, none, some}
+use Rattle.std.specs.Prelude.{Option, None, Some}
 use Rattle.spec.specs.Base.{within}
 
 -- WHERE A STRING ENDS
 
 -- a byte before others, where they are there
 abbrev pub cons_in : ℕ → Option (List ℕ) → Option (List ℕ)
-cons_in x none = none
-cons_in x (some xs) = some (x ∷ xs)
+cons_in x None = None
+cons_in x (Some xs) = Some (x ∷ xs)
 
 -- "A string ends at the first zero byte": the bytes before it
 unfoldable pub until_zero : List ℕ → Option (List ℕ)
-until_zero [] = none
-until_zero (b ∷ bs) = let more = until_zero bs in if eqb b 0 then some [] else cons_in b more
+until_zero [] = None
+until_zero (b ∷ bs) = let more = until_zero bs in if eqb b 0 then Some [] else cons_in b more
 
 -- "and takes (length / 4, rounded down) + 1 words"
 abbrev pub text_words : ℕ → ℕ
@@ -61,20 +61,20 @@ pub data Due : Type 0 where
 
 -- what a first byte asks for, where a row has it
 unfoldable pub lead_of : ℕ → List Utf8Row → Option Due
-lead_of b [] = none
+lead_of b [] = None
 lead_of b (lead from to n lo hi ∷ rows) =
     let later = lead_of b rows in
-    if within from b to then some (due n lo hi) else later
+    if within from b to then Some (due n lo hi) else later
 
 -- what is due after a byte, or nothing where the byte may not stand here
 unfoldable pub due_after : Due → ℕ → Option Due
 due_after (due zero lo hi) b = lead_of b utf8_table
-due_after (due (suc n) lo hi) b = if within lo b hi then some (due n 0x80 0xbf) else none
+due_after (due (suc n) lo hi) b = if within lo b hi then Some (due n 0x80 0xbf) else None
 
 -- go on where a byte may stand
 abbrev pub on_due : Option Due → (Due → Bool) → Bool
-on_due none f = false
-on_due (some d) f = f d
+on_due None f = false
+on_due (Some d) f = f d
 
 -- the bytes are well-formed where so much is due
 unfoldable pub utf8_from : Due → List ℕ → Bool

@@ -1,6 +1,6 @@
 -- The types of ids, as `TypeTracker::track` keeps them.
 use Rattle.std.specs.Prelude.{ℕ, Bool, List, [], ◌∷◌, eqb, if◌then◌else◌}
-use Rattle.std.proofs.Math.Option.{Option, none, some}
+use Rattle.std.specs.Prelude.{Option, None, Some}
 use Rattle.spec.specs.Base.{is_in}
 use Rattle.spec.specs.Records.{Operand, narrow, wide, text, Instr, Entry, entry}
 
@@ -15,8 +15,8 @@ is_type op = is_in op tracked_types
 
 -- `resolve`: the entry of an id
 unfoldable pub entry_of : ℕ → List Entry → Option Entry
-entry_of i [] = none
-entry_of i (entry id w s ∷ es) = let later = entry_of i es in if eqb id i then some (entry id w s) else later
+entry_of i [] = None
+entry_of i (entry id w s ∷ es) = let later = entry_of i es in if eqb id i then Some (entry id w s) else later
 
 -- "The last definition of an id holds, in the same entry"; a new id's entry comes last
 unfoldable pub define : ℕ → ℕ → ℕ → List Entry → List Entry
@@ -27,20 +27,20 @@ define i w s (entry id x y ∷ es) =
 
 -- the number of an operand that is a LiteralInt32
 abbrev pub literal_int : Operand → Option ℕ
-literal_int (narrow k v) = if eqb k 34 then some v else none
-literal_int (wide k v) = none
-literal_int (text s) = none
+literal_int (narrow k v) = if eqb k 34 then Some v else None
+literal_int (wide k v) = None
+literal_int (text s) = None
 
 -- an integer type: width, and sign 1 for signed; "an operand record that is no LiteralInt32 sets no width"
 abbrev pub define_int : ℕ → Option ℕ → Option ℕ → List Entry → List Entry
-define_int i (some w) (some sign) es = define i w (if eqb sign 1 then 2 else 1) es
-define_int i (some w) none es = es
-define_int i none sign es = es
+define_int i (Some w) (Some sign) es = define i w (if eqb sign 1 then 2 else 1) es
+define_int i (Some w) None es = es
+define_int i None sign es = es
 
 -- a float type: width
 abbrev pub define_float : ℕ → Option ℕ → List Entry → List Entry
-define_float i (some w) es = define i w 3 es
-define_float i none es = es
+define_float i (Some w) es = define i w 3 es
+define_float i None es = es
 
 -- OpTypeInt: its first two operands
 abbrev pub track_int : ℕ → List Operand → List Entry → List Entry
@@ -59,18 +59,18 @@ track_type op i os es = if eqb op 21 then track_int i os es else if eqb op 22 th
 
 -- a result with the entry of its result type
 abbrev pub inherit : ℕ → Option Entry → List Entry → List Entry
-inherit i none es = es
-inherit i (some (entry id w s)) es = define i w s es
+inherit i None es = es
+inherit i (Some (entry id w s)) es = define i w s es
 
 -- a result that is no type: its result type's entry, where it has a result type that is tracked
 abbrev pub track_value : ℕ → Option ℕ → List Entry → List Entry
-track_value i none es = es
-track_value i (some t) es = inherit i (entry_of t es) es
+track_value i None es = es
+track_value i (Some t) es = inherit i (entry_of t es) es
 
 -- the entries after a result, by opcode, result type and operands
 abbrev pub track_result : ℕ → Option ℕ → Option ℕ → List Operand → List Entry → List Entry
-track_result op t none os es = es
-track_result op t (some i) os es = if is_type op then track_type op i os es else track_value i t es
+track_result op t None os es = es
+track_result op t (Some i) os es = if is_type op then track_type op i os es else track_value i t es
 
 -- the entries after an instruction
 unfoldable pub track : Instr → List Entry → List Entry

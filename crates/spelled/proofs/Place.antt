@@ -81,17 +81,17 @@ module _ {out₀ : List ℕ} {at₀ : ℕ} {all rest : List Placed} {at : ℕ} {
   pub going_ends : rest ≡ [] → Wrote out₀ at₀ all at out
   going_ends e = wrote_as g.acc all (sym (g.whole ∙ ap (λ (z : List Placed). g.acc ++ z) e ∙ append-nil g.acc)) g.wrote
 
-  module _ (some rest' : List Placed) (e : rest ≡ some ++ rest') where
+  module _ (Some rest' : List Placed) (e : rest ≡ Some ++ rest') where
     -- the next after those before
-    split : all ≡ (g.acc ++ some) ++ rest'
-    split = g.whole ∙ ap (λ (z : List Placed). g.acc ++ z) e ∙ sym (append_assoc g.acc some rest')
+    split : all ≡ (g.acc ++ Some) ++ rest'
+    split = g.whole ∙ ap (λ (z : List Placed). g.acc ++ z) e ∙ sym (append_assoc g.acc Some rest')
 
     -- there is room for the next where it is written
-    pub going_room : Room out at some
+    pub going_room : Room out at Some
     going_room =
-        let more = room_first (g.acc ++ some) rest' (room_as all ((g.acc ++ some) ++ rest') split g.room) in
-        room_next g.acc some more g.wrote
+        let more = room_first (g.acc ++ Some) rest' (room_as all ((g.acc ++ Some) ++ rest') split g.room) in
+        room_next g.acc Some more g.wrote
 
     -- the next is written
-    pub going_on : {at' : ℕ} {out' : List ℕ} → Wrote out at some at' out' → Going out₀ at₀ all rest' at' out'
-    going_on w = record { acc = g.acc ++ some; whole = split; room = g.room; wrote = wrote_both g.acc some g.wrote w }
+    pub going_on : {at' : ℕ} {out' : List ℕ} → Wrote out at Some at' out' → Going out₀ at₀ all rest' at' out'
+    going_on w = record { acc = g.acc ++ Some; whole = split; room = g.room; wrote = wrote_both g.acc Some g.wrote w }

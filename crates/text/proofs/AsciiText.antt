@@ -3,7 +3,7 @@ use Prim.Native.Nat.{ℕ, zero, suc, ◌+◌, ◌<◌, ◌≤◌}
 use mathlib.Core.Path.{◌≡◌, refl, ap, sym, subst, ◌∙◌}
 use mathlib.Core.Bool.{Bool, true, not, ◌&&◌, and_assoc, and-true}
 use mathlib.Core.List.{List, [], ◌∷◌}
-use mathlib.Core.Option.{Option, some}
+use Rattle.std.specs.Prelude.{Option, Some}
 use native.Mathlib.Omega.{arith}
 use borrow.Author.Tests.{le-leb, ne_eqb}
 use lib.Dec.{T, leb, ltb, leb→le, ltb→lt, eqb}
@@ -50,10 +50,10 @@ no_zero_lem (b ∷ s) h =
     ap (λ (t : Bool). not t && every (λ x. not (eqb x 0)) s) (ne_eqb b 0 (λ e. omega (arith, u.0))) ∙ no_zero_lem s u.2
 
 -- a byte of ASCII is a whole character
-pub whole_byte : (b : ℕ) → b < 128 → due_after (due 0 128 191) b ≡ some (due 0 128 191)
+pub whole_byte : (b : ℕ) → b < 128 → due_after (due 0 128 191) b ≡ Some (due 0 128 191)
 unfolding due_after lead_of
 whole_byte b h =
-    ap (λ (t : Bool). if t then some (due 0 128 191) else lead_of b (drop 1 utf8_table))
+    ap (λ (t : Bool). if t then Some (due 0 128 191) else lead_of b (drop 1 utf8_table))
     (ap (λ (t : Bool). t && leb b 127) (le-leb 0 b (omega arith)) ∙ le-leb b 127 (omega arith))
 
 -- they are well-formed

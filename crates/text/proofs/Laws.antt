@@ -3,7 +3,7 @@ use Prim.Native.Nat.{ℕ, ◌+◌, ◌<◌, ◌≤◌}
 use mathlib.Core.Path.{◌≡◌, refl, ap, sym, ◌∙◌}
 use mathlib.Core.Bool.{Bool, true, false}
 use mathlib.Core.List.{List, [], ◌∷◌}
-use mathlib.Core.Option.{Option, none, some}
+use Rattle.std.specs.Prelude.{Option, None, Some}
 use native.Mathlib.Nat.{zero-add, add-zero}
 use native.Mathlib.Numerals.{add-one}
 use native.Mathlib.Omega.{arith}
@@ -20,15 +20,15 @@ use Rattle.text.specs.Zero.{zero_after, zero_in}
 
 -- a string that ends is the front of the bytes, and shorter
 unfoldable Front : List ℕ → Option (List ℕ) → Type 0
-Front s none = Unit
-Front s (some bs) = (length bs < length s) × (bs ≡ take (length bs) s)
+Front s None = Unit
+Front s (Some bs) = (length bs < length s) × (bs ≡ take (length bs) s)
 
 -- a byte before others, by whether it is zero and what string they hold
 front_cons : (b : ℕ) (s : List ℕ) (z : Bool) (o : Option (List ℕ)) → eqb b 0 ≡ z → until_zero s ≡ o → Front s o → Front (b ∷ s) (until_zero (b ∷ s))
 unfolding Front until_zero
 front_cons b s true o e f h = simp e (omega arith, refl)
-front_cons b s false none e f h = simp (e, f) tt
-front_cons b s false (some bs) e f h = simp (e, f) (omega arith, ap (λ (l : List ℕ). b ∷ l) h.1)
+front_cons b s false None e f h = simp (e, f) tt
+front_cons b s false (Some bs) e f h = simp (e, f) (omega arith, ap (λ (l : List ℕ). b ∷ l) h.1)
 
 -- the bytes before the first zero byte are the front
 front : (s : List ℕ) → Front s (until_zero s)
@@ -37,24 +37,24 @@ front [] = tt
 front (b ∷ s) = front_cons b s (eqb b 0) (until_zero s) refl refl (front s)
 
 -- the string before a zero byte found at i
-at_by : (s : List ℕ) (i : ℕ) (o : Option (List ℕ)) → Front s o → At i ≡ zero_after o → (i < length s) × (o ≡ some (take i s))
+at_by : (s : List ℕ) (i : ℕ) (o : Option (List ℕ)) → Front s o → At i ≡ zero_after o → (i < length s) × (o ≡ Some (take i s))
 unfolding Front zero_after
-at_by s i none h e = let z : ◌≡◌ {A = ℕ} 0 1 = cc in absurd (omega arith)
-at_by s i (some bs) h e = let q : i ≡ length bs = cc in rw q (h.0, ap some h.1)
+at_by s i None h e = let z : ◌≡◌ {A = ℕ} 0 1 = cc in absurd (omega arith)
+at_by s i (Some bs) h e = let q : i ≡ length bs = cc in rw q (h.0, ap Some h.1)
 
 -- a zero byte found at i is within the bytes, and the string is the i bytes before it
-pub zero_at : (s : List ℕ) (i : ℕ) → At i ≡ zero_in s → (i < length s) × (until_zero s ≡ some (take i s))
+pub zero_at : (s : List ℕ) (i : ℕ) → At i ≡ zero_in s → (i < length s) × (until_zero s ≡ Some (take i s))
 unfolding zero_in
 zero_at s i e = at_by s i (until_zero s) (front s) e
 
 -- no string before a zero byte that is not found
-nothing_by : (o : Option (List ℕ)) → Nothing ≡ zero_after o → o ≡ none
+nothing_by : (o : Option (List ℕ)) → Nothing ≡ zero_after o → o ≡ None
 unfolding zero_after
-nothing_by none e = refl
-nothing_by (some bs) e = let z : ◌≡◌ {A = ℕ} 0 1 = cc in absurd (omega arith)
+nothing_by None e = refl
+nothing_by (Some bs) e = let z : ◌≡◌ {A = ℕ} 0 1 = cc in absurd (omega arith)
 
 -- where no zero byte is found, no string ends
-pub zero_nothing : (s : List ℕ) → Nothing ≡ zero_in s → until_zero s ≡ none
+pub zero_nothing : (s : List ℕ) → Nothing ≡ zero_in s → until_zero s ≡ None
 unfolding zero_in
 zero_nothing s e = nothing_by (until_zero s) e
 
@@ -66,20 +66,20 @@ rest s i h = rw (add-one, drop-cons s i 0)
 
 -- the answer where i bytes are passed and this is the string of the rest
 unfoldable pub found_from : ℕ → Option (List ℕ) → Found
-found_from i none = Nothing
-found_from i (some bs) = At (i + length bs)
+found_from i None = Nothing
+found_from i (Some bs) = At (i + length bs)
 
 -- no byte is passed at first
 from_start : (o : Option (List ℕ)) → zero_after o ≡ found_from 0 o
 unfolding zero_after found_from
-from_start none = refl
-from_start (some bs) = simp zero-add
+from_start None = refl
+from_start (Some bs) = simp zero-add
 
 -- a byte that is not zero is passed
 from_next : (i b : ℕ) (s : List ℕ) (o : Option (List ℕ)) → (b ≡ 0 → ⊥) → until_zero s ≡ o → found_from i (until_zero (b ∷ s)) ≡ found_from (i + 1) o
 unfolding found_from until_zero
-from_next i b s none z e = simp (ne_eqb b 0 z, e)
-from_next i b s (some bs) z e = simp (ne_eqb b 0 z, e) (ap At (omega arith))
+from_next i b s None z e = simp (ne_eqb b 0 z, e)
+from_next i b s (Some bs) z e = simp (ne_eqb b 0 z, e) (ap At (omega arith))
 
 -- at i, the answer is that of the rest
 pub record Searched (s : List ℕ) (i : ℕ) : Type 0 where

@@ -3,7 +3,7 @@ use Prim.Native.Nat.{ℕ, zero, suc, ◌+◌, ◌-◌, ◌<◌, ◌≤◌}
 use mathlib.Core.Path.{◌≡◌, refl, ap, sym, ◌∙◌}
 use mathlib.Core.Bool.{Bool, true, false}
 use mathlib.Core.List.{List, [], ◌∷◌, map}
-use mathlib.Core.Option.{Option, none, some}
+use Rattle.std.specs.Prelude.{Option, None, Some}
 use native.Mathlib.Omega.{arith}
 use native.Mathlib.Numerals.{add-one}
 use borrow.Author.Tests.{ne_eqb}
@@ -29,7 +29,7 @@ number rows i k = get_or (get_or rows i []) k 0
 row_here : (b : ℕ) (rows : List Utf8Row) (i : ℕ) → i < length rows → (t : Bool)
     → within (number (map row_of rows) i 0) b (number (map row_of rows) i 1) ≡ t
     → lead_of b (drop i rows)
-    ≡ (if t then some (due (number (map row_of rows) i 2) (number (map row_of rows) i 3) (number (map row_of rows) i 4))
+    ≡ (if t then Some (due (number (map row_of rows) i 2) (number (map row_of rows) i 3) (number (map row_of rows) i 4))
     else lead_of b (drop (suc i) rows))
 unfolding lead_of
 row_here b [] i h t e = absurd (omega arith)
@@ -48,7 +48,7 @@ module _ {b i : ℕ} (w : Walked b i) (rows : List (List ℕ)) (e : rows ≡ utf
   -- the row at i decides
   here_row : i < 9 → (t : Bool) → within (number rows i 0) b (number rows i 1) ≡ t
       → lead_of b utf8_table
-      ≡ (if t then some (due (number rows i 2) (number rows i 3) (number rows i 4)) else lead_of b (drop (suc i) utf8_table))
+      ≡ (if t then Some (due (number rows i 2) (number rows i 3) (number rows i 4)) else lead_of b (drop (suc i) utf8_table))
   unfolding utf8_rows
   here_row h t f = rw e (w.answer ∙ row_here b utf8_table i h t (rw e at f))
 
@@ -76,26 +76,26 @@ due_first zero lo hi b z = refl
 due_first (suc n) lo hi b z = absurd (omega arith)
 
 -- where something is due, a byte is to be in range, and one less is due
-due_next : (n lo hi b : ℕ) (t : Bool) → (n ≡ 0 → ⊥) → within lo b hi ≡ t → due_after (due n lo hi) b ≡ (if t then some (due (n - 1) 128 191) else none)
+due_next : (n lo hi b : ℕ) (t : Bool) → (n ≡ 0 → ⊥) → within lo b hi ≡ t → due_after (due n lo hi) b ≡ (if t then Some (due (n - 1) 128 191) else None)
 unfolding due_after
 due_next zero lo hi b t z e = absurd (z refl)
 due_next (suc n) lo hi b t z e =
     let q : n ≡ suc n - 1 = omega arith in
-    simp e (ap (λ (m : ℕ). if t then some (due m 128 191) else none) q)
+    simp e (ap (λ (m : ℕ). if t then Some (due m 128 191) else None) q)
 
 -- where the answer is that more is due, so much is due
-step_more : (o : Option Due) (p : Pending) → step_to o ≡ More p → o ≡ some (due_of p)
+step_more : (o : Option Due) (p : Pending) → step_to o ≡ More p → o ≡ Some (due_of p)
 unfolding step_to
-step_more none p e = let z : ◌≡◌ {A = ℕ} 0 1 = cc in absurd (omega arith)
-step_more (some (due n lo hi)) p e =
+step_more None p e = let z : ◌≡◌ {A = ℕ} 0 1 = cc in absurd (omega arith)
+step_more (Some (due n lo hi)) p e =
     let q : record { left = n; low = lo; high = hi } ≡ p = cc in
-    ap (λ (v : Pending). some (due_of v)) q
+    ap (λ (v : Pending). Some (due_of v)) q
 
 -- where the answer is that the byte may not stand, it may not
-step_bad : (o : Option Due) → step_to o ≡ Bad → o ≡ none
+step_bad : (o : Option Due) → step_to o ≡ Bad → o ≡ None
 unfolding step_to
-step_bad none e = refl
-step_bad (some (due n lo hi)) e = let z : ◌≡◌ {A = ℕ} 0 1 = cc in absurd (omega arith)
+step_bad None e = refl
+step_bad (Some (due n lo hi)) e = let z : ◌≡◌ {A = ℕ} 0 1 = cc in absurd (omega arith)
 
 -- HOW THE LOOP GOES
 
@@ -144,29 +144,29 @@ module _ {s : List ℕ} {p : Pending} {i : ℕ} (r : Tested s p i) where
           let q : get_or s i 0 ≤ 127 = rw e at g in
           record {
             answer =
-                here (some (due 0 128 191)) (leads ∙ whole_byte (get_or s i 0) (omega (arith, q)))
+                here (Some (due 0 128 191)) (leads ∙ whole_byte (get_or s i 0) (omega (arith, q)))
                 ∙ idle p.left p.low p.high z (drop (i + 1) s);
           }
 
       -- past a first byte after which so much is due
       pub test_leads : (x : Step) (q : Pending) → x ≡ first_of (get_or s i 0) → x ≡ More q → Tested s q (i + 1)
       unfolding first_of
-      test_leads x q e f = record { answer = here (some (due_of q)) (leads ∙ step_more _ q (sym e ∙ f)) }
+      test_leads x q e f = record { answer = here (Some (due_of q)) (leads ∙ step_more _ q (sym e ∙ f)) }
 
       -- at a first byte that may not stand
       pub test_fails : (x : Step) → x ≡ first_of (get_or s i 0) → x ≡ Bad → false ≡ is_utf8 s
       unfolding first_of
-      test_fails x e f = sym (here none (leads ∙ step_bad _ (sym e ∙ f)))
+      test_fails x e f = sym (here None (leads ∙ step_bad _ (sym e ∙ f)))
 
     module _ (z : p.left ≡ 0 → ⊥) where
       -- where something is due, the range decides
-      follows : (t : Bool) → within p.low (get_or s i 0) p.high ≡ t → due_after (due_of p) (get_or s i 0) ≡ (if t then some (due (p.left - 1) 128 191) else none)
+      follows : (t : Bool) → within p.low (get_or s i 0) p.high ≡ t → due_after (due_of p) (get_or s i 0) ≡ (if t then Some (due (p.left - 1) 128 191) else None)
       follows t e = due_next p.left p.low p.high (get_or s i 0) t z e
 
       -- past a byte in the range
       pub test_goes_on : within p.low (get_or s i 0) p.high ≡ true → Tested s (record { left = p.left - 1; low = 128; high = 191 }) (i + 1)
-      test_goes_on e = record { answer = here (some (due (p.left - 1) 128 191)) (follows true e) }
+      test_goes_on e = record { answer = here (Some (due (p.left - 1) 128 191)) (follows true e) }
 
       -- at a byte out of it
       pub test_stops : within p.low (get_or s i 0) p.high ≡ false → false ≡ is_utf8 s
-      test_stops e = sym (here none (follows false e))
+      test_stops e = sym (here None (follows false e))

@@ -1,6 +1,6 @@
 -- The rows of the UTF-8 test, and what it answers to the first byte of a character, by the definitions of what is due.
 use Rattle.std.specs.Prelude.{ℕ, List, [], ◌∷◌, map}
-use Rattle.std.proofs.Math.Option.{Option, none, some}
+use Rattle.std.specs.Prelude.{Option, None, Some}
 use Rattle.spec.specs.Text.{Utf8Row, lead, Due, due, utf8_table, lead_of}
 use Rattle.text.specs.declared.Pending.{Pending}
 use Rattle.text.specs.declared.Step.{Step}
@@ -20,8 +20,8 @@ due_of p = due p.left p.low p.high
 
 -- the answer for what is due next
 unfoldable pub step_to : Option Due → Step
-step_to none = Bad
-step_to (some (due n a b)) = More (record { left = n; low = a; high = b })
+step_to None = Bad
+step_to (Some (due n a b)) = More (record { left = n; low = a; high = b })
 
 -- the answer to the first byte of a character
 unfoldable pub first_of : ℕ → Step

@@ -2,7 +2,7 @@
 use Prim.Native.Nat.{ℕ, ◌+◌, ◌*◌, ◌≤◌}
 use mathlib.Core.Bool.{Bool, true, false}
 use mathlib.Core.List.{List, [], ◌∷◌}
-use mathlib.Core.Option.{Option, none, some}
+use Rattle.std.specs.Prelude.{Option, None, Some}
 use native.Mathlib.Omega.{arith}
 use lib.Dec.{leb, eqb}
 use lib.ListN.{length}
@@ -42,24 +42,24 @@ grown_define i w s (entry id x y ∷ es) =
 
 -- an integer type
 grown_int : (i : ℕ) (a b : Option ℕ) (es : List Entry) → Grown es (define_int i a b es)
-grown_int i (some w) (some sign) es = grown_define i w (if eqb sign 1 then 2 else 1) es
-grown_int i (some w) none es = grown_same es
-grown_int i none b es = grown_same es
+grown_int i (Some w) (Some sign) es = grown_define i w (if eqb sign 1 then 2 else 1) es
+grown_int i (Some w) None es = grown_same es
+grown_int i None b es = grown_same es
 
 -- a float type
 grown_float : (i : ℕ) (a : Option ℕ) (es : List Entry) → Grown es (define_float i a es)
-grown_float i (some w) es = grown_define i w 3 es
-grown_float i none es = grown_same es
+grown_float i (Some w) es = grown_define i w 3 es
+grown_float i None es = grown_same es
 
 -- a value that inherits an entry
 grown_inherit : (i : ℕ) (e : Option Entry) (es : List Entry) → Grown es (inherit i e es)
-grown_inherit i none es = grown_same es
-grown_inherit i (some (entry id w s)) es = grown_define i w s es
+grown_inherit i None es = grown_same es
+grown_inherit i (Some (entry id w s)) es = grown_define i w s es
 
 -- a value
 grown_value : (i : ℕ) (t : Option ℕ) (es : List Entry) → Grown es (track_value i t es)
-grown_value i none es = grown_same es
-grown_value i (some t) es = grown_inherit i (entry_of t es) es
+grown_value i None es = grown_same es
+grown_value i (Some t) es = grown_inherit i (entry_of t es) es
 
 -- a type
 grown_type : (op i count : ℕ) (a b : Option ℕ) (es : List Entry) → Grown es (type_of op i count a b es)
@@ -73,8 +73,8 @@ grown_type op i count a b es =
 -- tracking adds an entry at most, and takes none away
 pub track_grows : (op : ℕ) (t rid : Option ℕ) (count : ℕ) (a b : Option ℕ) (es : List Entry) → Grown es (track_of op t rid count a b es)
 unfolding track_of
-track_grows op t none count a b es = grown_same es
-track_grows op t (some i) count a b es =
+track_grows op t None count a b es = grown_same es
+track_grows op t (Some i) count a b es =
     grown_if es (type_of op i count a b es) (track_value i t es) (is_type op) (grown_type op i count a b es) (grown_value i t es)
 
 -- so it does by what is told of an instruction

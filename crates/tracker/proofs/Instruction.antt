@@ -2,7 +2,7 @@
 use Prim.Native.Nat.{ℕ}
 use mathlib.Core.Path.{◌≡◌, refl, ap, subst}
 use mathlib.Core.List.{List, [], ◌∷◌}
-use mathlib.Core.Option.{Option, none, some}
+use Rattle.std.specs.Prelude.{Option, None, Some}
 use native.Mathlib.Omega.{arith}
 use lib.ListN.{length}
 use borrow.Author.Tests.{le-leb, lt-leb}
@@ -36,8 +36,8 @@ module _ (i count : ℕ) (a b : Option ℕ) (es : List Entry) where
 as_result : (op : ℕ) (t rid : Option ℕ) (count : ℕ) (a b : Option ℕ) (es : List Entry) (os : List Operand) → length os ≡ count
     → Literals os a b → track_of op t rid count a b es ≡ track_result op t rid os es
 unfolding track_of
-as_result op t none count a b es os h l = refl
-as_result op t (some i) count a b es os h l = ap (λ (z : List Entry). if is_type op then z else track_value i t es) (as_type i count a b es op os h l)
+as_result op t None count a b es os h l = refl
+as_result op t (Some i) count a b es os h l = ap (λ (z : List Entry). if is_type op then z else track_value i t es) (as_type i count a b es op os h l)
 
 -- an instruction with so many operands, whose first two have these literal numbers, is tracked so
 pub track_as : (i : Instr) (count : ℕ) (a b : Option ℕ) (es : List Entry) → length i.operands ≡ count → Literals i.operands a b
@@ -48,8 +48,8 @@ track_as i count a b es h l = as_result i.opcode i.result_type i.result_id count
 -- operands have some literal numbers
 literals_own : (os : List Operand) → (a : Option ℕ) × (b : Option ℕ) × Literals os a b
 unfolding Literals
-literals_own [] = (none, none, tt)
-literals_own (x ∷ []) = (literal_int x, none, refl)
+literals_own [] = (None, None, tt)
+literals_own (x ∷ []) = (literal_int x, None, refl)
 literals_own (x ∷ y ∷ os) = (literal_int x, literal_int y, (refl, refl))
 
 -- an instruction adds an entry at most, and takes none away

@@ -2,7 +2,7 @@
 use Prim.Native.Nat.{ℕ, suc}
 use mathlib.Core.Path.{◌≡◌, refl, ap, sym, subst, ◌∙◌}
 use mathlib.Core.List.{List, [], ◌∷◌}
-use mathlib.Core.Option.{none, some}
+use Rattle.std.specs.Prelude.{None, Some}
 use native.Mathlib.Omega.{arith}
 use borrow.Author.Tests.{ne_eqb}
 use types.Run.{OneOf, miss}
@@ -69,12 +69,12 @@ others =
     0 ∷ 1 ∷ 2 ∷ 3 ∷ 4 ∷ 5 ∷ 6 ∷ 7 ∷ 8 ∷ 9 ∷ 10 ∷ 11 ∷ 12 ∷ 13 ∷ 14 ∷ 15 ∷ 16 ∷ 17 ∷ 18 ∷ 19 ∷ 20 ∷ 21 ∷ 22 ∷ 23 ∷ 24 ∷ 25 ∷ 26 ∷ 27 ∷ 28 ∷ 29 ∷ 30 ∷ 31 ∷ 32 ∷ 34 ∷ 35 ∷ 36 ∷ 37 ∷ 38 ∷ 39 ∷ 40 ∷ 41 ∷ 42 ∷ 43 ∷ 44 ∷ []
 
 -- a LiteralInt32 has its number
-pub literal_there : (o : Operand) (p : Parts) → parts_of o ≡ p → (v : ℕ) → o ≡ LiteralInt32 v → some v ≡ literal_of p
+pub literal_there : (o : Operand) (p : Parts) → parts_of o ≡ p → (v : ℕ) → o ≡ LiteralInt32 v → Some v ≡ literal_of p
 unfolding literal_of parts_of
 literal_there o p q v e = ap literal_of (sym (ap parts_of e) ∙ q)
 
 -- no other arm has one
-pub literal_missing : (o : Operand) (p : Parts) → parts_of o ≡ p → OneOf others (tag_of the.the_type o) → none ≡ literal_of p
+pub literal_missing : (o : Operand) (p : Parts) → parts_of o ≡ p → OneOf others (tag_of the.the_type o) → None ≡ literal_of p
 unfolding literal_of
 literal_missing o p q h =
     let other : p.kind ≡ 34 → ⊥ =

@@ -3,7 +3,7 @@ use Prim.Native.Nat.{ℕ, ◌*◌, ◌<◌, ◌≤◌}
 use mathlib.Core.Path.{◌≡◌, refl, ap, sym, ◌∙◌}
 use mathlib.Core.Bool.{Bool, true, false}
 use mathlib.Core.List.{List}
-use mathlib.Core.Option.{Option, none, some}
+use Rattle.std.specs.Prelude.{Option, None, Some}
 use native.Mathlib.Omega.{arith}
 use lib.Dec.{eqb}
 use lib.ListN.{length}
@@ -30,17 +30,17 @@ module _ (count : ℕ) (a b : Option ℕ) where
 
   module _ (h : 2 ≤ count) where
     -- "an operand record that is no LiteralInt32 sets no width"
-    pub int_no_width : none ≡ a → (i : ℕ) (es : List Entry) → defined i Unknown es ≡ int_of i count a b es
+    pub int_no_width : None ≡ a → (i : ℕ) (es : List Entry) → defined i Unknown es ≡ int_of i count a b es
     unfolding defined int_of
     int_no_width e i es = simp (le-leb 2 count h, sym e)
 
-    module _ (w : ℕ) (e : some w ≡ a) where
+    module _ (w : ℕ) (e : Some w ≡ a) where
       -- nor does a sign that is none
-      pub int_no_sign : none ≡ b → (i : ℕ) (es : List Entry) → defined i Unknown es ≡ int_of i count a b es
+      pub int_no_sign : None ≡ b → (i : ℕ) (es : List Entry) → defined i Unknown es ≡ int_of i count a b es
       unfolding defined int_of
       int_no_sign f i es = simp (le-leb 2 count h, sym e, sym f)
 
-      module _ (sign : ℕ) (f : some sign ≡ b) where
+      module _ (sign : ℕ) (f : Some sign ≡ b) where
         -- a width and a sign
         int_defined : (i : ℕ) (es : List Entry) → defined i («Type» w (if eqb sign 1 then 2 else 1)) es ≡ int_of i count a b es
         unfolding defined int_of
@@ -64,12 +64,12 @@ module _ (count : ℕ) (a : Option ℕ) where
 
   module _ (h : 1 ≤ count) where
     -- "an operand record that is no LiteralInt32 sets no width"
-    pub float_no_width : none ≡ a → (i : ℕ) (es : List Entry) → defined i Unknown es ≡ float_of i count a es
+    pub float_no_width : None ≡ a → (i : ℕ) (es : List Entry) → defined i Unknown es ≡ float_of i count a es
     unfolding defined float_of
     float_no_width e i es = simp (le-leb 1 count h, sym e)
 
     -- a width
-    pub float_defined : (w : ℕ) → some w ≡ a → (i : ℕ) (es : List Entry) → defined i («Type» w 3) es ≡ float_of i count a es
+    pub float_defined : (w : ℕ) → Some w ≡ a → (i : ℕ) (es : List Entry) → defined i («Type» w 3) es ≡ float_of i count a es
     unfolding defined float_of
     float_defined w e i es = simp (le-leb 1 count h, sym e)
 
@@ -116,25 +116,25 @@ module _ (x : Id) (i : ℕ) (e : x ≡ Is i) {n : ℕ} {l : List ℕ} where
 -- the type of what is known of an id, where it is there, is what a value inherits
 value_known : (t : Option ℕ) (es : List Entry) (i : ℕ) → defined i (known_of t es) es ≡ track_value i t es
 unfolding defined known_of resolved_by
-value_known none es i = refl
-value_known (some t) es i = by (entry_of t es)
+value_known None es i = refl
+value_known (Some t) es i = by (entry_of t es)
   where
     by : (x : Option Entry) → defined i (resolved_by x) es ≡ inherit i x es
-    by none = refl
-    by (some (entry id w s)) = refl
+    by None = refl
+    by (Some (entry id w s)) = refl
 
 module _ (t : Told) where
   module _ (y : Bool) (p : y ≡ is_type t.opcode) where
     -- a result that is a type
     pub result_type_lem : y ≡ true → (r known : Resolved)
         → ((i : ℕ) (es : List Entry) → defined i r es ≡ type_of t.opcode i t.operands (literal_of t.first) (literal_of t.second) es)
-        → (es : List Entry) → known ≡ known_of (id_is t.rtype) es → (i : ℕ) → defined i r es ≡ told_with t (some i) es
+        → (es : List Entry) → known ≡ known_of (id_is t.rtype) es → (i : ℕ) → defined i r es ≡ told_with t (Some i) es
     unfolding told_with track_of
     result_type_lem q r known h es k i = simp (sym p ∙ q) (h i es)
 
     -- a result that is none
     pub result_value : y ≡ false → (known : Resolved) (es : List Entry) → known ≡ known_of (id_is t.rtype) es → (i : ℕ)
-        → defined i known es ≡ told_with t (some i) es
+        → defined i known es ≡ told_with t (Some i) es
     unfolding told_with track_of
     result_value q known es k i = rw k (simp (sym p ∙ q) (value_known (id_is t.rtype) es i))
 
@@ -145,7 +145,7 @@ module _ (t : Told) (es : List Entry) where
   result_absent e = rw e
 
   -- an id, and the type of the result
-  module _ (i : ℕ) (e : t.rid ≡ Is i) (r : Resolved) (h : (j : ℕ) → defined j r es ≡ told_with t (some j) es) where
+  module _ (i : ℕ) (e : t.rid ≡ Is i) (r : Resolved) (h : (j : ℕ) → defined j r es ≡ told_with t (Some j) es) where
     -- nothing is known: the entries stay
     pub result_unknown : r ≡ Unknown → es ≡ told_of t es
     unfolding told_of told_with defined id_is

@@ -1,6 +1,6 @@
 -- The entries of a type store: what its words say, where an id stands among them, and what a look-up answers.
 use Rattle.std.specs.Prelude.{ℕ, zero, suc, ◌+◌, ◌*◌, List, [], ◌∷◌, eqb, get_or, drop, if◌then◌else◌}
-use Rattle.std.proofs.Math.Option.{Option, none, some}
+use Rattle.std.specs.Prelude.{Option, None, Some}
 use Rattle.spec.specs.declared.Found.{Found}
 use Rattle.spec.specs.declared.Found.TheVariants.{At, Nothing}
 use Rattle.spec.specs.Base.{joined}
@@ -34,8 +34,8 @@ type_at ws k = «Type» (get_or ws (3 * k + 1) 0) (get_or ws (3 * k + 2) 0)
 
 -- what a look-up says of an entry that is there or not
 unfoldable pub resolved_by : Option Entry → Resolved
-resolved_by (some (entry id w s)) = «Type» w s
-resolved_by none = Unknown
+resolved_by (Some (entry id w s)) = «Type» w s
+resolved_by None = Unknown
 
 -- what a look-up says of an id that is there or not
 unfoldable pub known_of : Option ℕ → List Entry → Resolved

@@ -1,6 +1,6 @@
 -- Tracking over what an instruction is handed on as: ids, how many operands, and the first two.
 use Rattle.std.specs.Prelude.{ℕ, ◌≤◌, ◌≡◌, List, [], ◌∷◌, leb, eqb, length, if◌then◌else◌}
-use Rattle.std.proofs.Math.Option.{Option, none, some}
+use Rattle.std.specs.Prelude.{Option, None, Some}
 use Rattle.spec.specs.Records as records
 use Rattle.spec.specs.Records.{Entry}
 use Rattle.spec.specs.Types.{is_type, define, literal_int, define_int, define_float, track_value}
@@ -17,8 +17,8 @@ use Rattle.tracker.specs.Hints.{new_of, hints_with, greatest_with, Hinted}
 
 -- the id that is there, or none
 unfoldable pub id_is : Id → Option ℕ
-id_is Absent = none
-id_is (Is i) = some i
+id_is Absent = None
+id_is (Is i) = Some i
 
 -- the first two operands have a kind and a value of an operand, where they are there
 pub record FirstFit (count : ℕ) (a b : Parts) : Type 0 where
@@ -27,7 +27,7 @@ pub record FirstFit (count : ℕ) (a b : Parts) : Type 0 where
 
 -- the number of an operand that is a LiteralInt32, the arm of kind 34
 unfoldable pub literal_of : Parts → Option ℕ
-literal_of p = if eqb p.kind 34 then some p.value else none
+literal_of p = if eqb p.kind 34 then Some p.value else None
 
 -- OpTypeInt: with fewer than two operands nothing is tracked
 unfoldable pub int_of : ℕ → ℕ → Option ℕ → Option ℕ → List Entry → List Entry
@@ -43,8 +43,8 @@ type_of op i count a b es = if eqb op 21 then int_of i count a b es else if eqb 
 
 -- the entries after an instruction: its opcode, result type and result id, how many operands it has, and the numbers of the first two
 unfoldable pub track_of : ℕ → Option ℕ → Option ℕ → ℕ → Option ℕ → Option ℕ → List Entry → List Entry
-track_of op t none count a b es = es
-track_of op t (some i) count a b es = if is_type op then type_of op i count a b es else track_value i t es
+track_of op t None count a b es = es
+track_of op t (Some i) count a b es = if is_type op then type_of op i count a b es else track_value i t es
 
 -- the entries after an instruction of which this is told, with a result id, or none, in place of its own
 unfoldable pub told_with : Told → Option ℕ → List Entry → List Entry

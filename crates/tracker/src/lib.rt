@@ -2,7 +2,6 @@
 #![tactic(auto)]
 
 ghost use Rattle.std.specs.Prelude.{◌≡◌, List, ◌∷◌, [], ℕ, ◌+◌, ◌*◌, ◌<◌, ◌≤◌, length};
-ghost use Rattle.std.proofs.Math.Option.{some};
 ghost use Rattle.std.proofs.lemmas.List.Edits.{sets};
 ghost use Rattle.spec.specs.Records.{Entry};
 ghost use Rattle.spec.specs.Types.{define};
@@ -135,7 +134,7 @@ fn track_type(opcode: u16, count: usize, first: Parts, second: Parts) -> Resolve
 // The type that the result of an instruction has, where it is tracked, by the type of its result type.
 fn typed(told: Told, known: Resolved) -> Resolved
     requires { FirstFit told.operands told.first told.second }
-    ensures { (es : List Entry) → known ≡ known_of (id_is told.rtype) es → (id : ℕ) → defined id result es ≡ told_with told (some id) es }
+    ensures { (es : List Entry) → known ≡ known_of (id_is told.rtype) es → (id : ℕ) → defined id result es ≡ told_with told (Some id) es }
 {
     if reflect::is_type(told.opcode) {
         let first = told.first;

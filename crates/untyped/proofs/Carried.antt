@@ -3,7 +3,7 @@ use Prim.Native.Nat.{ℕ, ◌≤◌}
 use mathlib.Core.Path.{◌≡◌, refl}
 use mathlib.Core.Bool.{Bool, true, false, ◌&&◌, ◌||◌}
 use mathlib.Core.List.{List, [], ◌∷◌, ◌++◌}
-use mathlib.Core.Option.{Option, none, some}
+use Rattle.std.specs.Prelude.{Option, None, Some}
 use borrow.Author.Tests.{leb-true}
 use lib.Dec.{leb, eqb}
 use lib.ListN.{length}
@@ -30,8 +30,8 @@ are_single (p ∷ ps) h = simp (left (may_be_parameter p) _ h, are_single ps (ri
 
 listed_by : (g index : List ℕ) → Indexed g index → (k v : ℕ) (o : Option (List ℕ)) → listed k v (grammar_of g).enumerants ≡ o → every is_single (or_none o) ≡ true
 unfolding or_none
-listed_by g index i k v none e = refl
-listed_by g index i k v (some ps) e = are_single ps (parameters_may_be g k v ps i.well e)
+listed_by g index i k v None e = refl
+listed_by g index i k v (Some ps) e = are_single ps (parameters_may_be g k v ps i.well e)
 
 -- each parameter that is listed is one record
 pub listed_single : (g index : List ℕ) → Indexed g index → (k v : ℕ) → every is_single (or_none (listed k v (grammar_of g).enumerants)) ≡ true
@@ -75,10 +75,10 @@ unfolding row_good
 row_leads op ss h = leads_from op [] ss h
 
 -- a row meets the rules
-pub row_good_lem : (g index : List ℕ) → Indexed g index → (op : ℕ) (ss : List Slot) → row_of op (grammar_of g).rows ≡ some ss → row_good op ss ≡ true
+pub row_good_lem : (g index : List ℕ) → Indexed g index → (op : ℕ) (ss : List Slot) → row_of op (grammar_of g).rows ≡ Some ss → row_good op ss ≡ true
 row_good_lem g index i op ss e = row_carried g op ss i.well e
 
 -- each operand of a row is of an operand's kind
-pub row_operands : (g index : List ℕ) → Indexed g index → (op : ℕ) (ss : List Slot) → row_of op (grammar_of g).rows ≡ some ss → every is_operand ss ≡ true
+pub row_operands : (g index : List ℕ) → Indexed g index → (op : ℕ) (ss : List Slot) → row_of op (grammar_of g).rows ≡ Some ss → every is_operand ss ≡ true
 unfolding row_good
 row_operands g index i op ss e = are_operands op [] ss (row_carried g op ss i.well e)

@@ -3,7 +3,7 @@ use Prim.Native.Nat.{ℕ, ◌+◌, ◌*◌, ◌/◌, ◌%◌, ◌<◌, ◌≤◌
 use mathlib.Core.Path.{◌≡◌, refl, ap, sym, ◌∙◌}
 use mathlib.Core.Bool.{Bool, true, false, not}
 use mathlib.Core.List.{List, [], ◌∷◌, ◌++◌, append-nil}
-use mathlib.Core.Option.{Option, none, some}
+use Rattle.std.specs.Prelude.{Option, None, Some}
 use native.Mathlib.Omega.{arith}
 use native.Mathlib.Nat.{add-zero}
 use borrow.Author.Tests.{ne_eqb, ltb-false, not-true}
@@ -86,11 +86,11 @@ module _ (s g : List ℕ) (k : ℕ) (d : Decoder) (b : Bool) (p : b ≡ limit_re
       enum_known : (o : Option (List ℕ)) → parameters_for k w (grammar_of g) ≡ o → is_listed o ≡ true → (n : ℕ) → n ≤ length g
           → (is_mask k ≡ false → parameters_found g (At n) ≡ o) → EnumIs s g k d (Value w n e)
       unfolding EnumIs is_listed parameters_found parameters_at or_none
-      enum_known none l t n i f = let z : ◌≡◌ {A = ℕ} 0 1 = cc in absurd (omega arith)
-      enum_known (some ps) l t n i f = record {
+      enum_known None l t n i f = let z : ◌≡◌ {A = ℕ} 0 1 = cc in absurd (omega arith)
+      enum_known (Some ps) l t n i f = record {
         parameters = ps;
         listed = l;
-        read = looked (some ps) l;
+        read = looked (Some ps) l;
         step = step_word s d e w h;
         inside = i;
         place = λ m. ap or_none (f m);
@@ -100,8 +100,8 @@ module _ (s g : List ℕ) (k : ℕ) (d : Decoder) (b : Bool) (p : b ≡ limit_re
       pub enum_unknown : (o : Option (List ℕ)) → parameters_for k w (grammar_of g) ≡ o → is_listed o ≡ false → (v : EnumRead)
           → v ≡ NoValue (refusal 10 d.offset w) e → EnumIs s g k d v
       unfolding EnumIs is_listed
-      enum_unknown none l t v r = rw r (looked none l)
-      enum_unknown (some ps) l t v r = let z : ◌≡◌ {A = ℕ} 0 1 = cc in absurd (omega arith)
+      enum_unknown None l t v r = rw r (looked None l)
+      enum_unknown (Some ps) l t v r = let z : ◌≡◌ {A = ℕ} 0 1 = cc in absurd (omega arith)
 
       -- a mask that is known
       pub mask_known : (m t : Bool) → m ≡ is_mask k → m ≡ true → t ≡ is_listed (parameters_for k w (grammar_of g)) → t ≡ true

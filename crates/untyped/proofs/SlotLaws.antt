@@ -3,7 +3,7 @@ use Prim.Native.Nat.{ℕ, ◌+◌, ◌-◌, ◌≤◌}
 use mathlib.Core.Path.{◌≡◌, refl, ap, sym, ◌∙◌}
 use mathlib.Core.Bool.{Bool, true, false, not, true≢false}
 use mathlib.Core.List.{List, [], ◌∷◌, ◌++◌, append_assoc, append-nil}
-use mathlib.Core.Option.{Option, some}
+use Rattle.std.specs.Prelude.{Option, Some}
 use native.Mathlib.Omega.{arith}
 use borrow.Author.Tests.{eq-eqb, ne_eqb, eqb-true}
 use lib.Dec.{eqb}
@@ -155,7 +155,7 @@ module _ {log₀ strs₀ log strs : List ℕ} {u₀ u : Used} {x : Seen} (w : Wa
       }
 
   -- a result type
-  walked_type : (v n : ℕ) → word_is n ≡ some v → Walked log₀ strs₀ log strs u₀ (with_results n u.rid u) (with_type x v)
+  walked_type : (v n : ℕ) → word_is n ≡ Some v → Walked log₀ strs₀ log strs u₀ (with_results n u.rid u) (with_type x v)
   unfolding with_results selector_of notes_of
   walked_type v n h = record {
     rtype = h;
@@ -169,7 +169,7 @@ module _ {log₀ strs₀ log strs : List ℕ} {u₀ u : Used} {x : Seen} (w : Wa
   }
 
   -- a result id
-  walked_id : (v n : ℕ) → word_is n ≡ some v → Walked log₀ strs₀ log strs u₀ (with_results u.rtype n u) (with_id x v)
+  walked_id : (v n : ℕ) → word_is n ≡ Some v → Walked log₀ strs₀ log strs u₀ (with_results u.rtype n u) (with_id x v)
   unfolding with_results selector_of notes_of
   walked_id v n h = record {
     rtype = w.rtype;
@@ -226,7 +226,7 @@ module _ {log₀ strs₀ log strs : List ℕ} {u₀ u : Used} {x : Seen} (w : Wa
           (ap (λ (m : Read ℕ). after m (λ v. give (with_id x v))) e)
 
       -- a result
-      slot_result : (v n : ℕ) → word_is n ≡ some v → (e : Decoder) → Word v e ≡ word_from s d → Few s d u → (t : Bool) → eqb j 46 ≡ t
+      slot_result : (v n : ℕ) → word_is n ≡ Some v → (e : Decoder) → Word v e ≡ word_from s d → Few s d u → (t : Bool) → eqb j 46 ≡ t
           → SlotRead s d j x (read_slot g types x j (reader_of s d)) log₀ strs₀ log strs u₀ u e (if t then with_results n u.rid u else with_results u.rtype n u)
       unfolding with_results
       slot_result v n i e p f true q = record {
@@ -259,7 +259,7 @@ module _ {log₀ strs₀ log strs : List ℕ} {u₀ u : Used} {x : Seen} (w : Wa
 module _ (s : List ℕ) (g : Grammar) (j l : ℕ) (d : Decoder) (log strs : List ℕ) (u : Used) (t : Bool) (p : t ≡ is_result j) (types : List Entry)
     (f : kind_is l ≡ literal_for types u j) where
   -- the walk goes on with a result
-  pub walks_result : t ≡ true → Few s d u → (v : ℕ) (e : Decoder) → Word v e ≡ word_from s d → (i : ℕ) → word_is i ≡ some v → (n : Used) → n ≡ with_result j i u
+  pub walks_result : t ≡ true → Few s d u → (v : ℕ) (e : Decoder) → Word v e ≡ word_from s d → (i : ℕ) → word_is i ≡ Some v → (n : Used) → n ≡ with_result j i u
       → SlotWalks s d j (λ x. read_slot g types x j (reader_of s d)) log strs log strs u (Got e n)
   unfolding SlotWalks SlotWalk with_result
   walks_result q m v e h i o n z log₀ strs₀ u₀ x w = rw z (slot_result w s g types j d (sym p ∙ q) v i o e h m (eqb j 46) refl)

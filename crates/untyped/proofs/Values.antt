@@ -3,7 +3,7 @@ use Prim.Native.Nat.{ℕ, zero, suc, ◌+◌, ◌*◌, ◌-◌, ◌/◌, ◌%◌
 use mathlib.Core.Path.{◌≡◌, refl, ap, sym, ◌∙◌}
 use mathlib.Core.Bool.{Bool, true, false, and-eq-true_iff}
 use mathlib.Core.List.{List, [], ◌∷◌, ◌++◌, append-nil}
-use mathlib.Core.Option.{Option, none, some}
+use Rattle.std.specs.Prelude.{Option, None, Some}
 use native.Mathlib.Omega.{arith}
 use borrow.Author.Tests.{eq-eqb, ne_eqb}
 use lib.Dec.{eqb}
@@ -313,25 +313,25 @@ pub are_listed : (k v : ℕ) (g : Grammar) (t : Bool) → t ≡ is_mask k → t 
 unfolding parameters_are
 are_listed k v g t p q = let z : is_mask k ≡ false = sym p ∙ q in simp z
 
-both_told : (a b : Option (List ℕ)) (ps : List ℕ) (qs : List ℕ) → ((r : List ℕ) → b ≡ some r → qs ≡ r) → both_listed a b ≡ some ps → or_none a ++ qs ≡ ps
+both_told : (a b : Option (List ℕ)) (ps : List ℕ) (qs : List ℕ) → ((r : List ℕ) → b ≡ Some r → qs ≡ r) → both_listed a b ≡ Some ps → or_none a ++ qs ≡ ps
 unfolding or_none
-both_told none b ps qs ih e = let z : ◌≡◌ {A = ℕ} 0 1 = cc in absurd (omega arith)
-both_told (some a) none ps qs ih e = let z : ◌≡◌ {A = ℕ} 0 1 = cc in absurd (omega arith)
-both_told (some a) (some b) ps qs ih e = let z : a ++ b ≡ ps = cc in ap (λ (l : List ℕ). a ++ l) (ih b refl) ∙ z
+both_told None b ps qs ih e = let z : ◌≡◌ {A = ℕ} 0 1 = cc in absurd (omega arith)
+both_told (Some a) None ps qs ih e = let z : ◌≡◌ {A = ℕ} 0 1 = cc in absurd (omega arith)
+both_told (Some a) (Some b) ps qs ih e = let z : a ++ b ≡ ps = cc in ap (λ (l : List ℕ). a ++ l) (ih b refl) ∙ z
 
-bits_told : (k : ℕ) (es : List Enumerant) (bs ps : List ℕ) → bits_listed k bs es ≡ some ps → bit_parameters k es bs ≡ ps
+bits_told : (k : ℕ) (es : List Enumerant) (bs ps : List ℕ) → bits_listed k bs es ≡ Some ps → bit_parameters k es bs ≡ ps
 unfolding bits_listed bit_parameters
 bits_told k es [] ps e = cc
 bits_told k es (b ∷ bs) ps e = both_told (listed k b es) (bits_listed k bs es) ps (bit_parameters k es bs) (bits_told k es bs) e
 
-are_by : (k v : ℕ) (g : Grammar) (ps : List ℕ) (t : Bool) → (if t then bits_listed k (bits_of v) g.enumerants else listed k v g.enumerants) ≡ some ps
+are_by : (k v : ℕ) (g : Grammar) (ps : List ℕ) (t : Bool) → (if t then bits_listed k (bits_of v) g.enumerants else listed k v g.enumerants) ≡ Some ps
     → (if t then bit_parameters k g.enumerants (bits_of v) else or_none (listed k v g.enumerants)) ≡ ps
 unfolding or_none
 are_by k v g ps true e = bits_told k g.enumerants (bits_of v) ps e
 are_by k v g ps false e = ap or_none e
 
 -- the parameters of a value that is known
-pub are_known : (k v : ℕ) (g : Grammar) (ps : List ℕ) → parameters_for k v g ≡ some ps → ps ≡ parameters_are k v g
+pub are_known : (k v : ℕ) (g : Grammar) (ps : List ℕ) → parameters_for k v g ≡ Some ps → ps ≡ parameters_are k v g
 unfolding parameters_for parameters_are
 are_known k v g ps e = sym (are_by k v g ps (is_mask k) e)
 

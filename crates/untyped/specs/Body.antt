@@ -1,6 +1,6 @@
 -- An instruction by its frame: what is read of it after its first word.
 use Rattle.std.specs.Prelude.{ℕ, ◌+◌, ◌-◌, ◌≤◌, ◌≡◌, true, List, length}
-use Rattle.std.proofs.Math.Option.{some}
+use Rattle.std.specs.Prelude.{Some}
 use Rattle.spec.specs.declared.Limit.TheVariants.{Unlimited, Words}
 use Rattle.spec.specs.Grammar.{grammar_of}
 use Rattle.spec.specs.Records.{Instr, Entry}
@@ -31,4 +31,4 @@ row_read g types s d p = read_row (grammar_of g) types (left_of d.limit) (slots_
 -- the instruction
 unfoldable pub body_read : List ℕ → List Entry → List ℕ → Frame → Read Instr
 body_read g types s f =
-    read_body (grammar_of g) types f.at f.words f.opcode (some (slots_at g f.place)) (reader_at s (f.at + 4) Unlimited)
+    read_body (grammar_of g) types f.at f.words f.opcode (Some (slots_at g f.place)) (reader_at s (f.at + 4) Unlimited)

@@ -1,6 +1,6 @@
 -- What the read of an enumerant answers.
 use Rattle.std.specs.Prelude.{ℕ, ◌≤◌, ◌≡◌, false, List, length}
-use Rattle.std.proofs.Math.Option.{some}
+use Rattle.std.specs.Prelude.{Some}
 use Rattle.spec.specs.Kinds.{is_mask}
 use Rattle.spec.specs.Grammar.{grammar_of, parameters_for}
 use Rattle.spec.specs.Reader.{got, refused}
@@ -14,7 +14,7 @@ use Rattle.untyped.specs.declared.EnumRead.TheVariants.{Got as Value, Refused as
 -- a value that is known, with its parameters' kinds, which start at a place of the grammar unless it is a mask
 pub record KnownAs (s g : List ℕ) (k : ℕ) (d : Decoder) (v p : ℕ) (e : Decoder) : Type 0 where
   pub parameters : List ℕ
-  pub listed : parameters_for k v (grammar_of g) ≡ some parameters
+  pub listed : parameters_for k v (grammar_of g) ≡ Some parameters
   pub read : read_enumerant (grammar_of g) k (reader_of s d) ≡ got (known v parameters) (reader_of s e)
   pub step : Step s d e 1
   pub inside : p ≤ length g

@@ -3,7 +3,7 @@ use Prim.Native.Nat.{ℕ}
 use mathlib.Core.Path.{◌≡◌, refl, ap, sym, ◌∙◌}
 use mathlib.Core.Bool.{Bool, true, false, ◌||◌}
 use mathlib.Core.List.{List, [], ◌∷◌}
-use mathlib.Core.Option.{Option, none, some}
+use Rattle.std.specs.Prelude.{Option, None, Some}
 use borrow.Author.Tests.{eq-eqb, ne_eqb}
 use lib.Dec.{eqb}
 use Rattle.spec.specs.Base.{is_in}
@@ -64,13 +64,13 @@ integer_none w h e =
 -- the kind by what is known of an id: one word where that is nothing
 abbrev kind_by : Resolved → Option ℕ
 kind_by («Type» w s) = literal_kind w s
-kind_by Unknown = some 34
+kind_by Unknown = Some 34
 
 -- it is the kind by the entry
 kind_by_lem : (x : Option Entry) → kind_by (resolved_by x) ≡ literal_kind_of x
 unfolding resolved_by
-kind_by_lem none = refl
-kind_by_lem (some (entry id w s)) = refl
+kind_by_lem None = refl
+kind_by_lem (Some (entry id w s)) = refl
 
 module _ (r : Resolved) where
   -- what is known of an id decides its kind

@@ -2,7 +2,7 @@
 use Prim.Native.Nat.{ℕ, ◌+◌, ◌-◌, ◌%◌, ◌<◌, ◌≤◌}
 use mathlib.Core.Path.{◌≡◌, refl, ap, sym, ◌∙◌}
 use mathlib.Core.List.{List}
-use mathlib.Core.Option.{none, some}
+use Rattle.std.specs.Prelude.{None, Some}
 use native.Mathlib.Omega.{arith}
 use borrow.Author.Tests.{eq-eqb, ne_eqb, lt-ltb, le-ltb}
 use lib.Dec.{leb}
@@ -20,12 +20,12 @@ use Rattle.used.specs.Fresh.{with_results, with_result}
 -- WORDS THAT MAY BE MISSING
 
 -- a word that is there
-pub word_there : (w n : ℕ) → 4294967296 ≤ n → w ≡ n % 4294967296 → word_is n ≡ some w
+pub word_there : (w n : ℕ) → 4294967296 ≤ n → w ≡ n % 4294967296 → word_is n ≡ Some w
 unfolding word_is
 word_there w n h e = simp (le-ltb n 4294967296 h, e)
 
 -- one that is not
-pub word_absent : (n : ℕ) → n < 4294967296 → word_is n ≡ none
+pub word_absent : (n : ℕ) → n < 4294967296 → word_is n ≡ None
 unfolding word_is
 word_absent n h = simp (lt-ltb n 4294967296 h)
 
@@ -33,18 +33,18 @@ word_absent n h = simp (lt-ltb n 4294967296 h)
 
 module _ (u : Used) where
   -- there is no operand
-  pub selector_none : u.operands ≡ 0 → none ≡ selector_of u
+  pub selector_none : u.operands ≡ 0 → None ≡ selector_of u
   unfolding selector_of
   selector_none e = simp (eq-eqb u.operands 0 e)
 
   module _ (h : u.operands ≡ 0 → ⊥) where
     -- it is an id
-    pub selector_there : u.kind1 ≡ 33 → some u.value1 ≡ selector_of u
+    pub selector_there : u.kind1 ≡ 33 → Some u.value1 ≡ selector_of u
     unfolding selector_of id_ref_of
     selector_there e = simp (ne_eqb u.operands 0 h, eq-eqb u.kind1 33 e)
 
     -- it is none
-    pub selector_absent : (u.kind1 ≡ 33 → ⊥) → none ≡ selector_of u
+    pub selector_absent : (u.kind1 ≡ 33 → ⊥) → None ≡ selector_of u
     unfolding selector_of id_ref_of
     selector_absent e = simp (ne_eqb u.operands 0 h, ne_eqb u.kind1 33 e)
 

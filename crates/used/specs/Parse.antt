@@ -1,6 +1,6 @@
 -- The parser's answers, and the stores after those that are good, as what the reader of `spec` comes to.
 use Rattle.std.specs.Prelude.{ℕ, ◌+◌, ◌*◌, ◌-◌, ◌%◌, ◌≤◌, ◌≡◌, Bool, true, ◌&&◌, ◌||◌, List, [], ◌∷◌, ◌++◌, eqb, ltb, length, drop, if◌then◌else◌}
-use Rattle.std.proofs.Math.Option.{Option, none, some}
+use Rattle.std.specs.Prelude.{Option, None, Some}
 use Rattle.spec.specs.declared.Limit.{Limit}
 use Rattle.spec.specs.declared.Limit.TheVariants.{Unlimited, Words}
 use Rattle.spec.specs.Base.{within}
@@ -34,11 +34,11 @@ pub record Notes : Type 0 where
 
 -- a result that may be missing is 2^32 and a word where it is there
 unfoldable pub word_is : ℕ → Option ℕ
-word_is n = if ltb n 4294967296 then none else some (n % 4294967296)
+word_is n = if ltb n 4294967296 then None else Some (n % 4294967296)
 
 -- the id of an operand that is an IdRef, the arm of kind 33
 unfoldable pub id_ref_of : Parts → Option ℕ
-id_ref_of p = if eqb p.kind 33 then some p.value else none
+id_ref_of p = if eqb p.kind 33 then Some p.value else None
 
 -- the first operand in use
 abbrev pub first_of : Used → Parts
@@ -50,7 +50,7 @@ second_of u = parts u.kind2 u.value2
 
 -- the id that the first operand in use is
 unfoldable pub selector_of : Used → Option ℕ
-selector_of u = if eqb u.operands 0 then none else id_ref_of (first_of u)
+selector_of u = if eqb u.operands 0 then None else id_ref_of (first_of u)
 
 -- the notes of what is in use
 unfoldable pub notes_of : Used → Notes
@@ -98,7 +98,7 @@ pub record Copied (size b : ℕ) (u r : Used) : Type 0 where
   pub base : r.base ≡ u.base
   pub strings : r.strings ≡ u.strings + size
   pub log : r.log ≡ u.log + 9
-  pub noted : notes_of r ≡ note_as none none (notes_of u)
+  pub noted : notes_of r ≡ note_as None None (notes_of u)
   pub fits : FirstFits u → FirstFits r
   pub breaks : r.breaks ≡ first_break u.breaks b
 
@@ -193,8 +193,8 @@ parameters_at g p = parameters_of (items (drop p g))
 
 -- the parameters that are listed, or none
 unfoldable pub or_none : Option (List ℕ) → List ℕ
-or_none none = []
-or_none (some ps) = ps
+or_none None = []
+or_none (Some ps) = ps
 
 -- the parameters of each of some bits, in their order
 unfoldable pub bit_parameters : ℕ → List Enumerant → List ℕ → List ℕ
@@ -213,7 +213,7 @@ if_set k b v es = if eqb (v % 2) 1 then or_none (listed k b es) else []
 
 -- the kind that a number is, 0 for none
 unfoldable pub kind_is : ℕ → Option ℕ
-kind_is k = if eqb k 0 then none else some k
+kind_is k = if eqb k 0 then None else Some k
 
 -- none, or a kind of a literal by type
 unfoldable pub is_literal : ℕ → Bool
@@ -224,7 +224,7 @@ unfoldable pub literal_for : List Entry → Used → ℕ → Option ℕ
 literal_for types u k =
     if eqb k 48 then literal_kind_of (type_of (word_is u.rtype) types)
     else if eqb k 49 then literal_kind_of (type_of (selector_of u) types)
-    else none
+    else None
 
 -- a literal of a kind, as the one operand
 unfoldable pub literal_alone : Option ℕ → Parse (List records.Operand)
@@ -263,7 +263,7 @@ kind_alone g literal k =
 
 -- the notes of no operand
 unfoldable pub no_notes : Notes
-no_notes = record { count = 0; first = none; second = none; id = none }
+no_notes = record { count = 0; first = None; second = None; id = None }
 
 -- what was seen of a row is what was added to what was in use before it and, where it fits, to the stores
 pub record Walked (log₀ strs₀ log strs : List ℕ) (u n : Used) (x : Seen) : Type 0 where
@@ -293,7 +293,7 @@ Walks s d m x log₀ strs₀ log strs u (Refused y e) = x ≡ refused y (reader_
 -- where the kind is a result's, that result is free: nothing was seen before a result type, and no result id or operand before a result id
 abbrev pub ResultFree : ℕ → Seen → Type 0
 ResultFree k y =
-    (eqb k 46 ≡ true → y ≡ nothing_seen) × (eqb k 47 ≡ true → (y.result_id ≡ none) × (y.operands ≡ []))
+    (eqb k 46 ≡ true → y ≡ nothing_seen) × (eqb k 47 ≡ true → (y.result_id ≡ None) × (y.operands ≡ []))
 
 -- one operand of a row was read, a word or more, after what was seen: what stands there then follows on, where results come first
 pub record SlotRead (s : List ℕ) (d : Decoder) (k : ℕ) (y : Seen) (x : Read Seen) (log₀ strs₀ log strs : List ℕ) (u₀ u : Used) (e : Decoder) (n : Used) : Type 0 where

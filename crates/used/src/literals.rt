@@ -1,6 +1,6 @@
 // Literals by the type of an id: of which kind they are.
 ghost use Rattle.std.specs.Prelude.{◌≡◌, true, List, ℕ, ◌*◌, ◌≤◌, length};
-ghost use Rattle.std.proofs.Math.Option.{Option};
+ghost use Rattle.std.specs.Prelude.{Option};
 ghost use Rattle.spec.specs.Records.{Entry};
 ghost use Rattle.spec.specs.Match.{literal_kind, literal_kind_of, type_of};
 ghost use Rattle.tracker.specs.Entries.{entries_of, known_of};

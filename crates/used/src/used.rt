@@ -1,6 +1,5 @@
 // The frame of an instruction, what it has come to so far, and one record more.
 ghost use Rattle.std.specs.Prelude.{◌≡◌, ◌+◌, ◌*◌, ◌≤◌, length};
-ghost use Rattle.std.proofs.Math.Option.{some};
 ghost use Rattle.std.proofs.Math.Seq.{slice};
 ghost use Rattle.spec.specs.Plain.{first_break};
 ghost use Rattle.spec.specs.Reader.{refusal};
@@ -94,7 +93,7 @@ pub fn refused(number: u32, place: usize, d: Decoder) -> Parsed
 
 // A word that is there.
 pub fn there(w: u32) -> u64
-    ensures { word_is result ≡ some w }
+    ensures { word_is result ≡ Some w }
 {
     4294967296 + (w as u64)
 }

@@ -2,7 +2,7 @@
 -- Assumes nothing.
 use mathlib.Core.Path.{◌≡◌}
 use Prim.Native.Nat.{◌≤◌}
-use mathlib.Core.Option.{none}
+use Rattle.std.specs.Prelude.{None}
 use lib.ListN.{drop}
 use Rattle.spec.specs.Disassembly.{set_of}
 use Rattle.spelled.specs.Placing.{instrs_of}
@@ -13,7 +13,7 @@ use Rattle.imports.proofs.set_of.Statement.{statement}
 use Rattle.imports.proofs.set_of.Tie as tie
 
 abbrev invariant-loop-i : tie.invariant-loop-i
-invariant-loop-i instructions log strings count end id i₀ i = (i ≤ end) × (set_of id (drop i (instrs_of instructions log strings count)) ≡ none)
+invariant-loop-i instructions log strings count end id i₀ i = (i ≤ end) × (set_of id (drop i (instrs_of instructions log strings count)) ≡ None)
 
 abbrev decreases-loop-i : tie.decreases-loop-i
 decreases-loop-i instructions log strings count end id i₀ i = i

@@ -11,9 +11,9 @@ returns c = selector_none _ c.if-u-eq0.true
 
 cast_t3 : tie.Need-overflow_cast-result
 cast_t3 c =
-    let some = c.before.before.before in
-    let start = some.before.before in
-    omega (arith, selector_small start.args.u some.if-u-eq0.false start.requires c.before.if-u-eq-ID_REF.true)
+    let Some = c.before.before.before in
+    let start = Some.before.before in
+    omega (arith, selector_small start.args.u Some.if-u-eq0.false start.requires c.before.if-u-eq-ID_REF.true)
 
 returns-2 : tie.Need-returns-then-u-eq-ID_REF
 unfolding id_is
