@@ -165,7 +165,7 @@ pub record Sought (s : List ℕ) (at : ℕ) (l : Limit) (end : ℕ) (left : ℕ 
   pub unpassed : limit_past l (drop at s) ≡ false
   pub bytes : take (end - at) (drop at s) ≡ searched l (drop at s)
   pub takes : (k : ℕ) → left k ≡ less l k
-  pub None : no_zero l (reader_at s at l) ≡ refused x (reader_at s at l)
+  pub none : no_zero l (reader_at s at l) ≡ refused x (reader_at s at l)
 
 -- all bytes from the position on, without a limit
 pub sought_free : (s : List ℕ) (at : ℕ) (l : Limit) → l ≡ Unlimited → at ≤ length s → Sought s at l (length s) (λ k. l) (refusal 9 at 0)
