@@ -176,7 +176,7 @@ sought_free s at Unlimited e h = record {
   unpassed = refl;
   bytes = take_all (length s - at) (drop at s) (simp length-drop (omega arith));
   takes = λ k. refl;
-  None = refl;
+  none = refl;
 }
 sought_free s at (Words m) e h = let z : ◌≡◌ {A = ℕ} 0 1 = cc in absurd (omega arith)
 
@@ -194,7 +194,7 @@ sought_words s at (Words n) m e h g =
       unpassed = le-ltb (length (drop at s)) (4 * n) (simp length-drop (omega arith));
       bytes = ap (λ (k : ℕ). take k (drop at s)) p;
       takes = λ k. ap (λ (i : ℕ). Words (i - k)) (sym q);
-      None = ap (λ (i : ℕ). refused (refusal 8 (at + 4 * i) 0) (reader_at s at (Words n))) q;
+      none = ap (λ (i : ℕ). refused (refusal 8 (at + 4 * i) 0) (reader_at s at (Words n))) q;
     }
 
 -- a string's answer by where it ends

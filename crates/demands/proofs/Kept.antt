@@ -177,10 +177,10 @@ module _ (g : Grammar) (good : GrammarGood g) (room : Counts) (h : List ℕ) whe
               let one : all ≡ pre ++ (x.from ++ (m.from ++ t)) =
               ap (λ (l : List ℕ). pre ++ l) (append_assoc x.from m.from t) in
               let others : all ≡ pre ++ x.from ++ (m.from ++ t) = one ∙ sym (append_assoc pre x.from (m.from ++ t)) in
-              let None = neither (instr_break all z.instr) (kept_break all m.new) p in
+              let none = neither (instr_break all z.instr) (kept_break all m.new) p in
               cc (
-                u.exact pre (m.from ++ t) e (rw one at None.0),
-                v.exact (pre ++ x.from) t (length-append pre x.from ∙ omega (arith, x.whole)) (rw others at None.1),
+                u.exact pre (m.from ++ t) e (rw one at none.0),
+                v.exact (pre ++ x.from) t (length-append pre x.from ∙ omega (arith, x.whole)) (rw others at none.1),
               );
         }
 

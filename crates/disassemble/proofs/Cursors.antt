@@ -199,13 +199,13 @@ unfolding section_from section_after
 in_last is count t from r e l =
     record {
       found = λ h. rw (eq-eqb t 4 e) (l.0 h ∙ sym (append-nil (one_at is r)));
-      None = λ h. rw (eq-eqb t 4 e) (l.1 h);
+      none = λ h. rw (eq-eqb t 4 e) (l.1 h);
     }
 
 -- of any other the next
 pub in_first : (is : List Placed) (count t from r : ℕ) → (t ≡ 4 → ⊥) → FirstTagged is count t from r → InSection is count t from r
 unfolding section_from section_after
-in_first is count t from r n l = record { found = λ h. rw (ne_eqb t 4 n) (l.0 h); None = λ h. rw (ne_eqb t 4 n) (l.1 h) }
+in_first is count t from r n l = record { found = λ h. rw (ne_eqb t 4 n) (l.0 h); none = λ h. rw (ne_eqb t 4 n) (l.1 h) }
 
 -- a section from its start
 section_whole : (t : ℕ) (is : List Placed) → section_from t 0 is ≡ section_of t is

@@ -57,7 +57,7 @@ section_after t i is = if eqb t 4 then [] else tagged t (drop (i + 1) is)
 -- an index is the next of a section, or there is none
 pub record InSection (is : List Placed) (count t from r : ℕ) : Type 0 where
   pub found : r < count → section_from t from is ≡ one_at is r ++ section_after t r is
-  pub None : count ≤ r → section_from t from is ≡ []
+  pub none : count ≤ r → section_from t from is ≡ []
 
 -- what is left of the sections
 unfoldable pub sections_left : ℕ → ℕ → List Placed → List Placed

@@ -169,10 +169,10 @@ either_none false = refl
 record Asked (b r c : Bool) : Type 0 where
   pub there : b ≡ false
   pub same : r ≡ true
-  pub Some : c ≡ false
+  pub some : c ≡ false
 
 asked : (b r c : Bool) → ((b || not r) || c) ≡ false → Asked b r c
-asked false true false e = record { there = refl; same = refl; Some = refl }
+asked false true false e = record { there = refl; same = refl; some = refl }
 asked false true true e = let y : ◌≡◌ {A = ℕ} 0 1 = cc in absurd (omega arith)
 asked false false c e = let y : ◌≡◌ {A = ℕ} 0 1 = cc in absurd (omega arith)
 asked true r c e = let y : ◌≡◌ {A = ℕ} 0 1 = cc in absurd (omega arith)

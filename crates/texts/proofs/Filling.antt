@@ -31,13 +31,13 @@ pub record Counting (v n rest : ℕ) : Type 0 where
   pub left : rest < 10 ^ fuel
   pub more : 1 ≤ fuel
   pub few : n + fuel ≡ 21
-  pub Some : 1 ≤ n
+  pub some : 1 ≤ n
   pub whole : length (decimal v) + 1 ≡ n + length (digits_from fuel rest)
 
 -- none at first
 pub counting_starts : (v : ℕ) → v < 18446744073709551616 → Counting v 1 v
 unfolding decimal
-counting_starts v h = record { fuel = 20; left = omega arith; more = omega arith; few = refl; Some = omega arith; whole = omega arith }
+counting_starts v h = record { fuel = 20; left = omega arith; more = omega arith; few = refl; some = omega arith; whole = omega arith }
 
 -- the next
 counting_next : (v n rest fuel : ℕ) → rest < 10 ^ fuel → n + fuel ≡ 21 → length (decimal v) + 1 ≡ n + length (digits_from fuel rest) → 10 ≤ rest → Counting v (n + 1) (rest / 10)
@@ -49,7 +49,7 @@ counting_next v n rest (suc (suc fuel)) l f w h =
       left = omega arith;
       more = omega arith;
       few = omega arith;
-      Some = omega arith;
+      some = omega arith;
       whole = omega (arith, w, more_digits (suc fuel) rest h);
     }
 
