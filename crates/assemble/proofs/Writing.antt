@@ -18,13 +18,12 @@ use Rattle.spec.specs.Load.{laid_over}
 use Rattle.spec.specs.Check.{Given, lower, missing, fields_fault, Scan, scan_from, scan_of, tags_fault, records_of, fault_of, Checked, good, check}
 use Rattle.spec.specs.Write.{bytes_of_all, parse_bytes, module_header, module_order, module_bytes, Writing, unwritten, write_by, write_parse, write_module}
 use Rattle.spec.proofs.Store.{sets_append}
-use Rattle.records.specs.declared.Checked.{Checked as Answer}
-use Rattle.records.specs.declared.Checked.TheVariants.{Good as AllGood, Bad}
 use Rattle.records.specs.Steps.{given, checked_is}
 use Rattle.records.specs.Good.{Good}
 use Rattle.records.proofs.Good.{good_by, good_counts, check_is_good, check_is_bad}
 use Rattle.spelled.specs.Placing.{full_stores, GoodStores, instrs_of, ordered, order_bytes, written_over, write_order}
 use Rattle.assemble.specs.Writes.{Writes}
+use Rattle.std.specs.Prelude.{None, Option, Some}
 
 -- THE HEADER
 
@@ -165,8 +164,8 @@ module _ (ws log strings : List ℕ) (count lc sc : ℕ) (in_log : lc ≤ length
       cut_scan
       ∙ g
 
-module _ (whole : Bool) (ws log strings : List ℕ) (count lc sc : ℕ) (r : Answer) (e : checked_is r ≡ fault_of record_size whole (given ws log strings count lc sc)) where
-  module _ (q : r ≡ AllGood) where
+module _ (whole : Bool) (ws log strings : List ℕ) (count lc sc : ℕ) (r : Option ℕ) (e : checked_is r ≡ fault_of record_size whole (given ws log strings count lc sc)) where
+  module _ (q : r ≡ None) where
     -- the log's count lies in the log
     pub cut_log : lc ≡ length (take lc log)
     cut_log = sym (length-take-le lc log (good_counts (given ws log strings count lc sc) (good_by whole (given ws log strings count lc sc) r e q)).0)
@@ -200,7 +199,7 @@ module _ (whole : Bool) (ws log strings : List ℕ) (count lc sc : ℕ) (r : Ans
     order_good h out w out' = writes_as (lent_is h out)
 
   -- "first 30 for records that break the store layout"
-  pub order_bad : (i : ℕ) → r ≡ Bad i → (h out : List ℕ)
+  pub order_bad : (i : ℕ) → r ≡ Some i → (h out : List ℕ)
       → Writes (write_order whole h (given ws log strings count lc sc) out) out (record { number = 30; index = i; bytes = 0 })
   unfolding write_order
   order_bad i q h out = rw (check_is_bad whole (given ws log strings count lc sc) r i e q) (record { said = refl; output = refl })

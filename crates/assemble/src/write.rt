@@ -10,7 +10,6 @@ ghost use Rattle.assemble.specs.Writes.{Writes};
 
 use order::{put_module, put_read};
 use ranges::{TAGS, end_of, module_end, survey};
-use records::Checked;
 use spec::{Written, refusals, tags};
 use words::put_word;
 
@@ -146,7 +145,7 @@ fn write_order(
         log_end,
         strings_end,
     );
-    let Checked::Bad(index) = checked else {
+    let Some(index) = checked else {
         let log = &log[..log_end];
         let strings = &strings[..strings_end];
         return write_good(whole, header, instructions, log, strings, count, out);

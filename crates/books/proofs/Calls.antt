@@ -18,8 +18,6 @@ use Rattle.spec.specs.Check.{Given, records_of, missing, records_in, fault_of}
 use Rattle.spec.specs.Books.{unfit, misnumbered, new_book, old_book}
 use Rattle.spec.proofs.Faultless.{none_if, no_faults}
 use Rattle.demands.proofs.Indices.{WordsFit, good_few}
-use Rattle.records.specs.declared.Checked.{Checked}
-use Rattle.records.specs.declared.Checked.TheVariants.{Good, Bad}
 use Rattle.records.specs.Steps.{checked_is}
 use Rattle.records.proofs.Operands.{has_true}
 use Rattle.books.specs.Turns.{Turns}
@@ -53,16 +51,16 @@ good_count size x e =
     eqb-true _ _ (none_if (length (records_in size x) + 1) (eqb (length (records_in size x)) x.count) None (no_faults size false x e).present).0
 
 -- the answer of a check that finds none
-pub checked_good : {r : Checked} {o : Option ℕ} → checked_is r ≡ o → r ≡ Good → o ≡ None
+pub checked_good : {r : (Option ℕ)} {o : Option ℕ} → checked_is r ≡ o → r ≡ None → o ≡ None
 unfolding checked_is
 checked_good e q = sym e ∙ ap checked_is q
 
 -- and of one that does
-checked_bad : {r : Checked} {o : Option ℕ} {i : ℕ} → checked_is r ≡ o → r ≡ Bad i → o ≡ Some i
+checked_bad : {r : (Option ℕ)} {o : Option ℕ} {i : ℕ} → checked_is r ≡ o → r ≡ Some i → o ≡ Some i
 unfolding checked_is
 checked_bad e q = sym e ∙ ap checked_is q
 
-module _ (size : ℕ) (x : Given) {r : Checked} (e : checked_is r ≡ fault_of size false x) (q : r ≡ Good) where
+module _ (size : ℕ) (x : Given) {r : (Option ℕ)} (e : checked_is r ≡ fault_of size false x) (q : r ≡ None) where
   -- the records of a book that passes lie in its store
   pub book_held : size * x.count ≤ length x.instructions
   book_held = records_held size x.count x.instructions (good_count size x (checked_good e q))
@@ -85,46 +83,46 @@ room_told size count words h e = by (ltb (words / size) count) refl e
 
 -- INTO A NEW BOOK
 
-module _ (x : Given) (out : List ℕ) {c : Checked} (e : checked_is c ≡ fault_of field_size false x) where
+module _ (x : Given) (out : List ℕ) {c : (Option ℕ)} (e : checked_is c ≡ fault_of field_size false x) where
   -- 30
-  pub new_bad : {i : ℕ} → c ≡ Bad i → {r : Turned} → r ≡ record { number = 30; index = i; records = 0 } → Turns (new_book x out) out r
+  pub new_bad : {i : ℕ} → c ≡ Some i → {r : Turned} → r ≡ record { number = 30; index = i; records = 0 } → Turns (new_book x out) out r
   unfolding new_book
   new_bad q s = rw (checked_bad e q) (record { said = s; output = refl })
 
-  module _ (q : c ≡ Good) {d : Checked} (f : checked_is d ≡ (if ltb (length out / record_size) x.count then Some (length out / record_size + 1) else None)) where
+  module _ (q : c ≡ None) {d : (Option ℕ)} (f : checked_is d ≡ (if ltb (length out / record_size) x.count then Some (length out / record_size + 1) else None)) where
     -- 25
-    pub new_short : {i : ℕ} → d ≡ Bad i → {r : Turned} → r ≡ record { number = 25; index = i; records = 0 } → Turns (new_book x out) out r
+    pub new_short : {i : ℕ} → d ≡ Some i → {r : Turned} → r ≡ record { number = 25; index = i; records = 0 } → Turns (new_book x out) out r
     unfolding new_book unfit
     new_short p s = rw (checked_good e q, checked_bad f p) (record { said = s; output = refl })
 
     -- turned
-    pub new_done : d ≡ Good → {o : List ℕ} → o ≡ laid_over out (numbered (records_in field_size x)) → {r : Turned}
+    pub new_done : d ≡ None → {o : List ℕ} → o ≡ laid_over out (numbered (records_in field_size x)) → {r : Turned}
         → r ≡ record { number = 0; index = 0; records = x.count } → Turns (new_book x out) o r
     unfolding new_book unfit
     new_done p g s = rw (checked_good e q, checked_good f p) (record { said = s; output = g })
 
 -- INTO AN OLD BOOK
 
-module _ (x : Given) (out : List ℕ) {c : Checked} (e : checked_is c ≡ fault_of record_size false x) where
+module _ (x : Given) (out : List ℕ) {c : (Option ℕ)} (e : checked_is c ≡ fault_of record_size false x) where
   -- 30
-  pub old_bad : {i : ℕ} → c ≡ Bad i → {r : Turned} → r ≡ record { number = 30; index = i; records = 0 } → Turns (old_book x out) out r
+  pub old_bad : {i : ℕ} → c ≡ Some i → {r : Turned} → r ≡ record { number = 30; index = i; records = 0 } → Turns (old_book x out) out r
   unfolding old_book
   old_bad q s = rw (checked_bad e q) (record { said = s; output = refl })
 
-  module _ (q : c ≡ Good) {b : Checked} (g : checked_is b ≡ misnumbered 1 (called_for (records_in record_size x)) x.instructions) where
+  module _ (q : c ≡ None) {b : (Option ℕ)} (g : checked_is b ≡ misnumbered 1 (called_for (records_in record_size x)) x.instructions) where
     -- 33
-    pub old_wrong : {i : ℕ} → b ≡ Bad i → {r : Turned} → r ≡ record { number = 33; index = i; records = 0 } → Turns (old_book x out) out r
+    pub old_wrong : {i : ℕ} → b ≡ Some i → {r : Turned} → r ≡ record { number = 33; index = i; records = 0 } → Turns (old_book x out) out r
     unfolding old_book
     old_wrong p s = rw (checked_good e q, checked_bad g p) (record { said = s; output = refl })
 
-    module _ (p : b ≡ Good) {d : Checked} (f : checked_is d ≡ (if ltb (length out / field_size) x.count then Some (length out / field_size + 1) else None)) where
+    module _ (p : b ≡ None) {d : (Option ℕ)} (f : checked_is d ≡ (if ltb (length out / field_size) x.count then Some (length out / field_size + 1) else None)) where
       -- 25
-      pub old_short : {i : ℕ} → d ≡ Bad i → {r : Turned} → r ≡ record { number = 25; index = i; records = 0 } → Turns (old_book x out) out r
+      pub old_short : {i : ℕ} → d ≡ Some i → {r : Turned} → r ≡ record { number = 25; index = i; records = 0 } → Turns (old_book x out) out r
       unfolding old_book unfit
       old_short k s = rw (checked_good e q, checked_good g p, checked_bad f k) (record { said = s; output = refl })
 
       -- turned
-      pub old_done : d ≡ Good → {o : List ℕ} → o ≡ laid_over out (joined field_words (records_in record_size x)) → {r : Turned}
+      pub old_done : d ≡ None → {o : List ℕ} → o ≡ laid_over out (joined field_words (records_in record_size x)) → {r : Turned}
           → r ≡ record { number = 0; index = 0; records = x.count } → Turns (old_book x out) o r
       unfolding old_book unfit
       old_done k l s = rw (checked_good e q, checked_good g p, checked_good f k) (record { said = s; output = l })

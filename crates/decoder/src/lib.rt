@@ -12,48 +12,28 @@ ghost use Rattle.decoder.specs.Steps.{take_one, end_in};
 mod lent;
 
 pub use lent::{
-    LongGiven, Pair, TextGiven, WordGiven, int64_in, int64_lent, string_in, string_lent,
-    word_and_string, word_in, word_lent,
+    Pair, int64_in, int64_lent, string_in, string_lent, word_and_string, word_in, word_lent,
 };
-use spec::{Found, HeaderRead, Limit, Refusal, refusals};
+use spec::{HeaderRead, Refusal, refusals};
 use words::word_at;
 
-// A position in some bytes, and how many words may still be read.
+// A position in some bytes, and how many words may still be read: any number, or so many.
 #[derive(Clone, Copy)]
 pub struct Decoder {
     pub offset: usize,
-    pub limit: Limit,
+    pub limit: Option<usize>,
 }
 
-// A word, or a refusal; each with the decoder after it.
-#[derive(Clone, Copy)]
-pub enum WordRead {
-    Got(u32, Decoder),
-    Refused(Refusal, Decoder),
-}
+// A value, or a refusal; each with the decoder after it.
+pub type Answer<T> = Result<(T, Decoder), (Refusal, Decoder)>;
 
-// A 64-bit literal, or a refusal; each with the decoder after it.
-#[derive(Clone, Copy)]
-pub enum LongRead {
-    Got(u64, Decoder),
-    Refused(Refusal, Decoder),
-}
-
-// A string: where its bytes start, how many there are, where the first byte is that is not zero from its zero to the end of its last
-// word, or 0, and the decoder after it.
+// A string: where its bytes start, how many there are, and where the first byte is that is not zero from its zero to the end of its
+// last word, or 0.
 #[derive(Clone, Copy)]
 pub struct Text {
     pub start: usize,
     pub length: usize,
     pub breaks: usize,
-    pub next: Decoder,
-}
-
-// A string, or a refusal with the decoder after it.
-#[derive(Clone, Copy)]
-pub enum TextRead {
-    Got(Text),
-    Refused(Refusal, Decoder),
 }
 
 // Whether the stream ends before the word at a place does.
@@ -136,7 +116,7 @@ fn string_end(part: &[u8]) -> End
     ensures { result ≡ end_in part.now }
 {
     let found = text::zero(part);
-    let Found::At(n) = found else {
+    let Some(n) = found else {
         return End::NoZero;
     };
     if text::utf8(&part[..n]) {
@@ -177,11 +157,11 @@ fn text_break(s: &[u8], at: usize, n: usize) -> usize
 impl Decoder {
     // The start of some bytes, with no limit.
     pub fn new() -> Decoder
-        ensures { result ≡ decoder 0 Limit.Unlimited }
+        ensures { result ≡ decoder 0 None }
     {
         Decoder {
             offset: 0,
-            limit: Limit::Unlimited,
+            limit: None,
         }
     }
 
@@ -199,7 +179,7 @@ impl Decoder {
         let offset = self.offset;
         self = Decoder {
             offset,
-            limit: Limit::Words(n),
+            limit: Some(n),
         };
         self
     }
@@ -211,7 +191,7 @@ impl Decoder {
         let offset = self.offset;
         self = Decoder {
             offset,
-            limit: Limit::Unlimited,
+            limit: None,
         };
         self
     }
@@ -222,8 +202,8 @@ impl Decoder {
     {
         let limit = self.limit;
         match limit {
-            Limit::Unlimited => false,
-            Limit::Words(_) => true,
+            None => false,
+            Some(_) => true,
         }
     }
 
@@ -233,21 +213,21 @@ impl Decoder {
     {
         let limit = self.limit;
         match limit {
-            Limit::Unlimited => false,
-            Limit::Words(n) => n == 0,
+            None => false,
+            Some(n) => n == 0,
         }
     }
 
     // A word that is refused at the position.
-    fn no_word(self, number: u32) -> WordRead
-        ensures { result ≡ WordRead.Refused (refusal number self.offset 0) self }
+    fn no_word(self, number: u32) -> Answer<u32>
+        ensures { result ≡ Err (refusal number self.offset 0, self) }
     {
         let refusal = Refusal {
             number,
             place: self.offset,
             value: 0,
         };
-        WordRead::Refused(refusal, self)
+        Err((refusal, self))
     }
 
     // One word less in the limit, where there is one.
@@ -257,18 +237,18 @@ impl Decoder {
     {
         let offset = self.offset;
         let limit = self.limit;
-        let Limit::Words(n) = limit else {
+        let Some(n) = limit else {
             return self;
         };
         self = Decoder {
             offset,
-            limit: Limit::Words(n - 1),
+            limit: Some(n - 1),
         };
         self
     }
 
     // A word: the limit is tested first, then the stream; a stream refusal has taken one from the limit.
-    pub fn word(mut self, s: &[u8]) -> WordRead
+    pub fn word(mut self, s: &[u8]) -> Answer<u32>
         ensures { result ≡ word_from s.now self }
     {
         let at = self.offset;
@@ -282,44 +262,33 @@ impl Decoder {
             return self.no_word(refusals::STREAM_ENDED);
         }
         self.offset = at + 4;
-        WordRead::Got(word_at(s, at), self)
+        Ok((word_at(s, at), self))
     }
 
     // A 64-bit literal: two words, low first.
-    pub fn int64(mut self, s: &[u8]) -> LongRead
+    pub fn int64(self, s: &[u8]) -> Answer<u64>
         ensures { result ≡ long_from s.now self }
     {
-        let first = self.word(s);
-        match first {
-            WordRead::Refused(x, d) => LongRead::Refused(x, d),
-            WordRead::Got(low, d) => {
-                self = d;
-                let second = self.word(s);
-                match second {
-                    WordRead::Refused(x, e) => LongRead::Refused(x, e),
-                    WordRead::Got(high, e) => {
-                        LongRead::Got((low as u64) + 4294967296 * (high as u64), e)
-                    }
-                }
-            }
-        }
+        let (low, d) = self.word(s)?;
+        let (high, e) = d.word(s)?;
+        Ok(((low as u64) + 4294967296 * (high as u64), e))
     }
 
     // A string that is refused: nothing moves.
-    fn no_text(self, number: u32, place: usize) -> TextRead
-        ensures { result ≡ TextRead.Refused (refusal number place 0) self }
+    fn no_text(self, number: u32, place: usize) -> Answer<Text>
+        ensures { result ≡ Err (refusal number place 0, self) }
     {
         let refusal = Refusal {
             number,
             place,
             value: 0,
         };
-        TextRead::Refused(refusal, self)
+        Err((refusal, self))
     }
 
     // A string in all bytes from the position on: no zero byte is 9 at its start.
-    fn free_string(mut self, s: &[u8]) -> TextRead
-        requires { (self.limit ≡ Limit.Unlimited) × (self.offset ≤ length s.now) }
+    fn free_string(mut self, s: &[u8]) -> Answer<Text>
+        requires { (self.limit ≡ None) × (self.offset ≤ length s.now) }
         ensures { result ≡ text_from s.now self }
     {
         let at = self.offset;
@@ -328,12 +297,12 @@ impl Decoder {
             End::After(n) => {
                 let breaks = text_break(s, at, n);
                 self.offset = at + 4 * (n / 4 + 1);
-                TextRead::Got(Text {
+                let text = Text {
                     start: at,
                     length: n,
                     breaks,
-                    next: self,
-                })
+                };
+                Ok((text, self))
             }
             End::NoZero => self.no_text(refusals::STREAM_ENDED, at),
             End::NotUtf8 => self.no_text(refusals::NOT_UTF8, at),
@@ -341,8 +310,8 @@ impl Decoder {
     }
 
     // A string in the limit's `m` words: past the bytes is 9 at its start, no zero byte 8 at their end.
-    fn limited_string(mut self, s: &[u8], m: usize) -> TextRead
-        requires { (self.limit ≡ Limit.Words m) × (self.offset ≤ length s.now) }
+    fn limited_string(mut self, s: &[u8], m: usize) -> Answer<Text>
+        requires { (self.limit ≡ Some m) × (self.offset ≤ length s.now) }
         ensures { result ≡ text_from s.now self }
     {
         let at = self.offset;
@@ -357,14 +326,14 @@ impl Decoder {
                 let words = n / 4 + 1;
                 self = Decoder {
                     offset: at + 4 * words,
-                    limit: Limit::Words(m - words),
+                    limit: Some(m - words),
                 };
-                TextRead::Got(Text {
+                let text = Text {
                     start: at,
                     length: n,
                     breaks,
-                    next: self,
-                })
+                };
+                Ok((text, self))
             }
             End::NoZero => self.no_text(refusals::LIMIT_REACHED, to),
             End::NotUtf8 => self.no_text(refusals::NOT_UTF8, at),
@@ -372,7 +341,7 @@ impl Decoder {
     }
 
     // A string; from beyond the bytes it is 9 at its start.
-    pub fn string(mut self, s: &[u8]) -> TextRead
+    pub fn string(mut self, s: &[u8]) -> Answer<Text>
         ensures { result ≡ text_from s.now self }
     {
         let at = self.offset;
@@ -381,8 +350,8 @@ impl Decoder {
             return self.no_text(refusals::STREAM_ENDED, at);
         }
         match limit {
-            Limit::Unlimited => self.free_string(s),
-            Limit::Words(m) => self.limited_string(s, m),
+            None => self.free_string(s),
+            Some(m) => self.limited_string(s, m),
         }
     }
 }

@@ -2,8 +2,8 @@
 // bytes, the position and the limit; then what came, a value or a refusal's number, place and value, and the position and limit after.
 #![tactic(auto)]
 
-use decoder::{Decoder, LongRead, TextGiven, TextRead, WordGiven, WordRead};
-use spec::{Limit, Refusal};
+use decoder::{Answer, Decoder, TextGiven, WordGiven};
+use spec::Refusal;
 use std::io;
 
 // Writes some text.
@@ -40,8 +40,8 @@ fn place(rt: &impl Print, d: Decoder) -> io::Result<()> {
     number(rt, d.offset())?;
     let limit = d.limit;
     match limit {
-        Limit::Unlimited => say(rt, " no limit")?,
-        Limit::Words(n) => {
+        None => say(rt, " no limit")?,
+        Some(n) => {
             say(rt, " limit ")?;
             number(rt, n)?;
         }
@@ -82,11 +82,11 @@ fn word(rt: &impl Print, s: &[u8], d: Decoder) -> io::Result<Decoder> {
     asked(rt, "word [", s, d)?;
     let r = d.word(s);
     match r {
-        WordRead::Got(w, e) => {
+        Ok((w, e)) => {
             hex(rt, w)?;
             after(rt, e)
         }
-        WordRead::Refused(x, e) => {
+        Err((x, e)) => {
             refused(rt, x)?;
             after(rt, e)
         }
@@ -94,13 +94,13 @@ fn word(rt: &impl Print, s: &[u8], d: Decoder) -> io::Result<Decoder> {
 }
 
 // Ends a line with a 64-bit literal, or why there is none.
-fn long(rt: &impl Print, r: LongRead) -> io::Result<Decoder> {
+fn long(rt: &impl Print, r: Answer<u64>) -> io::Result<Decoder> {
     match r {
-        LongRead::Got(v, e) => {
+        Ok((v, e)) => {
             print!(rt; "{v:016x}")?;
             after(rt, e)
         }
-        LongRead::Refused(x, e) => {
+        Err((x, e)) => {
             refused(rt, x)?;
             after(rt, e)
         }
@@ -137,11 +137,11 @@ fn string(rt: &impl Print, s: &[u8], d: Decoder) -> io::Result<Decoder> {
     asked(rt, "string [", s, d)?;
     let r = d.string(s);
     match r {
-        TextRead::Got(t) => {
+        Ok(t) => {
             span(rt, t.start, t.length, t.breaks)?;
             after(rt, t.next)
         }
-        TextRead::Refused(x, e) => {
+        Err((x, e)) => {
             refused(rt, x)?;
             after(rt, e)
         }
@@ -208,7 +208,7 @@ fn limit(rt: &impl Print, d: Decoder) -> io::Result<()> {
 fn at(offset: usize) -> Decoder {
     Decoder {
         offset,
-        limit: Limit::Unlimited,
+        limit: None,
     }
 }
 

@@ -7,7 +7,6 @@ use native.Mathlib.Omega.{arith}
 use borrow.Author.Tests.{ltb-true, ltb-false}
 use lib.Dec.{ltb, eqb}
 use lib.ListN.{length, take, drop, length-drop}
-use Rattle.spec.specs.declared.Limit.TheVariants.{Unlimited}
 use Rattle.spec.specs.declared.HeaderRead.{HeaderRead}
 use Rattle.spec.specs.declared.Counts.{Counts}
 use Rattle.spec.specs.declared.Loaded.{Loaded}
@@ -23,6 +22,7 @@ use Rattle.demands.proofs.Formed.{GrammarGood, well_formed_good}
 use Rattle.demands.proofs.Instructions.{Frames, instr_read}
 use Rattle.demands.proofs.Runs.{Stops, ends, unread, misplaced, crowded, Run, stops, keeps, entered_read, left_behind, runs}
 use Rattle.demands.proofs.Room.{Held, held_none, held_more}
+use Rattle.std.specs.Prelude.{None}
 
 -- an answer of w words at most: its place is not past an end, and its counts are no more than those of w words
 record Near (end w : ℕ) (x : Loaded) : Type 0 where
@@ -62,10 +62,10 @@ header_near s =
 module _ (grammar : List ℕ) (formed : well_formed grammar ≡ true) (room : Counts) (s : List ℕ) (short : length s ≤ 67108864) where
   -- the answer of the instructions after a header
   instructions_small :
-      let o = load_from (grammar_of grammar) room (header_from s).words (length s / 4) empty_book (reader 20 Unlimited (drop 20 s)) in
+      let o = load_from (grammar_of grammar) room (header_from s).words (length s / 4) empty_book (reader 20 None (drop 20 s)) in
       Small (with_plain s o).said
   instructions_small =
-      let o = load_from (grammar_of grammar) room (header_from s).words (length s / 4) empty_book (reader 20 Unlimited (drop 20 s)) in
+      let o = load_from (grammar_of grammar) room (header_from s).words (length s / 4) empty_book (reader 20 None (drop 20 s)) in
       let good = well_formed_good grammar formed in
       let left = length-drop 20 s in
       let near = run_near good (20 + length s) (length s / 4 - 5)

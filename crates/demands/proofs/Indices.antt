@@ -12,8 +12,6 @@ use lib.ListN.{length, drop, get_or}
 use lib.Seq.{get_or-drop}
 use Rattle.spec.specs.declared.State.{State}
 use Rattle.spec.specs.declared.State.TheVariants.{Outside}
-use Rattle.spec.specs.declared.Cell.{Cell}
-use Rattle.spec.specs.declared.Cell.TheVariants.{Tagged, Refuses}
 use Rattle.spec.specs.declared.Fields.{Fields}
 use Rattle.spec.specs.Base.{implies, has}
 use Rattle.spec.specs.Records.{Operand, Placed, fields_at, record_size}
@@ -23,6 +21,8 @@ use Rattle.spec.specs.Write.{parse_bytes, module_bytes, write_parse, write_modul
 use Rattle.spec.specs.Disassembly.{module_text, is_named, unnamed, check_named, list_by, disassemble}
 use Rattle.spec.proofs.Choice.{either, IfSome}
 use Rattle.spec.proofs.Faultless.{fields_told, Said, record_said}
+use Rattle.spec.specs.Layout.{Cell}
+use Rattle.std.specs.Prelude.{Err, Ok}
 
 -- AN INDEX OR NONE
 
@@ -137,8 +137,8 @@ module _ (log_count string_count : ℕ) where
 -- a record's tag, where the tags after it are so
 tag_most : (index tag : ℕ) (c : Cell) (more : State → Option ℕ) → index ≤ most → ((s : State) → AtMost (more s))
     → AtMost (on_tag index tag c more)
-tag_most index tag (Tagged t s) more e on = either AtMost (eqb tag t) (more s) (Some index) (λ x. on s) (λ x. e)
-tag_most index tag (Refuses n) more e on = e
+tag_most index tag (Ok (t, s)) more e on = either AtMost (eqb tag t) (more s) (Some index) (λ x. on s) (λ x. e)
+tag_most index tag (Err n) more e on = e
 
 -- the first record with a bad tag, or the end
 tags_most : (whole : Bool) (fs : List Fields) (index : ℕ) (s : State) → index + length fs ≤ most

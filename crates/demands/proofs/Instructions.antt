@@ -11,7 +11,6 @@ use borrow.Author.Tests.{eqb-false}
 use lib.Dec.{eqb, eqb-suc-zero}
 use lib.ListN.{length, length-append}
 use lib.Seq.{drop-append-add}
-use Rattle.spec.specs.declared.Limit.TheVariants.{Unlimited, Words}
 use Rattle.spec.specs.Base.{joined}
 use Rattle.spec.specs.Words.{four, bytes_of, front_of, AllBytes}
 use Rattle.spec.specs.Reader.{Reader, reader, Read, got, refused, Parse, after, refuse, word_at}
@@ -39,7 +38,7 @@ pub record InstrGood (i : Instr) : Type 0 where
 -- it is read from the bytes x, without a limit
 abbrev pub ReadFrom : Grammar → List Entry → ℕ → Instr → List ℕ → Type 0
 ReadFrom g types at i x =
-    (t : List ℕ) → read_instr g types (reader at Unlimited (x ++ t)) ≡ got i (reader (at + 4 * i.words) Unlimited t)
+    (t : List ℕ) → read_instr g types (reader at None (x ++ t)) ≡ got i (reader (at + 4 * i.words) None t)
 
 -- an instruction that was read from the bytes x, where these are bytes, and y, the bytes written for it
 pub record InstrSure (g : Grammar) (types : List Entry) (at : ℕ) (i : Instr) (x y : List ℕ) : Type 0 where
@@ -55,7 +54,7 @@ pub record InstrRead (g : Grammar) (types : List Entry) (at : ℕ) (rest : List 
   pub from : List ℕ
   pub behind : List ℕ
   pub takes : rest ≡ from ++ behind
-  pub to : t ≡ reader (at + 4 * i.words) Unlimited behind
+  pub to : t ≡ reader (at + 4 * i.words) None behind
   pub whole : length from ≡ 4 * i.words
   pub some_word : 1 ≤ i.words
   pub offset : i.offset ≡ at
@@ -130,8 +129,8 @@ module _ (g : Grammar) (good : GrammarGood g) (types : List Entry) (at a b c d :
 
     -- it is read from its first word and what its row is read from
     framed_again : (s : Seen) (x : List ℕ) → Again row_read (count - 1) 0 x s → (t : List ℕ)
-        → read_instr g types (reader at Unlimited (a ∷ b ∷ c ∷ d ∷ (x ++ t)))
-        ≡ got (instr_of at count op s) (reader (at + 4 + length x) Unlimited t)
+        → read_instr g types (reader at None (a ∷ b ∷ c ∷ d ∷ (x ++ t)))
+        ≡ got (instr_of at count op s) (reader (at + 4 + length x) None t)
     unfolding read_instr word_at front_of all_read
     framed_again s x again t = rw (some_word, found) (rw (again (at + 4) t (omega arith)))
 
@@ -150,7 +149,7 @@ module _ (g : Grammar) (good : GrammarGood g) (types : List Entry) (at a b c d :
       -- it is read again
       read_from : (z : List ℕ) → length z ≡ length x → Again row_read (count - 1) 0 z s → ReadFrom g types at i (a ∷ b ∷ c ∷ d ∷ z)
       read_from z same p t =
-          framed_again s z p t ∙ ap (λ (n : ℕ). got i (reader n Unlimited t)) (ap (λ (n : ℕ). at + 4 + n) same ∙ end)
+          framed_again s z p t ∙ ap (λ (n : ℕ). got i (reader n None t)) (ap (λ (n : ℕ). at + 4 + n) same ∙ end)
 
       -- its size
       size : count ≡ 1 + id_size s.result_type + id_size s.result_id + operands_size s.operands
@@ -193,13 +192,13 @@ module _ (g : Grammar) (good : GrammarGood g) (types : List Entry) (at a b c d :
           })
 
       -- all of it
-      instr_here : InstrRead g types at rest i (reader (at + 4 + length x) Unlimited behind)
+      instr_here : InstrRead g types at rest i (reader (at + 4 + length x) None behind)
       instr_here =
           record {
             from = a ∷ b ∷ c ∷ d ∷ x;
             behind = behind;
             takes = ap (λ (l : List ℕ). a ∷ b ∷ c ∷ d ∷ l) takes;
-            to = ap (λ (n : ℕ). reader n Unlimited behind) end;
+            to = ap (λ (n : ℕ). reader n None behind) end;
             whole = omega (arith, eqb-false count 0 some_word);
             some_word = omega (arith, eqb-false count 0 some_word);
             offset = refl;
@@ -211,14 +210,14 @@ module _ (g : Grammar) (good : GrammarGood g) (types : List Entry) (at a b c d :
     -- by the words that its row has left
     left_frames : (s : Seen) (t : Reader) (z : Taken SeenTold row_read (at + 4) (count - 1) r s t)
         → Frames g types at rest
-        (all_read (instr_of at count op s) (reader (at + 4 + length z.from) (Words z.left) z.behind))
+        (all_read (instr_of at count op s) (reader (at + 4 + length z.from) (Some z.left) z.behind))
     unfolding all_read
     left_frames s t z = by z.left z.spends z.again z.back
       where
         by : (n : ℕ) → 4 * (count - 1) ≡ length z.from + 4 * n → Again row_read (count - 1) n z.from s
             → (AllBytes z.from → Again row_read (count - 1) n z.bytes s)
             → Frames g types at rest
-            (all_read (instr_of at count op s) (reader (at + 4 + length z.from) (Words n) z.behind))
+            (all_read (instr_of at count op s) (reader (at + 4 + length z.from) (Some n) z.behind))
         by zero spends again back =
             instr_here s z.from z.bytes z.behind z.takes (omega arith) z.long again back z.fact
         by (suc n) spends again back =
@@ -233,23 +232,23 @@ module _ (g : Grammar) (good : GrammarGood g) (types : List Entry) (at a b c d :
 
   -- by its opcode's row
   body_frames : eqb count 0 ≡ false → (o : Option (List Slot)) → row_of op g.rows ≡ o → IfSome (RowFrom true true) o
-      → Frames g types at rest (read_body g types at count op o (reader (at + 4) Unlimited r))
+      → Frames g types at rest (read_body g types at count op o (reader (at + 4) None r))
   body_frames some_word None e row = omega arith
   body_frames some_word (Some ss) e row =
-      row_frames some_word ss e (read_row g types (count - 1) ss nothing_seen (reader (at + 4) (Words (count - 1)) r))
+      row_frames some_word ss e (read_row g types (count - 1) ss nothing_seen (reader (at + 4) (Some (count - 1)) r))
       ((row_reads g good types (count - 1) ss row).comes (at + 4) (count - 1) r)
 
   -- by its word count
-  word_frames : Frames g types at rest (read_instr g types (reader at Unlimited rest))
+  word_frames : Frames g types at rest (read_instr g types (reader at None rest))
   unfolding read_instr word_at front_of
   word_frames =
-      either (λ (m : Parse Instr). Frames g types at rest (m (reader (at + 4) Unlimited r))) (eqb count 0) (refuse 4 at)
+      either (λ (m : Parse Instr). Frames g types at rest (m (reader (at + 4) None r))) (eqb count 0) (refuse 4 at)
       (read_body g types at count op (row_of op g.rows)) (λ e. omega arith)
       (λ e. body_frames e (row_of op g.rows) refl (good.rows op))
 
 -- whatever instruction is read
 pub instr_read : (g : Grammar) → GrammarGood g → (types : List Entry) (at : ℕ) (rest : List ℕ)
-    → Frames g types at rest (read_instr g types (reader at Unlimited rest))
+    → Frames g types at rest (read_instr g types (reader at None rest))
 unfolding read_instr word_at front_of
 instr_read g good types at [] = omega arith
 instr_read g good types at (a ∷ []) = omega arith

@@ -9,10 +9,8 @@ use native.Mathlib.Omega.{arith}
 use native.Mathlib.Nat.{add-zero}
 use borrow.Author.Tests.{leb-false, le-leb, eqb-false}
 use lib.ListN.{length, length-append}
-use Rattle.spec.specs.declared.Limit.TheVariants.{Unlimited}
 use Rattle.spec.specs.declared.State.{State}
 use Rattle.spec.specs.declared.State.TheVariants.{Outside, Function, Block}
-use Rattle.spec.specs.declared.Cell.TheVariants.{Tagged}
 use Rattle.spec.specs.declared.Counts.{Counts}
 use Rattle.spec.specs.Grammar.{Grammar}
 use Rattle.spec.specs.Reader.{Reader, reader}
@@ -29,6 +27,7 @@ use Rattle.demands.proofs.Cells.{layout_refuses}
 use Rattle.demands.proofs.Formed.{GrammarGood}
 use Rattle.demands.proofs.Instructions.{InstrGood, ReadFrom, InstrSure, InstrRead, Frames, instr_read}
 use Rattle.demands.proofs.Runs.{Enters, next, placed_of, with, Fits, Stops, ends, unread, misplaced, crowded, Run, stops, keeps, entered_read}
+use Rattle.std.specs.Prelude.{None, Ok}
 
 -- INSTRUCTIONS THAT FOLLOW ON
 
@@ -38,7 +37,7 @@ pub data Follow : ℕ → State → List Placed → State → Type 0 where
   leading : {at : ℕ} {s t e : State} {p : Placed} {ps : List Placed}
       → InstrGood p.instr
       → p.instr.offset ≡ at
-      → layout_of p.instr.opcode s ≡ Tagged p.tag t
+      → layout_of p.instr.opcode s ≡ Ok (p.tag, t)
       → Follow (at + 4 * p.instr.words) t ps e
       → Follow at s (p ∷ ps) e
 
@@ -139,7 +138,7 @@ module _ (g : Grammar) (good : GrammarGood g) (room : Counts) (h : List ℕ) whe
   module _ {b : Book} {at : ℕ} {rest : List ℕ} {o : Outcome} (z : Enters g b at rest) (fits : Fits room z true)
       (m : RunRead g room h (with z) (next z) z.behind o) where
     -- as it was read
-    abbrev x : InstrRead g b.types at rest z.instr (reader (next z) Unlimited z.behind)
+    abbrev x : InstrRead g b.types at rest z.instr (reader (next z) None z.behind)
     x = entered_read g good z
 
     -- where all end

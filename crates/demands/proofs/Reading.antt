@@ -9,13 +9,13 @@ use native.Mathlib.Omega.{arith}
 use native.Mathlib.Nat.{add-zero}
 use lib.Dec.{eqb-suc-zero}
 use lib.ListN.{length, length-append}
-use Rattle.spec.specs.declared.Limit.TheVariants.{Words}
 use Rattle.spec.specs.declared.Refusal.{Refusal}
 use Rattle.std.specs.Prelude.{if◌then◌else◌}
 use Rattle.spec.specs.Reader.{Reader, reader, Read, got, refused, Parse, after, ◌>>=◌, ◌into◌, give, refuse, here, spent}
 use Rattle.spec.specs.Words.{AllBytes}
 use Rattle.demands.proofs.Choice.{either}
 use Rattle.demands.proofs.Bytes.{all_left, all_right}
+use Rattle.std.specs.Prelude.{Some}
 
 -- THE PROPERTY
 
@@ -34,7 +34,7 @@ RefusedBy end x = OfReading x.number × (x.place ≤ end)
 -- from anywhere, with n words left, m reads a from the bytes w, where the bytes of the n' words left then are there
 abbrev pub Again : {A : Type 0} → Parse A → ℕ → ℕ → List ℕ → A → Type 0
 Again m n n' w a =
-    (at : ℕ) (t : List ℕ) → 4 * n' ≤ length t → m (reader at (Words n) (w ++ t)) ≡ got a (reader (at + length w) (Words n') t)
+    (at : ℕ) (t : List ℕ) → 4 * n' ≤ length t → m (reader at (Some n) (w ++ t)) ≡ got a (reader (at + length w) (Some n') t)
 
 -- a was read from the bytes in front, and the reader t is left, with words and bytes; it is read from those bytes again, and from
 -- the bytes written for it, as many, where they are bytes
@@ -43,7 +43,7 @@ pub record Taken {A : Type 0} (R : Relation A) (m : Parse A) (at n : ℕ) (rest 
   pub left : ℕ
   pub behind : List ℕ
   pub takes : rest ≡ from ++ behind
-  pub to : t ≡ reader (at + length from) (Words left) behind
+  pub to : t ≡ reader (at + length from) (Some left) behind
   pub spends : 4 * n ≡ length from + 4 * left
   pub again : Again m n left from a
   pub bytes : List ℕ
@@ -58,7 +58,7 @@ Comes R m at n rest (refused x t) = RefusedBy (at + length rest) x
 
 -- whatever the parse reads, from any position, with any number of words left, and from any bytes, is so
 pub record Reads {A : Type 0} (R : Relation A) (m : Parse A) : Type 0 where
-  pub comes : (at n : ℕ) (rest : List ℕ) → Comes R m at n rest (m (reader at (Words n) rest))
+  pub comes : (at n : ℕ) (rest : List ℕ) → Comes R m at n rest (m (reader at (Some n) rest))
 
 -- THE RULES
 
@@ -88,7 +88,7 @@ stop_reads p = record { comes = λ at m rest. (p, omega arith) }
 
 -- a parse that does, with so many words left, as another, of which more is said
 as_comes : {A : Type 0} {Q R : Relation A} (m p : Parse A) (n : ℕ)
-    → ((at : ℕ) (rest : List ℕ) → p (reader at (Words n) rest) ≡ m (reader at (Words n) rest))
+    → ((at : ℕ) (rest : List ℕ) → p (reader at (Some n) rest) ≡ m (reader at (Some n) rest))
     → ((a : A) (x w : List ℕ) → Q a x w → R a x w) → (at : ℕ) (rest : List ℕ) (y : Read A) → Comes Q m at n rest y
     → Comes R p at n rest y
 as_comes m p n e f at rest (got a t) z =
@@ -112,7 +112,7 @@ pub less_reads : {A : Type 0} {Q R : Relation A} {m : Parse A} → Reads Q m →
     → Reads R m
 less_reads {Q = Q} {R = R} {m = m} z f =
     record {
-      comes = λ at n rest. as_comes {Q = Q} {R = R} m m n (λ at rest. refl) f at rest (m (reader at (Words n) rest))
+      comes = λ at n rest. as_comes {Q = Q} {R = R} m m n (λ at rest. refl) f at rest (m (reader at (Some n) rest))
           (z.comes at n rest);
     }
 
@@ -123,15 +123,15 @@ spent_reads {R = R} {m = m} {k = k} y z = record { comes = by }
   where
     by : (at n : ℕ) (rest : List ℕ)
         → Comes R (spent >>= (λ end. if end then m else k)) at n rest
-        ((spent >>= (λ end. if end then m else k)) (reader at (Words n) rest))
+        ((spent >>= (λ end. if end then m else k)) (reader at (Some n) rest))
     by at zero rest =
         as_comes {Q = R} {R = R} m (spent >>= (λ end. if end then m else k)) zero (λ at rest. refl) (λ a x w r. r) at rest
-        (m (reader at (Words zero) rest)) (y.comes at zero rest)
+        (m (reader at (Some zero) rest)) (y.comes at zero rest)
     by at (suc n) rest =
         rw eqb-suc-zero
         (as_comes {Q = R} {R = R} k (spent >>= (λ end. if end then m else k)) (suc n) (λ at rest. rw (eqb-suc-zero n))
         (λ a x w r. r) at rest
-        (k (reader at (Words (suc n)) rest)) (z.comes at (suc n) rest))
+        (k (reader at (Some (suc n)) rest)) (z.comes at (suc n) rest))
 
 module _ {A B : Type 0} (Q : Relation A) (R : Relation B) (m : Parse A) (k : A → Parse B) where
   -- the bytes of the first, then those of the second, are read
@@ -156,7 +156,7 @@ module _ {A B : Type 0} (Q : Relation A) (R : Relation B) (m : Parse A) (k : A �
         left = u.left;
         behind = u.behind;
         takes = z.takes ∙ ap (λ (w : List ℕ). z.from ++ w) u.takes ∙ sym (append_assoc z.from u.from u.behind);
-        to = u.to ∙ ap (λ (p : ℕ). reader p (Words u.left) u.behind) e;
+        to = u.to ∙ ap (λ (p : ℕ). reader p (Some u.left) u.behind) e;
         spends = omega arith;
         again = again_then n z.left u.left a b z.from u.from second z.again u.again;
         bytes = z.bytes ++ u.bytes;
@@ -175,7 +175,7 @@ module _ {A B : Type 0} (Q : Relation A) (R : Relation B) (m : Parse A) (k : A �
       → (y : Read A) → Comes Q m at n rest y → Comes R (m >>= k) at n rest (after y k)
   first_comes on at n rest (got a t) z =
       subst (λ (u : Reader). Comes R (m >>= k) at n rest (k a u)) (sym z.to)
-      (second_comes at n rest a t z (k a (reader (at + length z.from) (Words z.left) z.behind))
+      (second_comes at n rest a t z (k a (reader (at + length z.from) (Some z.left) z.behind))
       ((on a z.from z.bytes z.fact).comes (at + length z.from) z.left z.behind))
   first_comes on at n rest (refused x t) z = z
 
@@ -183,7 +183,7 @@ module _ {A B : Type 0} (Q : Relation A) (R : Relation B) (m : Parse A) (k : A �
 pub then_reads : {A B : Type 0} {Q : Relation A} {R : Relation B} {m : Parse A} {k : A → Parse B} → Reads Q m
     → ((a : A) (x w : List ℕ) → Q a x w → Reads (λ b u v. R b (x ++ u) (w ++ v)) (k a)) → Reads R (m >>= k)
 then_reads {Q = Q} {R = R} {m = m} {k = k} z on =
-    record { comes = λ at n rest. first_comes Q R m k on at n rest (m (reader at (Words n) rest)) (z.comes at n rest) }
+    record { comes = λ at n rest. first_comes Q R m k on at n rest (m (reader at (Some n) rest)) (z.comes at n rest) }
 
 -- what was read, made into something else
 pub into_reads : {A B : Type 0} {Q : Relation A} {R : Relation B} {m : Parse A} (f : A → B) → Reads Q m

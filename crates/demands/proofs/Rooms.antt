@@ -6,9 +6,6 @@ use mathlib.Core.List.{List}
 use borrow.Author.Tests.{le-leb}
 use lib.Dec.{ltb, eqb}
 use lib.ListN.{length, drop}
-use Rattle.spec.specs.declared.Limit.TheVariants.{Unlimited}
-use Rattle.spec.specs.declared.Cell.{Cell}
-use Rattle.spec.specs.declared.Cell.TheVariants.{Tagged, Refuses}
 use Rattle.spec.specs.declared.Counts.{Counts}
 use Rattle.std.specs.Prelude.{if◌then◌else◌}
 use Rattle.spec.specs.Base.{has, within}
@@ -21,6 +18,8 @@ use Rattle.spec.specs.Match.{read_instr}
 use Rattle.spec.specs.Load.{room_fault, Book, empty_book, entered, Outcome, lacks_room, placed, roomed, on_book, load_from, with_plain, load_with, load}
 use Rattle.demands.proofs.Choice.{both, cases}
 use Rattle.demands.proofs.Numbers.{room_number}
+use Rattle.spec.specs.Layout.{Cell}
+use Rattle.std.specs.Prelude.{Err, None, Ok}
 
 -- a load is not refused for room
 abbrev pub Roomy : Outcome → Type 0
@@ -63,8 +62,8 @@ module _ (g : Grammar) (room other : Counts) (h : List ℕ) (b : Book) {x y : Bo
   -- by layout
   alike_cell : (i : Instr) (c : Cell) (t : Reader)
       → Alike (on_book h b ((placed b i c >>= roomed room i) t) x) (on_book h b ((placed b i c >>= roomed other i) t) y)
-  alike_cell i (Tagged tag s) t = alike_room i (entered b i tag s) t
-  alike_cell i (Refuses n) t = itself
+  alike_cell i (Ok (tag, s)) t = alike_room i (entered b i tag s) t
+  alike_cell i (Err n) t = itself
 
   -- what follows decoding, in a room
   abbrev admitted : Counts → Instr → Parse Book
@@ -91,6 +90,6 @@ any_room grammar room other s =
     (alike_if (ltb 67108864 (length s)) itself
     (alike_if (eqb (header_from s).refusal.number 0)
     (alike_plain s
-    (alike_from (grammar_of grammar) room other (header_from s).words (length s / 4) empty_book (reader 20 Unlimited (drop 20 s))))
+    (alike_from (grammar_of grammar) room other (header_from s).words (length s / 4) empty_book (reader 20 None (drop 20 s))))
     itself))
     itself

@@ -9,7 +9,6 @@ use borrow.Author.Tests.{le-ltb, ltb-false, eqb-true, not-true}
 use lib.Dec.{eqb, ltb}
 use lib.ListN.{length, take, drop, replicate, length-append, length-replicate, take-append-drop}
 use lib.Seq.{take-append-add, take-take, drop_at, length-take-le}
-use Rattle.spec.specs.declared.Limit.TheVariants.{Words}
 use Rattle.spec.specs.Base.{every}
 use Rattle.spec.specs.Text.{cons_in, until_zero, text_words, padded, is_utf8}
 use Rattle.spec.specs.Reader.{Reader, reader, got, refuse, past_text, text_found, read_text}
@@ -99,7 +98,7 @@ padded_in s z u =
 module _ (at n : ℕ) (rest : List ℕ) (fits : 4 * n ≤ length rest) where
   -- where a string is read
   abbrev start : Reader
-  start = reader at (Words n) rest
+  start = reader at (Some n) rest
 
   -- the bytes of its words
   abbrev taken : List ℕ → List ℕ
@@ -158,8 +157,8 @@ unfolding read_text
 text_reads =
     record {
       comes = λ at n rest.
-          either (Comes Text read_text at n rest) (ltb (length rest) (4 * n)) (refuse 9 at (reader at (Words n) rest))
-          (text_found (until_zero (take (4 * n) rest)) (reader at (Words n) rest)) (λ e. omega arith)
+          either (Comes Text read_text at n rest) (ltb (length rest) (4 * n)) (refuse 9 at (reader at (Some n) rest))
+          (text_found (until_zero (take (4 * n) rest)) (reader at (Some n) rest)) (λ e. omega arith)
           (λ e. found_comes at n rest (ltb-false (length rest) (4 * n) e) (until_zero (take (4 * n) rest))
           (ends_in (take (4 * n) rest)));
     }

@@ -6,7 +6,6 @@ use Rattle.std.specs.Prelude.{Option, None, Some}
 use native.Mathlib.Omega.{arith}
 use lib.Dec.{eqb-suc-zero}
 use lib.ListN.{length}
-use Rattle.spec.specs.declared.Limit.TheVariants.{Words}
 use Rattle.spec.specs.Words.{four, bytes_of, front, front_of, AllBytes}
 use Rattle.spec.specs.Reader.{reader, got, Parse, ◌into◌, word_at, read_word}
 use Rattle.spec.specs.Grammar.{Grammar, parameters_for}
@@ -21,10 +20,10 @@ front_bytes w t h = ap (λ (x : ℕ). front x t) (four_bytes w h)
 
 -- what was read from a word in front, and is read again from the bytes of a word
 word_taken : {A : Type 0} {R : Relation A} (m : Parse A) (at n a b c d : ℕ) (r : List ℕ) (v : A) (w : ℕ)
-    → ((at : ℕ) (t : List ℕ) → m (reader at (Words (suc n)) (a ∷ b ∷ c ∷ d ∷ t)) ≡ got v (reader (at + 4) (Words n) t))
+    → ((at : ℕ) (t : List ℕ) → m (reader at (Some (suc n)) (a ∷ b ∷ c ∷ d ∷ t)) ≡ got v (reader (at + 4) (Some n) t))
     → (AllBytes (a ∷ b ∷ c ∷ d ∷ []) → (at : ℕ) (t : List ℕ)
-    → m (reader at (Words (suc n)) (bytes_of w ++ t)) ≡ got v (reader (at + 4) (Words n) t))
-    → R v (a ∷ b ∷ c ∷ d ∷ []) (bytes_of w) → Taken R m at (suc n) (a ∷ b ∷ c ∷ d ∷ r) v (reader (at + 4) (Words n) r)
+    → m (reader at (Some (suc n)) (bytes_of w ++ t)) ≡ got v (reader (at + 4) (Some n) t))
+    → R v (a ∷ b ∷ c ∷ d ∷ []) (bytes_of w) → Taken R m at (suc n) (a ∷ b ∷ c ∷ d ∷ r) v (reader (at + 4) (Some n) r)
 unfolding bytes_of
 word_taken m at n a b c d r v w again back fact =
     record {
@@ -51,7 +50,7 @@ pub record Word (w : ℕ) (x y : List ℕ) : Type 0 where
 
 -- a word is read from its bytes where a word is left
 word_again : (w : ℕ) → w < 4294967296 → (at n : ℕ) (t : List ℕ)
-    → read_word (reader at (Words (suc n)) (bytes_of w ++ t)) ≡ got w (reader (at + 4) (Words n) t)
+    → read_word (reader at (Some (suc n)) (bytes_of w ++ t)) ≡ got w (reader (at + 4) (Some n) t)
 unfolding word_at
 word_again w h at n t = rw front_bytes
 
@@ -60,7 +59,7 @@ pub word_reads : Reads Word read_word
 unfolding word_at front_of
 word_reads = record { comes = by }
   where
-    by : (at n : ℕ) (rest : List ℕ) → Comes Word read_word at n rest (read_word (reader at (Words n) rest))
+    by : (at n : ℕ) (rest : List ℕ) → Comes Word read_word at n rest (read_word (reader at (Some n) rest))
     by at zero rest = omega arith
     by at (suc n) [] = omega arith
     by at (suc n) (a ∷ []) = omega arith
@@ -84,7 +83,7 @@ enumerant_reads g k = record { comes = by }
   where
     listed : (at n a b c d : ℕ) (r : List ℕ) (o : Option (List ℕ)) → parameters_for k (four a b c d) g ≡ o
         → Comes (KnownWord g k) (read_enumerant g k) at (suc n) (a ∷ b ∷ c ∷ d ∷ r)
-        (known_or at (four a b c d) o (reader (at + 4) (Words n) r))
+        (known_or at (four a b c d) o (reader (at + 4) (Some n) r))
     listed at n a b c d r None e = omega arith
     listed at n a b c d r (Some ps) e =
         word_taken {R = KnownWord g k} (read_enumerant g k) at n a b c d r (known (four a b c d) ps) (four a b c d)
@@ -93,7 +92,7 @@ enumerant_reads g k = record { comes = by }
         (record { long = refl; are = refl; exact = four_word a b c d }, e)
 
     by : (at n : ℕ) (rest : List ℕ)
-        → Comes (KnownWord g k) (read_enumerant g k) at n rest (read_enumerant g k (reader at (Words n) rest))
+        → Comes (KnownWord g k) (read_enumerant g k) at n rest (read_enumerant g k (reader at (Some n) rest))
     by at zero rest = omega arith
     by at (suc n) [] = rw eqb-suc-zero (omega arith)
     by at (suc n) (a ∷ []) = rw eqb-suc-zero (omega arith)
@@ -120,7 +119,7 @@ pub opcode_reads : Reads Opcode read_opcode
 unfolding word_at front_of
 opcode_reads = record { comes = by }
   where
-    by : (at n : ℕ) (rest : List ℕ) → Comes Opcode read_opcode at n rest (read_opcode (reader at (Words n) rest))
+    by : (at n : ℕ) (rest : List ℕ) → Comes Opcode read_opcode at n rest (read_opcode (reader at (Some n) rest))
     by at zero rest = omega arith
     by at (suc n) [] = omega arith
     by at (suc n) (a ∷ []) = omega arith

@@ -12,8 +12,6 @@ use lib.ListN.{length, take, drop, length-drop}
 use lib.Seq.{drop-nil, drop-drop, take_all}
 use Rattle.spec.specs.declared.State.{State}
 use Rattle.spec.specs.declared.State.TheVariants.{Outside}
-use Rattle.spec.specs.declared.Cell.{Cell}
-use Rattle.spec.specs.declared.Cell.TheVariants.{Tagged, Refuses}
 use Rattle.spec.specs.declared.Fields.{Fields}
 use Rattle.spec.specs.declared.Written.{Written}
 use Rattle.std.specs.Prelude.{if◌then◌else◌}
@@ -24,8 +22,6 @@ use Rattle.spec.specs.Check.{Given, lower, records_of, missing, fields_good, fie
 use Rattle.spec.specs.Disassembly.{is_named, unnamed, check_named, disassemble, module_text}
 use Rattle.spec.proofs.Choice.{IfSome}
 use Rattle.spec.proofs.Faultless.{none_if, no_faults, Said, record_said}
-use Rattle.records.specs.declared.Checked.{Checked as Answer}
-use Rattle.records.specs.declared.Checked.TheVariants.{Good as AllGood, Bad}
 use Rattle.records.specs.Steps.{given, checked_is, left_at, at_most}
 use Rattle.records.proofs.Operands.{has_true, Inside, left_inside, said_reach, operands_taken}
 use Rattle.records.proofs.Lowest.{AtLeast, fields_late, scan_late, tags_late}
@@ -37,6 +33,8 @@ use Rattle.records.proofs.Good.{check_is_good, good_by, good_length}
 use Rattle.records.proofs.Fields.{take_most}
 use Rattle.lookup.specs.Run.{name_run, Indexed}
 use Rattle.disassemble.specs.Listed.{said_from, Told, named_count, BadFromOne, before_bad, text_over}
+use Rattle.spec.specs.Layout.{Cell}
+use Rattle.std.specs.Prelude.{Err, Ok}
 
 -- LOWER
 
@@ -113,8 +111,8 @@ most_scan m lc sc i l (f ∷ fs) h = most_record m i (take_record f l) (λ k. sc
 -- after a record's tag
 most_tag : (m i tag : ℕ) (c : Cell) (more : State → Option ℕ) → i ≤ m → ((s : State) → AtMost m (more s)) → AtMost m (on_tag i tag c more)
 unfolding AtMost
-most_tag m i tag (Tagged t s) more h g = most_if m (eqb tag t) (more s) (Some i) (g s) h
-most_tag m i tag (Refuses n) more h g = h
+most_tag m i tag (Ok (t, s)) more h g = most_if m (eqb tag t) (more s) (Some i) (g s) h
+most_tag m i tag (Err n) more h g = h
 
 -- tags
 most_tags : (m : ℕ) (whole : Bool) (i : ℕ) (s : State) (fs : List Fields) → i + length fs ≤ m → AtMost m (tags_fault whole i s fs)
@@ -363,17 +361,17 @@ unfolding disassemble check_named text_over
 good_writes h x out out' w is e s p = rw e (subst (λ (l : List Placed). Writes (text_over out (module_text h l)) out' w) (sym s) p)
 
 -- an index from 1 on
-pub from_one : (x : Given) (r : Answer) → checked_is r ≡ fault_of record_size true x → BadFromOne r
+pub from_one : (x : Given) (r : Option ℕ) → checked_is r ≡ fault_of record_size true x → BadFromOne r
 unfolding BadFromOne checked_is AtLeast
-from_one x AllGood e = tt
-from_one x (Bad i) e = subst (AtLeast 1) (sym e) (all_late x)
+from_one x None e = tt
+from_one x (Some i) e = subst (AtLeast 1) (sym e) (all_late x)
 
 -- the instructions of a check that is passed
 abbrev instrs_in : Checked → List Placed
 instrs_in (good is) = is
 instrs_in (bad i) = []
 
-module _ (ws log strings : List ℕ) (count lc sc : ℕ) (r : Answer) (e : checked_is r ≡ fault_of record_size true (given ws log strings count lc sc)) (log' strings' : List ℕ)
+module _ (ws log strings : List ℕ) (count lc sc : ℕ) (r : Option ℕ) (e : checked_is r ≡ fault_of record_size true (given ws log strings count lc sc)) (log' strings' : List ℕ)
     (el : log' ≡ take lc log) (es : strings' ≡ take sc strings) (n : ℕ) (q : n ≡ before_bad r count) where
   abbrev x : Given
   x = given ws log strings count lc sc
@@ -383,18 +381,18 @@ module _ (ws log strings : List ℕ) (count lc sc : ℕ) (r : Answer) (e : check
   unfolding AtLeast checked_is before_bad BadFromOne
   fault_past = subst (AtLeast (n + 1)) e (by r (from_one x r e) q)
     where
-      by : (r : Answer) → BadFromOne r → n ≡ before_bad r count → AtLeast (n + 1) (checked_is r)
-      by AllGood h q = tt
-      by (Bad i) h q = omega (arith, q, h)
+      by : (r : Option ℕ) → BadFromOne r → n ≡ before_bad r count → AtLeast (n + 1) (checked_is r)
+      by None h q = tt
+      by (Some i) h q = omega (arith, q, h)
 
   -- they lie in the store
   few_records : n ≤ length (records_in record_size x)
   unfolding AtMost checked_is before_bad missing
   few_records = by r e q
     where
-      by : (r : Answer) → checked_is r ≡ fault_of record_size true x → n ≡ before_bad r count → n ≤ length (records_in record_size x)
-      by AllGood e q = omega (arith, q, eqb-true (length (records_in record_size x)) count (none_if (length (records_in record_size x) + 1) (eqb (length (records_in record_size x)) count) None (no_faults record_size true x (sym e)).present).0)
-      by (Bad i) e q = omega (arith, q, subst (AtMost (1 + length (records_in record_size x))) (sym e) (most_fault true x))
+      by : (r : Option ℕ) → checked_is r ≡ fault_of record_size true x → n ≡ before_bad r count → n ≤ length (records_in record_size x)
+      by None e q = omega (arith, q, eqb-true (length (records_in record_size x)) count (none_if (length (records_in record_size x) + 1) (eqb (length (records_in record_size x)) count) None (no_faults record_size true x (sym e)).present).0)
+      by (Some i) e q = omega (arith, q, subst (AtMost (1 + length (records_in record_size x))) (sym e) (most_fault true x))
 
   -- each was passed
   each_passed : (k : ℕ) → k < n → Passed ws log' strings' (scan_of record_size x).instrs k
@@ -407,13 +405,13 @@ module _ (ws log strings : List ℕ) (count lc sc : ℕ) (r : Answer) (e : check
   call_told = told_all ws log' strings' (scan_of record_size x).instrs n each_passed
 
   -- good stores
-  pub call_stores : r ≡ AllGood → GoodStores ws log' strings' count
+  pub call_stores : r ≡ None → GoodStores ws log' strings' count
   call_stores b =
       subst (λ (l : List ℕ). GoodStores ws l strings' count) (sym el)
       (subst (λ (l : List ℕ). GoodStores ws (take lc log) l count) (sym es) (lent_good true ws log strings count lc sc r e b))
 
   -- their instructions
-  stores_say : r ≡ AllGood → (scan_of record_size x).instrs ≡ instrs_of ws log' strings' count
+  stores_say : r ≡ None → (scan_of record_size x).instrs ≡ instrs_of ws log' strings' count
   stores_say b =
       ap instrs_in (sym (check_is_good true x r e b) ∙ lent_check true ws log strings count lc sc r e b)
       ∙ ap (λ (l : List ℕ). instrs_of ws l (take sc strings) count) (sym el)
@@ -439,11 +437,11 @@ module _ (ws log strings : List ℕ) (count lc sc : ℕ) (r : Answer) (e : check
         s
 
     -- a record is bad
-    pub call_bad : (h out : List ℕ) (w : Written) (i : ℕ) → n ≤ m → r ≡ Bad i → w ≡ record { number = 30; index = i; bytes = 0 } → Writes (disassemble h x out) out w
+    pub call_bad : (h out : List ℕ) (w : Written) (i : ℕ) → n ≤ m → r ≡ Some i → w ≡ record { number = 30; index = i; bytes = 0 } → Writes (disassemble h x out) out w
     unfolding checked_is before_bad BadFromOne
     call_bad h out w i g b s =
         let is = (scan_of record_size x).instrs in
-        let before : n ≡ i - 1 = q ∙ ap (λ (a : Answer). before_bad a count) b in
+        let before : n ≡ i - 1 = q ∙ ap (λ (a : Option ℕ). before_bad a count) b in
         let some-index : 1 ≤ i = subst BadFromOne b (from_one x r e) in
         bad_writes h x out i w
         (ap (λ (o : Option ℕ). lower o (unnamed 1 is)) (sym e ∙ ap checked_is b)
@@ -451,12 +449,12 @@ module _ (ws log strings : List ℕ) (count lc sc : ℕ) (r : Answer) (e : check
         s
 
     -- all is good
-    pub call_good : (h out out' : List ℕ) (w : Written) → n ≤ m → r ≡ AllGood → Writes (text_over out (module_text h (instrs_of ws log' strings' count))) out' w → Writes (disassemble h x out) out' w
+    pub call_good : (h out out' : List ℕ) (w : Written) → n ≤ m → r ≡ None → Writes (text_over out (module_text h (instrs_of ws log' strings' count))) out' w → Writes (disassemble h x out) out' w
     unfolding checked_is before_bad
     call_good h out out' w g b p =
         let is = (scan_of record_size x).instrs in
         let long : length is ≡ count = good_length x (good_by true x r e b) in
-        let before : n ≡ count = q ∙ ap (λ (a : Answer). before_bad a count) b in
+        let before : n ≡ count = q ∙ ap (λ (a : Option ℕ). before_bad a count) b in
         let all : take n is ≡ is = take_all n is (omega arith) in
         good_writes h x out out' w (instrs_of ws log' strings' count)
         (ap (λ (o : Option ℕ). lower o (unnamed 1 is)) (sym e ∙ ap checked_is b) ∙ unnamed_none 1 is (omega (arith, counted, ap named_count all)))

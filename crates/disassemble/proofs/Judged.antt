@@ -18,8 +18,6 @@ use Rattle.spec.specs.Names.{name_of}
 use Rattle.spec.specs.Records.{narrow, record_size, fields_at}
 use Rattle.spec.specs.Check.{placed_of}
 use Rattle.spec.specs.Disassembly.{is_there, set_of_kind, operand_named, is_named}
-use Rattle.lookup.specs.declared.Named.{Named}
-use Rattle.lookup.specs.declared.Named.TheVariants.{At, Nothing}
 use Rattle.lookup.specs.Find.{text_found}
 use Rattle.operand.specs.Parts.{is_two}
 use Rattle.records.specs.Good.{operand_by, operand_at}
@@ -28,16 +26,17 @@ use Rattle.spelled.specs.Spelled.{AllReadable, operand_after, operands_from, sai
 use Rattle.pieces.specs.Putting.{bit_named, has_bits}
 use Rattle.disassemble.specs.Listed.{said_from, Told, named_count}
 use Rattle.pieces.proofs.Texts.{no_bits, half_twice, own_set, bits_in_lem, value_in_lem}
+use Rattle.std.specs.Prelude.{None, Option, Some}
 
 -- A NAME
 
 -- a name that is found
-pub name_there : (run : List ℕ) (set n start end : ℕ) (r : Named) → text_found run r ≡ name_of set n → r ≡ At start end → true ≡ is_there (name_of set n)
+pub name_there : (run : List ℕ) (set n start end : ℕ) (r : Option (ℕ × ℕ)) → text_found run r ≡ name_of set n → r ≡ Some (start, end) → true ≡ is_there (name_of set n)
 unfolding text_found
 name_there run set n start end r e q = ap is_there (sym (ap (text_found run) q) ∙ e)
 
 -- one that is not
-pub name_lacks : (run : List ℕ) (set n : ℕ) (r : Named) → text_found run r ≡ name_of set n → r ≡ Nothing → false ≡ is_there (name_of set n)
+pub name_lacks : (run : List ℕ) (set n : ℕ) (r : Option (ℕ × ℕ)) → text_found run r ≡ name_of set n → r ≡ None → false ≡ is_there (name_of set n)
 unfolding text_found
 name_lacks run set n r e q = ap is_there (sym (ap (text_found run) q) ∙ e)
 

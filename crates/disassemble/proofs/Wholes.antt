@@ -19,8 +19,6 @@ use Rattle.spec.specs.Load.{laid_over}
 use Rattle.spec.specs.Write.{module_order, Writing, unwritten}
 use Rattle.spec.specs.Disassembly.{header_text, instr_text, lines_text, module_text}
 use Rattle.operand.specs.Log.{kept}
-use Rattle.records.specs.declared.Checked.{Checked as Answer}
-use Rattle.records.specs.declared.Checked.TheVariants.{Good, Bad}
 use Rattle.spelled.specs.Spelled.{said_by}
 use Rattle.spelled.specs.Placing.{GoodStores, instrs_of, one_at}
 use Rattle.assemble.specs.Writes.{Writes}
@@ -33,6 +31,7 @@ use Rattle.pieces.specs.Putting.{largest, Room, Wrote}
 use Rattle.disassemble.specs.Listed.{left_of, Follows, BadFromOne, before_bad, text_over}
 use Rattle.pieces.proofs.Put.{Going, going_starts}
 use Rattle.disassemble.proofs.Cursors.{left_all}
+use Rattle.std.specs.Prelude.{None, Option, Some}
 
 -- THE HEADER
 
@@ -159,16 +158,16 @@ module _ (out bs : List ℕ) (small : length out < largest) (need : ℕ) (l : Li
 -- THE FIRST THAT IS BAD
 
 -- good records
-pub before_good : (r : Answer) (count : ℕ) → r ≡ Good → count ≡ before_bad r count
+pub before_good : (r : Option ℕ) (count : ℕ) → r ≡ None → count ≡ before_bad r count
 unfolding before_bad
-before_good r count e = sym (ap (λ (x : Answer). before_bad x count) e)
+before_good r count e = sym (ap (λ (x : Option ℕ). before_bad x count) e)
 
 -- a bad one
-pub before_bad_lem : (r : Answer) (count i : ℕ) → r ≡ Bad i → i - 1 ≡ before_bad r count
+pub before_bad_lem : (r : Option ℕ) (count i : ℕ) → r ≡ Some i → i - 1 ≡ before_bad r count
 unfolding before_bad
-before_bad_lem r count i e = sym (ap (λ (x : Answer). before_bad x count) e)
+before_bad_lem r count i e = sym (ap (λ (x : Option ℕ). before_bad x count) e)
 
 -- its index is one at least
-pub bad_some : (r : Answer) (i : ℕ) → BadFromOne r → r ≡ Bad i → 1 ≤ i
+pub bad_some : (r : Option ℕ) (i : ℕ) → BadFromOne r → r ≡ Some i → 1 ≤ i
 unfolding BadFromOne
 bad_some r i h e = subst BadFromOne e h

@@ -3,14 +3,13 @@ use Rattle.std.specs.Prelude.{ℕ, zero, suc, ◌+◌, ◌-◌, ◌<◌, ◌≤�
 use Rattle.spec.specs.Records.{Placed, record_size, fields_at}
 use Rattle.spec.specs.Write.{parameters_in, functions, Writing, put_or}
 use Rattle.spec.specs.Disassembly.{is_named}
-use Rattle.records.specs.declared.Checked.{Checked as Answer}
-use Rattle.records.specs.declared.Checked.TheVariants.{Good, Bad}
 use Rattle.spelled.specs.Spelled.{AllReadable, said_by}
 use Rattle.spelled.specs.Placing.{one_at, tagged}
 use Rattle.spelled.proofs.Orders.{sections_from}
 use Rattle.disassemble.specs.declared.walk.Cursor.{Cursor}
 use Rattle.disassemble.specs.declared.walk.Next.{Next}
 use Rattle.disassemble.specs.declared.walk.Next.TheVariants.{At, End}
+use Rattle.std.specs.Prelude.{None, Option, Some}
 
 -- THE RECORDS BY THEIR PLACES
 
@@ -31,14 +30,14 @@ named_count [] = 0
 named_count (p ∷ ps) = let more = suc (named_count ps) in if is_named p then more else 0
 
 -- a record that is bad has an index from 1 on
-unfoldable pub BadFromOne : Answer → Type 0
-BadFromOne Good = Unit {0}
-BadFromOne (Bad i) = 1 ≤ i
+unfoldable pub BadFromOne : Option ℕ → Type 0
+BadFromOne None = Unit {0}
+BadFromOne (Some i) = 1 ≤ i
 
 -- how many records there are before the first that is bad
-unfoldable pub before_bad : Answer → ℕ → ℕ
-before_bad Good count = count
-before_bad (Bad i) count = i - 1
+unfoldable pub before_bad : Option ℕ → ℕ → ℕ
+before_bad None count = count
+before_bad (Some i) count = i - 1
 
 -- MODULE ORDER
 

@@ -11,7 +11,6 @@ ghost use Rattle.spelled.specs.Spelled.{Readable, AllReadable, operands_from, sa
 ghost use Rattle.pieces.specs.Putting.{bit_named};
 ghost use Rattle.disassemble.specs.Listed.{said_from, Told, named_count};
 
-use lookup::Named;
 use operand::is_two;
 use pieces::{after, has_bits, set_of_kind};
 use records::record_at;
@@ -24,8 +23,8 @@ fn has_name(run: &[u8], index: &[u16], set: u8, number: u32) -> bool
 {
     let found = lookup::find(run, index, set, number);
     match found {
-        Named::At(_, _) => true,
-        Named::Nothing => false,
+        Some((_, _)) => true,
+        None => false,
     }
 }
 

@@ -15,7 +15,7 @@ use crate::walk::{Cursor, Next, advance};
 use imports::imports_end;
 use line::{Asked, put_line};
 use pieces::{put_bytes, put_number};
-use records::{Checked, at_most, record_at};
+use records::{at_most, record_at};
 use spec::{Written, refusals};
 
 // The four lines of the header, by its version and bound.
@@ -159,13 +159,13 @@ fn bad_record(index: usize) -> Written
 }
 
 // How many records there are before the first that is bad.
-fn before_bad(checked: Checked, count: usize) -> usize
+fn before_bad(checked: Option<usize>, count: usize) -> usize
     requires { BadFromOne checked }
     ensures { result ≡ before_bad checked count }
 {
     match checked {
-        Checked::Good => count,
-        Checked::Bad(index) => index - 1,
+        None => count,
+        Some(index) => index - 1,
     }
 }
 
@@ -202,7 +202,7 @@ pub fn disassemble(
     if named < count {
         return bad_record(named + 1);
     }
-    let Checked::Bad(first) = checked else {
+    let Some(first) = checked else {
         return write_good(
             &run,
             &index,

@@ -7,8 +7,6 @@ use Rattle.std.specs.Prelude.{Option, None, Some}
 use native.Mathlib.Omega.{arith}
 use borrow.Author.Tests.{not-true, not-false, lt-ltb, le-ltb, ltb-true, ltb-false}
 use lib.Dec.{eqb, ltb}
-use Rattle.spec.specs.declared.Found.{Found}
-use Rattle.spec.specs.declared.Found.TheVariants.{At, Nothing}
 use Rattle.spec.specs.declared.Refusal.{Refusal}
 use Rattle.std.specs.Prelude.{if◌then◌else◌}
 use Rattle.spec.specs.Base.{every}
@@ -19,16 +17,15 @@ use Rattle.spec.specs.Reader.{Reader, Read, got, refused, after, give, refusal, 
 use Rattle.spec.specs.Grammar.{Grammar, Slot, slot, row_of, grammar_of}
 use Rattle.spec.specs.Match.{read_operand, read_once, embeds, embedded_by, read_embedded}
 use Rattle.decoder.specs.declared.Decoder.{Decoder}
-use Rattle.decoder.specs.declared.WordRead.TheVariants.{Got as Word, Refused as NoWord}
 use Rattle.decoder.specs.Answer.{reader_of, word_from}
 use Rattle.decoder.proofs.Laws.{word_got, word_refused}
 use Rattle.grammar.specs.Find.{row_found}
 use Rattle.used.specs.declared.used.Used.{Used}
-use Rattle.used.specs.declared.used.Parsed.{Parsed}
-use Rattle.used.specs.declared.used.Parsed.TheVariants.{Got, Refused}
 use Rattle.used.specs.Parse.{Parses, prefix, is_operand, is_inner, once_alone, slots_at, selector_of, notes_of, Pushed}
 use Rattle.untyped.proofs.Walk.{prefix_nil, cons_prefix, went_less}
 use Rattle.used.proofs.TypeLaws.{in_three}
+use Rattle.decoder.specs.Answer.{Answered}
+use Rattle.std.specs.Prelude.{Err, Ok}
 
 -- WHAT MAY BE EMBEDDED
 
@@ -106,10 +103,10 @@ module _ (s : List ℕ) (g : Grammar) (k : ℕ) (d : Decoder) (t : Bool) (p : t 
   alone_operand q = let z : is_result k ≡ false = sym p ∙ q in simp z
 
 -- the read that is meant, however few words it takes
-pub less_read : (s : List ℕ) (d : Decoder) (m : ℕ) (x z : Read (List Operand)) (l₀ t₀ l t : List ℕ) (c : Used) (v : Parsed)
+pub less_read : (s : List ℕ) (d : Decoder) (m : ℕ) (x z : Read (List Operand)) (l₀ t₀ l t : List ℕ) (c : Used) (v : Answered Used)
     → x ≡ z → Parses s d m z l₀ t₀ l t c v → Parses s d 0 x l₀ t₀ l t c v
 unfolding Parses
-less_read s d m x z l₀ t₀ l t c (Got e n) q h = record {
+less_read s d m x z l₀ t₀ l t c (Ok (n, e)) q h = record {
   operands = h.operands;
   read = q ∙ h.read;
   held = h.held;
@@ -117,7 +114,7 @@ less_read s d m x z l₀ t₀ l t c (Got e n) q h = record {
   went = went_less h.went;
   spotted = h.spotted;
 }
-less_read s d m x z l₀ t₀ l t c (Refused y e) q h = q ∙ h
+less_read s d m x z l₀ t₀ l t c (Err (y, e)) q h = q ∙ h
 
 -- ITS OPCODE
 
@@ -140,12 +137,12 @@ opcode_low w at h = simp (le-ltb 65535 w (omega arith))
 
 module _ (s : List ℕ) (g : Grammar) (d : Decoder) where
   -- no word
-  pub embedded_bad : (x : Refusal) (e : Decoder) → NoWord x e ≡ word_from s d → read_embedded g (reader_of s d) ≡ refused x (reader_of s e)
+  pub embedded_bad : (x : Refusal) (e : Decoder) → Err (x, e) ≡ word_from s d → read_embedded g (reader_of s d) ≡ refused x (reader_of s e)
   unfolding read_embedded
   embedded_bad x e h =
       ap (λ (y : Read ℕ). after y (λ w. embedded_by g (w % 65536) (row_of (w % 65536) g.rows))) (word_refused s d e x h)
 
-  embedded_by_lem : (w : ℕ) (e : Decoder) → Word w e ≡ word_from s d → (o : Option (List Slot)) → row_of (w % 65536) g.rows ≡ o
+  embedded_by_lem : (w : ℕ) (e : Decoder) → Ok (w, e) ≡ word_from s d → (o : Option (List Slot)) → row_of (w % 65536) g.rows ≡ o
       → read_embedded g (reader_of s d) ≡ embedded_by g (w % 65536) o (reader_of s e)
   unfolding read_embedded
   embedded_by_lem w e h o l =
@@ -153,22 +150,22 @@ module _ (s : List ℕ) (g : Grammar) (d : Decoder) where
       ∙ ap (λ (z : Option (List Slot)). embedded_by g (w % 65536) z (reader_of s e)) l
 
 -- a row that was found
-pub row_told : (g : List ℕ) (f : Found) (p : ℕ) (o : Option (List Slot)) → row_found g f ≡ o → f ≡ At p → o ≡ Some (slots_at g p)
+pub row_told : (g : List ℕ) (f : Option ℕ) (p : ℕ) (o : Option (List Slot)) → row_found g f ≡ o → f ≡ Some p → o ≡ Some (slots_at g p)
 unfolding row_found slots_at
 row_told g f p o h e = sym h ∙ ap (row_found g) e
 
-none_found : (g : List ℕ) (f : Found) (o : Option (List Slot)) → row_found g f ≡ o → f ≡ Nothing → o ≡ None
+none_found : (g : List ℕ) (f : Option ℕ) (o : Option (List Slot)) → row_found g f ≡ o → f ≡ None → o ≡ None
 unfolding row_found
 none_found g f o h e = sym h ∙ ap (row_found g) e
 
-module _ (s g : List ℕ) (d : Decoder) (w : ℕ) (e : Decoder) (h : Word w e ≡ word_from s d) (f : Found)
+module _ (s g : List ℕ) (d : Decoder) (w : ℕ) (e : Decoder) (h : Ok (w, e) ≡ word_from s d) (f : Option ℕ)
     (l : row_found g f ≡ row_of (w % 65536) (grammar_of g).rows) where
   -- it has no row: 13 after the number
-  pub embedded_none : f ≡ Nothing → read_embedded (grammar_of g) (reader_of s d) ≡ refused (refusal 13 e.offset 0) (reader_of s e)
+  pub embedded_none : f ≡ None → read_embedded (grammar_of g) (reader_of s d) ≡ refused (refusal 13 e.offset 0) (reader_of s e)
   unfolding reader_of reader_at
   embedded_none q = embedded_by_lem s (grammar_of g) d w e h None (none_found g f _ l q)
 
-  module _ (p : ℕ) (q : f ≡ At p) (t : Bool) (i : t ≡ every embeds (slots_at g p)) where
+  module _ (p : ℕ) (q : f ≡ Some p) (t : Bool) (i : t ≡ every embeds (slots_at g p)) where
     -- its row may not be embedded: 14 after the number
     pub embedded_barred : not t ≡ true → read_embedded (grammar_of g) (reader_of s d) ≡ refused (refusal 14 e.offset 0) (reader_of s e)
     unfolding reader_of reader_at

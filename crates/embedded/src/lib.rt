@@ -12,11 +12,10 @@ ghost use Rattle.operand.specs.Parts.{parts};
 ghost use Rattle.operand.specs.Log.{record_of, Laid};
 ghost use Rattle.used.specs.Parse.{Pushed, Few, Parses, is_operand, is_inner, once_alone, slots_at};
 
-use decoder::{Decoder, WordRead};
-use grammar::SlotAt;
-use spec::{Found, kinds, refusals};
+use decoder::{Answer, Decoder};
+use spec::{kinds, refusals};
 use untyped::parse_operand;
-use used::{Parsed, Used, first_break, push, refused};
+use used::{Used, first_break, push, refused};
 
 // Whether each operand of the row that starts at a place may stand in an embedded row.
 fn may_embed(g: &[u8], place: usize) -> bool
@@ -26,7 +25,7 @@ fn may_embed(g: &[u8], place: usize) -> bool
     let mut p = place;
     while p < g.len() {
         let x = grammar::slot_at(g, p);
-        let SlotAt::Slot(k, _) = x else {
+        let Some((k, _)) = x else {
             return true;
         };
         if (k == kinds::EMBEDDED) | (k == kinds::TYPED_LITERAL) | (k == kinds::LITERAL_AND_ID) {
@@ -47,13 +46,13 @@ fn parse_inner(
     log: &mut [u8],
     strings: &mut [u8],
     u: Used,
-) -> Parsed
+) -> Answer<Used>
     requires indexed { Indexed g.now index.now }
     requires few { Few s.now d u × (is_inner kind ≡ true) }
     ensures { Parses s.now d 0 (once_alone (grammar_of g.now) kind (reader_of s.now d)) log.old strings.old log.new strings.new u result }
 {
     if grammar::is_result(kind) {
-        return Parsed::Got(d, u);
+        return Ok((u, d));
     }
     parse_operand(d, s, g, index, kind, log, strings, u)
 }
@@ -68,7 +67,7 @@ fn parse_once(
     log: &mut [u8],
     strings: &mut [u8],
     used: Used,
-) -> Parsed
+) -> Answer<Used>
     requires indexed { Indexed g.now index.now }
     requires few { Few s.now start used × (place ≤ length g.now) × (every is_operand (slots_at g.now place) ≡ true) × (every embeds (slots_at g.now place) ≡ true) }
     ensures { Parses s.now start 0 (read_once (grammar_of g.now) (slots_at g.now place) (reader_of s.now start)) log.old strings.old log.new strings.new used result }
@@ -78,18 +77,18 @@ fn parse_once(
     let mut p = place;
     while p < g.len() {
         let x = grammar::slot_at(g, p);
-        let SlotAt::Slot(kind, _) = x else {
-            return Parsed::Got(d, u);
+        let Some((kind, _)) = x else {
+            return Ok((u, d));
         };
         let r = parse_inner(d, s, g, index, kind, log, strings, u);
-        let Parsed::Got(e, n) = r else {
+        let Ok((n, e)) = r else {
             return r;
         };
         d = e;
         u = n;
         p += 3;
     }
-    Parsed::Got(d, u)
+    Ok((u, d))
 }
 
 // What breaks the word of an embedded opcode: its offset, where it has something above its low sixteen bits.
@@ -124,7 +123,7 @@ pub fn parse_spec_constant_op(
     log: &mut [u8],
     strings: &mut [u8],
     u: Used,
-) -> Parsed
+) -> Answer<Used>
     requires indexed { Indexed g.now index.now }
     requires few { Few s.now d u }
     ensures { Parses s.now d 4 (read_embedded (grammar_of g.now) (reader_of s.now d)) log.old strings.old log.new strings.new u result }
@@ -132,11 +131,11 @@ pub fn parse_spec_constant_op(
     let at = d.offset;
     let w = d.word(s);
     match w {
-        WordRead::Refused(x, e) => Parsed::Refused(x, e),
-        WordRead::Got(v, e) => {
+        Err((x, e)) => Err((x, e)),
+        Ok((v, e)) => {
             let opcode = (v % 65536) as u16;
             let found = grammar::find_row(g, index, opcode);
-            let Found::At(p) = found else {
+            let Some(p) = found else {
                 return refused(refusals::EMBEDDED_OPCODE, e.offset, e);
             };
             if !may_embed(g, p) {

@@ -5,25 +5,25 @@ ghost use Rattle.std.specs.Prelude.{◌≡◌};
 ghost use Rattle.spec.specs.Reader.{refusal};
 ghost use Rattle.enumerant.specs.Read.{enumerant_from};
 
-use decoder::{Decoder, WordRead};
+use decoder::{Answer, Decoder};
 use formed::prepare;
 use grammar::{SIZE, is_known};
 use spec::{Refusal, refusals};
 
 // A refusal, with the decoder after it.
-fn refused(number: u32, place: usize, value: u32, d: Decoder) -> WordRead
-    ensures { result ≡ WordRead.Refused (refusal number place value) d }
+fn refused(number: u32, place: usize, value: u32, d: Decoder) -> Answer<u32>
+    ensures { result ≡ Err (refusal number place value, d) }
 {
     let x = Refusal {
         number,
         place,
         value,
     };
-    WordRead::Refused(x, d)
+    Err((x, d))
 }
 
 // An enumerant's word: 24 where the grammar is not well-formed, 9 on a spent limit, 10 at its word where the value is not known.
-pub fn enumerant(d: Decoder, s: &[u8], g: &[u8], kind: u8) -> WordRead
+pub fn enumerant(d: Decoder, s: &[u8], g: &[u8], kind: u8) -> Answer<u32>
     ensures { result ≡ enumerant_from g.now s.now kind d }
 {
     let mut index = [0u16; SIZE];
@@ -35,7 +35,7 @@ pub fn enumerant(d: Decoder, s: &[u8], g: &[u8], kind: u8) -> WordRead
         return refused(refusals::STREAM_ENDED, at, 0, d);
     }
     let word = d.word(s);
-    let WordRead::Got(value, next) = word else {
+    let Ok((value, next)) = word else {
         return word;
     };
     if is_known(g, &index, kind, value) {

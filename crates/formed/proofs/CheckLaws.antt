@@ -10,8 +10,6 @@ use types.Run.{OneOf, miss}
 use lib.Dec.{leb, ltb, eqb}
 use lib.ListN.{length, get_or, drop, set, replicate, length-set, length-drop}
 use lib.Seq.{get_or-set_same, length-take-le}
-use Rattle.spec.specs.declared.Found.{Found}
-use Rattle.spec.specs.declared.Found.TheVariants.{At, Nothing}
 use Rattle.std.specs.Prelude.{if◌then◌else◌}
 use Rattle.spec.specs.Base.{has, is_in}
 use Rattle.spec.specs.Kinds.{is_enum}
@@ -31,6 +29,7 @@ use Rattle.grammar.proofs.SearchLaws.{kind_rises}
 use Rattle.grammar.proofs.MarkLaws.{is_fine, enum_least, fine_there}
 use Rattle.grammar.proofs.IndexLaws.{guess_put, places_length}
 use Rattle.formed.proofs.FlatLaws.{in_both, note, noting_start, noting_row, noting_enumerant, noting_end, noted_flat}
+use Rattle.std.specs.Prelude.{None, Option, Some}
 
 -- WHERE A ROW OR AN ENUMERANT MAY OPEN
 
@@ -168,12 +167,12 @@ along_on {g} {from} {at} x a t m e = record {
 -- THE OPERANDS OF A ROW
 
 -- a place where a test holds
-pub ends_at : (t : Bool) (at : ℕ) → t ≡ true → At at ≡ ends_where t at
+pub ends_at : (t : Bool) (at : ℕ) → t ≡ true → Some at ≡ ends_where t at
 unfolding ends_where
 ends_at t at e = rw e
 
 -- nothing where it fails
-pub ends_nowhere : (t : Bool) (at : ℕ) → t ≡ false → Nothing ≡ ends_where t at
+pub ends_nowhere : (t : Bool) (at : ℕ) → t ≡ false → None ≡ ends_where t at
 unfolding ends_where
 ends_nowhere t at e = rw e
 
@@ -202,7 +201,7 @@ module _ {g : List ℕ} {op from : ℕ} {p : Passed} {at : ℕ} (r : Rowing g op
     row_item = r.rules ∙ ap (rules_from (in_row op r.before)) row_there.here ∙ rw (← asked r.before r.stands)
 
     -- it does not hold
-    pub row_stop : t ≡ false → Operands g op from Nothing
+    pub row_stop : t ≡ false → Operands g op from None
     unfolding Operands
     row_stop e = row_item ∙ rw e
 
@@ -217,12 +216,12 @@ module _ {g : List ℕ} {op from : ℕ} {p : Passed} {at : ℕ} (r : Rowing g op
     }
 
   -- there is no operand more
-  pub row_over : past_slots (items (drop at g)) ≡ true → (e : Found)
+  pub row_over : past_slots (items (drop at g)) ≡ true → (e : Option ℕ)
       → ((before : List Slot) → p ≡ passed_of before → e ≡ ends_where (row_end op before) at) → Operands g op from e
   unfolding ends_where Operands
   row_over past e f = rw (f r.before r.stands) (by (row_end op r.before) (r.rules ∙ opens_row op r.before (items (drop at g)) past))
     where
-      by : (t : Bool) → rules_from (in_row op []) (items (drop from g)) ≡ t && opens false 0 op (items (drop at g)) → Operands g op from (if t then At at else Nothing)
+      by : (t : Bool) → rules_from (in_row op []) (items (drop from g)) ≡ t && opens false 0 op (items (drop at g)) → Operands g op from (if t then Some at else None)
       by true s = (r.along, s)
       by false s = s
 
@@ -278,7 +277,7 @@ module _ {g : List ℕ} {j u from : ℕ} {owners used owners' used' : List Bool}
     own_item = r.rules ∙ ap (rules_from (in_enumerant j u)) own_there.here ∙ rw (← asked)
 
     -- it does not hold
-    pub own_stop : t ≡ false → Parameters g j u from owners owners' used used' Nothing
+    pub own_stop : t ≡ false → Parameters g j u from owners owners' used used' None
     unfolding Parameters
     own_stop e = own_item ∙ rw e
 
@@ -311,7 +310,7 @@ module _ {g : List ℕ} {j u from : ℕ} {owners used owners' used' : List Bool}
         }
 
   -- there is no parameter more
-  pub own_over : 1 ≤ j → past_parameters (items (drop at g)) ≡ true → Parameters g j u from owners owners' used used' (At at)
+  pub own_over : 1 ≤ j → past_parameters (items (drop at g)) ≡ true → Parameters g j u from owners owners' used used' (Some at)
   unfolding Parameters
   own_over h past =
       let all : parameters_of (items (drop from g)) ≡ r.done = r.parameters ∙ rw (past_none (items (drop at g)) past) (append-nil r.done) in
@@ -383,9 +382,9 @@ module _ {g index : List ℕ} {owners used : List Bool} {count : ℕ} {m : Mark}
       row_rules = c.rules ∙ ap (opens (eqb count 0) m.kind m.value) row_whole.here ∙ rw (← asked, e)
 
       -- a row is entered
-      pub row_entered : (r : Found) → Operands g o (at + 3) r → Entered g index' owners used count (mark 0 o at) at r
+      pub row_entered : (r : Option ℕ) → Operands g o (at + 3) r → Entered g index' owners used count (mark 0 o at) at r
       unfolding Operands Entered marks_from places_of enumerants_of
-      row_entered (At n) (along, rules) = (
+      row_entered (Some n) (along, rules) = (
         omega (arith, along.onward),
         record {
           rules = row_rules ∙ rules ∙ ap (λ (b : Bool). opens b 0 o (items (drop n g))) (sym (later count));
@@ -397,7 +396,7 @@ module _ {g index : List ℕ} {owners used : List Bool} {count : ℕ} {m : Mark}
           noting = noting_row c.noting n (ap enumerants_of row_whole.here ∙ along.enumerants);
         },
       )
-      row_entered Nothing e = row_rules ∙ e
+      row_entered None e = row_rules ∙ e
 
   module _ (k v : ℕ) (is : x ≡ of.Enumerant k v) (t s : Bool) (asked : t ≡ follows (eqb count 0) m.kind m.value k v) (asked' : s ≡ enumerant_rule k v) where
     -- an enumerant that does not follow, or breaks its rule
@@ -429,9 +428,9 @@ module _ {g index : List ℕ} {owners used : List Bool} {count : ℕ} {m : Mark}
         enumerant_rules = c.rules ∙ ap (opens (eqb count 0) m.kind m.value) enumerant_whole.here ∙ rw (← asked, ← asked', e)
 
         -- an enumerant is entered
-        pub enumerant_entered : (owners' used' : List Bool) (r : Found) → Parameters g k v (at + 6) owners owners' used used' r → Entered g index' owners' used' count (mark k v at) at r
+        pub enumerant_entered : (owners' used' : List Bool) (r : Option ℕ) → Parameters g k v (at + 6) owners owners' used used' r → Entered g index' owners' used' count (mark k v at) at r
         unfolding Parameters Entered marks_from places_of enumerants_of
-        enumerant_entered owners' used' (At n) (along, rules, owned, taken) = (
+        enumerant_entered owners' used' (Some n) (along, rules, owned, taken) = (
           omega (arith, along.onward),
           record {
             rules = enumerant_rules ∙ rules ∙ ap (λ (b : Bool). opens b k v (items (drop n g))) (sym (later count));
@@ -446,7 +445,7 @@ module _ {g index : List ℕ} {owners used : List Bool} {count : ℕ} {m : Mark}
                 (ap enumerants_of enumerant_whole.here ∙ ap (λ (es : List Enumerant). e ∷ es) along.enumerants) owners' used' owned taken;
           },
         )
-        enumerant_entered owners' used' Nothing e = enumerant_rules ∙ e
+        enumerant_entered owners' used' None e = enumerant_rules ∙ e
 
 -- THE END
 

@@ -1,12 +1,11 @@
 -- The pass that checks a grammar and fills its index: what holds at each place that it comes to.
 use Rattle.std.specs.Prelude.{ℕ, ◌+◌, ◌*◌, ◌≤◌, ◌<◌, ◌≡◌, Bool, true, false, not, ◌&&◌, ◌||◌, List, [], ◌∷◌, ◌++◌, eqb, length, get_or, drop, if◌then◌else◌}
-use Rattle.spec.specs.declared.Found.{Found}
-use Rattle.spec.specs.declared.Found.TheVariants.{At, Nothing}
 use Rattle.spec.specs.Base.{has, is_in, joined, every}
 use Rattle.spec.specs.Grammar.{Item, row, operand, enumerant, parameter, broken, items, start, in_row, in_enumerant, enumerant_rule, rules_from, Enumerant, parameters_of, enumerants_of, parameterless}
 use Rattle.grammar.specs.declared.index.Mark.{Mark}
 use Rattle.grammar.specs.Index.{marks_from, marks_of, places_of, places_in}
 use Rattle.rules.specs.Rules.{follows}
+use Rattle.std.specs.Prelude.{None, Option, Some}
 
 -- WHERE A ROW OR AN ENUMERANT MAY OPEN
 
@@ -29,13 +28,13 @@ pub record Along (g : List ℕ) (from at : ℕ) : Type 0 where
   pub enumerants : enumerants_of (items (drop from g)) ≡ enumerants_of (items (drop at g))
 
 -- a place where a test holds, else nothing
-unfoldable pub ends_where : Bool → ℕ → Found
-ends_where t at = if t then At at else Nothing
+unfoldable pub ends_where : Bool → ℕ → Option ℕ
+ends_where t at = if t then Some at else None
 
 -- where the operands of a row end that start at a place, or nothing, where a rule is broken
-unfoldable pub Operands : List ℕ → ℕ → ℕ → Found → Type 0
-Operands g op from (At at) = Along g from at × (rules_from (in_row op []) (items (drop from g)) ≡ opens false 0 op (items (drop at g)))
-Operands g op from Nothing = rules_from (in_row op []) (items (drop from g)) ≡ false
+unfoldable pub Operands : List ℕ → ℕ → ℕ → Option ℕ → Type 0
+Operands g op from (Some at) = Along g from at × (rules_from (in_row op []) (items (drop from g)) ≡ opens false 0 op (items (drop at g)))
+Operands g op from None = rules_from (in_row op []) (items (drop from g)) ≡ false
 
 -- kinds are noted: those that were, and those that pass a test
 pub record NotedBy (test : ℕ → Bool) (before after : List Bool) : Type 0 where
@@ -47,12 +46,12 @@ unfoldable pub is_owner : ℕ → List ℕ → ℕ → Bool
 is_owner j ps k = eqb k j && has 1 ps
 
 -- where the parameters of an enumerant of kind j and value u end that start at a place, with what is noted of them, or nothing
-unfoldable pub Parameters : List ℕ → ℕ → ℕ → ℕ → List Bool → List Bool → List Bool → List Bool → Found → Type 0
-Parameters g j u from owners owners' used used' (At at) =
+unfoldable pub Parameters : List ℕ → ℕ → ℕ → ℕ → List Bool → List Bool → List Bool → List Bool → Option ℕ → Type 0
+Parameters g j u from owners owners' used used' (Some at) =
     Along g from at × (rules_from (in_enumerant j u) (items (drop from g)) ≡ opens false j u (items (drop at g)))
     × NotedBy (is_owner j (parameters_of (items (drop from g)))) owners owners'
     × NotedBy (λ k. is_in k (parameters_of (items (drop from g)))) used used'
-Parameters g j u from owners owners' used used' Nothing = rules_from (in_enumerant j u) (items (drop from g)) ≡ false
+Parameters g j u from owners owners' used used' None = rules_from (in_enumerant j u) (items (drop from g)) ≡ false
 
 -- KINDS THAT HAVE PARAMETERS, AND KINDS OF PARAMETERS
 
@@ -89,6 +88,6 @@ pub record Checking (g index : List ℕ) (owners used : List Bool) (count : ℕ)
   pub noting : Noting g owners used at
 
 -- the place after one more, m, that stands at a place; or nothing, where a rule is broken
-unfoldable pub Entered : List ℕ → List ℕ → List Bool → List Bool → ℕ → Mark → ℕ → Found → Type 0
-Entered g index owners used count m at (At next) = (at < next) × Checking g index owners used (count + 1) m next
-Entered g index owners used count m at Nothing = rules_from start (items g) ≡ false
+unfoldable pub Entered : List ℕ → List ℕ → List Bool → List Bool → ℕ → Mark → ℕ → Option ℕ → Type 0
+Entered g index owners used count m at (Some next) = (at < next) × Checking g index owners used (count + 1) m next
+Entered g index owners used count m at None = rules_from start (items g) ≡ false

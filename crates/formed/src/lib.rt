@@ -13,21 +13,20 @@ use rules::{
     NO_LEAD, Passed, are_apart, enumerant_rule, may_follow, note, operand_rule, parameter_rule,
     row_end, with_one,
 };
-use spec::Found;
 
 // Where a row's operands end, if it is whole.
-fn end_of_row(op: u16, p: Passed, at: usize) -> Found
+fn end_of_row(op: u16, p: Passed, at: usize) -> Option<usize>
     ensures { (before : List Slot) → p ≡ passed_of before → result ≡ ends_where (row_end op before) at }
 {
     if row_end(op, p) {
-        Found::At(at)
+        Some(at)
     } else {
-        Found::Nothing
+        None
     }
 }
 
 // Where the operands of a row end that start at a place; nothing where a rule is broken.
-fn operands_end(g: &[u8], op: u16, from: usize) -> Found
+fn operands_end(g: &[u8], op: u16, from: usize) -> Option<usize>
     requires { (length g.now ≤ 65535) × (from ≤ length g.now) }
     ensures { Operands g.now op from result }
 {
@@ -43,7 +42,7 @@ fn operands_end(g: &[u8], op: u16, from: usize) -> Found
             return end_of_row(op, p, at);
         };
         if !operand_rule(op, p, k, q) {
-            return Found::Nothing;
+            return None;
         }
         p = with_one(p, k, q);
         at = at + 3;
@@ -60,7 +59,7 @@ fn parameters_end(
     from: usize,
     owners: &mut [bool; 256],
     used: &mut [bool; 256],
-) -> Found
+) -> Option<usize>
     requires { (length g.now ≤ 65535) × (from ≤ length g.now) × (1 ≤ kind) × (length owners.old ≡ 256) × (length used.old ≡ 256) }
     ensures { Parameters g.now kind value from owners.old owners.new used.old used.new result }
 {
@@ -68,16 +67,16 @@ fn parameters_end(
     while at < g.len() {
         let x = item_at(g, at);
         let Item::Parameter(k) = x else {
-            return Found::At(at);
+            return Some(at);
         };
         if !parameter_rule(kind, value, k) {
-            return Found::Nothing;
+            return None;
         }
         note(owners, kind);
         note(used, k);
         at = at + 2;
     }
-    Found::At(at)
+    Some(at)
 }
 
 // Enters the row or enumerant at a place, with its operands or parameters: where they end; nothing where a rule is broken.
@@ -90,7 +89,7 @@ fn enter(
     at: usize,
     owners: &mut [bool; 256],
     used: &mut [bool; 256],
-) -> Found
+) -> Option<usize>
     requires checking { Checking g.now index.old owners.old used.old count last at }
     requires g_len_bound { (length g.now ≤ 65535) × (at < length g.now) × (x ≡ item_at g.now at) × (23382 ≤ length index.old) }
     ensures { Entered g.now index.new owners.new used.new count (mark_of (item_is x) at) at result }
@@ -99,7 +98,7 @@ fn enter(
         Item::Row(opcode) => {
             let value = opcode as u32;
             if !may_follow(count, last, 0, value) {
-                return Found::Nothing;
+                return None;
             }
             let operands = at + 3;
             put(index, count, 0, value, at);
@@ -107,13 +106,13 @@ fn enter(
         }
         Item::Enumerant(kind, value) => {
             if !(may_follow(count, last, kind, value) & enumerant_rule(kind, value)) {
-                return Found::Nothing;
+                return None;
             }
             let parameters = at + 6;
             put(index, count, kind, value, at);
             parameters_end(g, kind, value, parameters, owners, used)
         }
-        _ => Found::Nothing,
+        _ => None,
     }
 }
 
@@ -137,7 +136,7 @@ fn pass(g: &[u8], index: &mut [u16], owners: &mut [bool; 256], used: &mut [bool;
     while at < g.len() {
         let x = item_at(g, at);
         let end = enter(g, index, count, last, x, at, owners, used);
-        let Found::At(next) = end else {
+        let Some(next) = end else {
             return false;
         };
         last = mark_of(x, at);

@@ -8,8 +8,6 @@ use native.Mathlib.Nat.{mul-le-mul_right}
 use native.Mathlib.Omega.{arith}
 use borrow.Author.Tests.{eq-eqb, ne_eqb, not-true, not-false}
 use lib.Dec.{eqb}
-use Rattle.spec.specs.declared.Found.{Found}
-use Rattle.spec.specs.declared.Found.TheVariants.{At, Nothing}
 use Rattle.std.specs.Prelude.{if◌then◌else◌}
 use Rattle.spec.specs.Words.{bits_from, bits_of}
 use Rattle.spec.specs.Kinds.{is_mask}
@@ -19,15 +17,15 @@ use Rattle.grammar.specs.Find.{parameters_found, is_listed, bit_listed}
 -- ONE VALUE
 
 -- is a place found
-abbrev pub is_found : Found → Bool
-is_found (At p) = true
-is_found Nothing = false
+abbrev pub is_found : Option ℕ → Bool
+is_found (Some p) = true
+is_found None = false
 
 -- what is found is listed
-pub found_listed : (g : List ℕ) (f : Found) (x : Option (List ℕ)) → parameters_found g f ≡ x → is_found f ≡ is_listed x
+pub found_listed : (g : List ℕ) (f : Option ℕ) (x : Option (List ℕ)) → parameters_found g f ≡ x → is_found f ≡ is_listed x
 unfolding parameters_found is_listed
-found_listed g (At p) x e = ap is_listed e
-found_listed g Nothing x e = ap is_listed e
+found_listed g (Some p) x e = ap is_listed e
+found_listed g None x e = ap is_listed e
 
 -- a bit that is set
 pub bit_set : (es : List Enumerant) (k set bit : ℕ) (t : Bool) → set ≡ 1 → t ≡ is_listed (listed k bit es) → t ≡ bit_listed es k set bit

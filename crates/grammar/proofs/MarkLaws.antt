@@ -9,8 +9,6 @@ use native.Mathlib.Omega.{arith}
 use borrow.Author.Tests.{ne_eqb, leb-true, ltb-true, eqb-true}
 use lib.Dec.{leb, ltb, eqb}
 use lib.ListN.{length, get_or, drop, length-drop}
-use Rattle.spec.specs.declared.Found.{Found}
-use Rattle.spec.specs.declared.Found.TheVariants.{At}
 use Rattle.std.specs.Prelude.{if◌then◌else◌}
 use Rattle.spec.specs.Base.{has, every, within, implies}
 use Rattle.spec.specs.Words.{bits_of}
@@ -249,10 +247,10 @@ rising s at (broken ∷ xs) e = rising s (at + 0) xs (rules_told s broken xs e).
 -- WHAT IS FOUND
 
 -- what is found n bytes past a mark's place, by whether the mark is the first
-pick_by : {A : Type 0} (g : List ℕ) (at n : ℕ) (f : Found) (look : Found → Option A) (x : A) (r : Option A) (t : Bool) → look (At (at + n)) ≡ Some x
+pick_by : {A : Type 0} (g : List ℕ) (at n : ℕ) (f : Option ℕ) (look : Option ℕ → Option A) (x : A) (r : Option A) (t : Bool) → look (Some (at + n)) ≡ Some x
     → at + n ≤ length g
     → (look (past n f) ≡ r) × (place_found (past n f) ≤ length g)
-    → (look (past n (if t then At at else f)) ≡ (if t then Some x else r)) × (place_found (past n (if t then At at else f)) ≤ length g)
+    → (look (past n (if t then Some at else f)) ≡ (if t then Some x else r)) × (place_found (past n (if t then Some at else f)) ≤ length g)
 unfolding place_found
 pick_by g at n f look x r true e h w = (e, h)
 pick_by g at n f look x r false e h w = w

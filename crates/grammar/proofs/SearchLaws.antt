@@ -10,10 +10,10 @@ use borrow.Author.Count.{below_more}
 use borrow.Author.Tests.{lt-ltb, le-ltb, eq-eqb, ne_eqb, ltb-true, ltb-false, eqb-true}
 use lib.Dec.{ltb, eqb}
 use lib.ListN.{length}
-use Rattle.spec.specs.declared.Found.TheVariants.{At, Nothing}
 use Rattle.spec.specs.Grammar.{rises}
 use Rattle.grammar.specs.declared.index.Mark.{Mark}
 use Rattle.grammar.specs.Index.{mark_at, is_mark, found}
+use Rattle.std.specs.Prelude.{None, Some}
 
 -- KINDS AND VALUES IN THEIR ORDER
 
@@ -129,13 +129,13 @@ mark_told k v m e =
     (eqb-true m.kind k t.0, eqb-true m.value v t.1)
 
 -- no mark is that of the kind and the value
-found_none : (k v : ℕ) (ms : List Mark) → ((i : ℕ) → i < length ms → is_mark k v (mark_at ms i) ≡ false) → found k v ms ≡ Nothing
+found_none : (k v : ℕ) (ms : List Mark) → ((i : ℕ) → i < length ms → is_mark k v (mark_at ms i) ≡ false) → found k v ms ≡ None
 unfolding mark_at found
 found_none k v [] f = refl
 found_none k v (m ∷ ms) f = simp (f 0 (omega arith)) (found_none k v ms (λ i h. f (suc i) (omega arith)))
 
 -- a mark of the kind and the value, among marks that rise, is the first
-pub found_there : (k v : ℕ) (ms : List Mark) (i : ℕ) → i < length ms → Rising ms → is_mark k v (mark_at ms i) ≡ true → found k v ms ≡ At (mark_at ms i).place
+pub found_there : (k v : ℕ) (ms : List Mark) (i : ℕ) → i < length ms → Rising ms → is_mark k v (mark_at ms i) ≡ true → found k v ms ≡ Some (mark_at ms i).place
 unfolding mark_at found
 found_there k v [] i h r e = absurd (omega arith)
 found_there k v (m ∷ ms) zero h r e = simp e
@@ -181,7 +181,7 @@ module _ (k v : ℕ) (ms : List Mark) (low high : ℕ) (r : Rising ms) (s : Halv
       }
 
   -- neither: it is the mark that is sought
-  pub halving_hit : rises (mark_at ms i).kind (mark_at ms i).value k v ≡ false → rises k v (mark_at ms i).kind (mark_at ms i).value ≡ false → found k v ms ≡ At (mark_at ms i).place
+  pub halving_hit : rises (mark_at ms i).kind (mark_at ms i).value k v ≡ false → rises k v (mark_at ms i).kind (mark_at ms i).value ≡ false → found k v ms ≡ Some (mark_at ms i).place
   halving_hit a b = found_there k v ms i (omega (arith, s.most)) r (rises_same (mark_at ms i).kind (mark_at ms i).value k v a b)
 
 -- a number is below another, or it is not
@@ -193,7 +193,7 @@ below_or_not a b = by (ltb a b) refl
     by false e = inr (ltb-false a b e)
 
 -- no rank is left: there is no such mark
-pub halving_end : (k v : ℕ) (ms : List Mark) (low high : ℕ) → Halving k v ms low high → high ≤ low → found k v ms ≡ Nothing
+pub halving_end : (k v : ℕ) (ms : List Mark) (low high : ℕ) → Halving k v ms low high → high ≤ low → found k v ms ≡ None
 halving_end k v ms low high s h =
     found_none k v ms
     (λ i l.

@@ -1,58 +1,52 @@
 -- What the lookups find, and what is read on from there.
 use Rattle.std.specs.Prelude.{ℕ, ◌+◌, Bool, true, false, ◌&&◌, List, [], ◌∷◌, ◌++◌, eqb, drop, if◌then◌else◌}
 use Rattle.std.specs.Prelude.{Option, None, Some}
-use Rattle.spec.specs.declared.Found.{Found}
-use Rattle.spec.specs.declared.Found.TheVariants.{At, Nothing}
 use Rattle.spec.specs.Grammar.{Slot, slot, items, slots_of, parameters_of, operand_rule, row_end, Enumerant, listed}
-use Rattle.grammar.specs.declared.find.SlotAt.{SlotAt}
-use Rattle.grammar.specs.declared.find.SlotAt.TheVariants.{Slot as ASlot, End as NoSlot}
-use Rattle.grammar.specs.declared.find.ParameterAt.{ParameterAt}
-use Rattle.grammar.specs.declared.find.ParameterAt.TheVariants.{Parameter as AParameter, End as NoParameter}
 
 -- a place found, so many bytes on
-abbrev pub past : ℕ → Found → Found
-past n (At p) = At (p + n)
-past n Nothing = Nothing
+abbrev pub past : ℕ → Option ℕ → Option ℕ
+past n (Some p) = Some (p + n)
+past n None = None
 
 -- something was found
-unfoldable pub Sure : Found → Type 0
-Sure (At p) = Unit
-Sure Nothing = ⊥
+unfoldable pub Sure : Option ℕ → Type 0
+Sure (Some p) = Unit
+Sure None = ⊥
 
 -- the place that was found, or 0
-unfoldable pub place_found : Found → ℕ
-place_found (At p) = p
-place_found Nothing = 0
+unfoldable pub place_found : Option ℕ → ℕ
+place_found (Some p) = p
+place_found None = 0
 
 -- the operands of a row that was found: those from the place on
-unfoldable pub row_found : List ℕ → Found → Option (List Slot)
-row_found g (At p) = Some (slots_of (items (drop p g)))
-row_found g Nothing = None
+unfoldable pub row_found : List ℕ → Option ℕ → Option (List Slot)
+row_found g (Some p) = Some (slots_of (items (drop p g)))
+row_found g None = None
 
 -- the parameters of an enumerant that was found: those from the place on
-unfoldable pub parameters_found : List ℕ → Found → Option (List ℕ)
-parameters_found g (At p) = Some (parameters_of (items (drop p g)))
-parameters_found g Nothing = None
+unfoldable pub parameters_found : List ℕ → Option ℕ → Option (List ℕ)
+parameters_found g (Some p) = Some (parameters_of (items (drop p g)))
+parameters_found g None = None
 
 -- an operand and those after it, or none
-unfoldable pub slots_then : SlotAt → List Slot → List Slot
-slots_then (ASlot k q) rest = slot k q ∷ rest
-slots_then NoSlot rest = []
+unfoldable pub slots_then : Option (ℕ × ℕ) → List Slot → List Slot
+slots_then (Some (k, q)) rest = slot k q ∷ rest
+slots_then None rest = []
 
 -- the bytes that an operand's item takes
-unfoldable pub slot_bytes : SlotAt → ℕ
-slot_bytes (ASlot k q) = 3
-slot_bytes NoSlot = 0
+unfoldable pub slot_bytes : Option (ℕ × ℕ) → ℕ
+slot_bytes (Some (k, q)) = 3
+slot_bytes None = 0
 
 -- a parameter and those after it, or none
-unfoldable pub parameters_then : ParameterAt → List ℕ → List ℕ
-parameters_then (AParameter k) rest = k ∷ rest
-parameters_then NoParameter rest = []
+unfoldable pub parameters_then : Option ℕ → List ℕ → List ℕ
+parameters_then (Some k) rest = k ∷ rest
+parameters_then None rest = []
 
 -- the bytes that a parameter's item takes
-unfoldable pub parameter_bytes : ParameterAt → ℕ
-parameter_bytes (AParameter k) = 2
-parameter_bytes NoParameter = 0
+unfoldable pub parameter_bytes : Option ℕ → ℕ
+parameter_bytes (Some k) = 2
+parameter_bytes None = 0
 
 -- is there a list of parameters
 unfoldable pub is_listed : Option (List ℕ) → Bool

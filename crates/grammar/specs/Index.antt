@@ -1,9 +1,8 @@
 -- The index of a grammar: its rows and enumerants in their order, and where their items stand.
 use Rattle.std.specs.Prelude.{ℕ, ◌+◌, ◌≤◌, ◌≡◌, Bool, true, false, ◌&&◌, List, [], ◌∷◌, map, eqb, length, get_or, take, drop, if◌then◌else◌}
-use Rattle.spec.specs.declared.Found.{Found}
-use Rattle.spec.specs.declared.Found.TheVariants.{At, Nothing}
 use Rattle.spec.specs.Grammar.{Item, row, operand, enumerant, parameter, broken, items, well_formed}
 use Rattle.grammar.specs.declared.index.Mark.{Mark}
+use Rattle.std.specs.Prelude.{None, Option, Some}
 
 -- MARKS: the rows and enumerants, each with the place of its item
 
@@ -57,9 +56,9 @@ abbrev pub is_mark : ℕ → ℕ → Mark → Bool
 is_mark k v m = eqb m.kind k && eqb m.value v
 
 -- where the first item of a kind and a value stands
-unfoldable pub found : ℕ → ℕ → List Mark → Found
-found k v [] = Nothing
-found k v (m ∷ ms) = let later = found k v ms in if is_mark k v m then At m.place else later
+unfoldable pub found : ℕ → ℕ → List Mark → Option ℕ
+found k v [] = None
+found k v (m ∷ ms) = let later = found k v ms in if is_mark k v m then Some m.place else later
 
 -- THE INDEX: 1,536 guesses, the count of marks, and their places in order
 

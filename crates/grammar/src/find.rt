@@ -8,24 +8,9 @@ ghost use Rattle.grammar.specs.Find.{Sure, place_found, row_found, parameters_fo
 use crate::index::{guess_at, mark_at, mark_count, rises_to};
 use crate::items::{Item, item_at};
 use crate::kinds::is_mask;
-use spec::Found;
-
-// An operand of a row: its kind and quantifier; or the end of the row.
-#[derive(Clone, Copy)]
-pub enum SlotAt {
-    Slot(u8, u8),
-    End,
-}
-
-// A parameter of an enumerant: its kind; or the end of the enumerant.
-#[derive(Clone, Copy)]
-pub enum ParameterAt {
-    Parameter(u8),
-    End,
-}
 
 // Searches the rows and enumerants by halves.
-fn search(g: &[u8], index: &[u16], kind: u8, value: u32) -> Found
+fn search(g: &[u8], index: &[u16], kind: u8, value: u32) -> Option<usize>
     requires { Indexed g.now index.now }
     ensures { result ≡ found kind value (marks_of g.now) }
 {
@@ -40,15 +25,15 @@ fn search(g: &[u8], index: &[u16], kind: u8, value: u32) -> Found
             if rises_to(kind, value, m.kind, m.value) {
                 high = middle;
             } else {
-                return Found::At(m.place);
+                return Some(m.place);
             }
         }
     }
-    Found::Nothing
+    None
 }
 
 // Looks where the guess says.
-fn guessed(g: &[u8], index: &[u16], kind: u8, value: u32) -> Found
+fn guessed(g: &[u8], index: &[u16], kind: u8, value: u32) -> Option<usize>
     requires { Indexed g.now index.now }
     ensures { Sure result → result ≡ found kind value (marks_of g.now) }
 {
@@ -57,123 +42,123 @@ fn guessed(g: &[u8], index: &[u16], kind: u8, value: u32) -> Found
         let m = mark_at(g, index, guess);
         if m.kind == kind {
             if m.value == value {
-                return Found::At(m.place);
+                return Some(m.place);
             }
         }
     }
-    Found::Nothing
+    None
 }
 
 // Looks where the guess says, and else searches.
-fn look(g: &[u8], index: &[u16], kind: u8, value: u32) -> Found
+fn look(g: &[u8], index: &[u16], kind: u8, value: u32) -> Option<usize>
     requires { Indexed g.now index.now }
     ensures { result ≡ found kind value (marks_of g.now) }
 {
     let guess = guessed(g, index, kind, value);
     match guess {
-        Found::At(place) => Found::At(place),
-        Found::Nothing => search(g, index, kind, value),
+        Some(place) => Some(place),
+        None => search(g, index, kind, value),
     }
 }
 
 // Where the operands of an opcode's row start.
-pub fn find_row(g: &[u8], index: &[u16], opcode: u16) -> Found
+pub fn find_row(g: &[u8], index: &[u16], opcode: u16) -> Option<usize>
     requires { Indexed g.now index.now }
     ensures result_value { row_found g.now result ≡ row_of opcode (grammar_of g.now).rows }
     ensures result_in_bounds { place_found result ≤ length g.now }
 {
     let row = look(g, index, 0, opcode as u32);
     match row {
-        Found::At(place) => {
+        Some(place) => {
             let operands = place + 3;
-            Found::At(operands)
+            Some(operands)
         }
-        Found::Nothing => Found::Nothing,
+        None => None,
     }
 }
 
 // The same where the guess says it, or nothing: short enough to stand where it is called.
-pub fn guess_row(g: &[u8], index: &[u16], opcode: u16) -> Found
+pub fn guess_row(g: &[u8], index: &[u16], opcode: u16) -> Option<usize>
     requires { Indexed g.now index.now }
     ensures result_value { Sure result → row_found g.now result ≡ row_of opcode (grammar_of g.now).rows }
     ensures result_in_bounds { place_found result ≤ length g.now }
 {
     let row = guessed(g, index, 0, opcode as u32);
     match row {
-        Found::At(place) => {
+        Some(place) => {
             let operands = place + 3;
-            Found::At(operands)
+            Some(operands)
         }
-        Found::Nothing => Found::Nothing,
+        None => None,
     }
 }
 
 // Where the parameters of the enumerant of a kind and a value start.
-pub fn find_enumerant(g: &[u8], index: &[u16], kind: u8, value: u32) -> Found
+pub fn find_enumerant(g: &[u8], index: &[u16], kind: u8, value: u32) -> Option<usize>
     requires { Indexed g.now index.now }
     ensures result_value { parameters_found g.now result ≡ listed kind value (grammar_of g.now).enumerants }
     ensures result_in_bounds { place_found result ≤ length g.now }
 {
     if kind == 0 {
-        return Found::Nothing;
+        return None;
     }
     let enumerant = look(g, index, kind, value);
     match enumerant {
-        Found::At(place) => {
+        Some(place) => {
             let parameters = place + 6;
-            Found::At(parameters)
+            Some(parameters)
         }
-        Found::Nothing => Found::Nothing,
+        None => None,
     }
 }
 
 // The same where the guess says it, or nothing.
-pub fn guess_enumerant(g: &[u8], index: &[u16], kind: u8, value: u32) -> Found
+pub fn guess_enumerant(g: &[u8], index: &[u16], kind: u8, value: u32) -> Option<usize>
     requires { Indexed g.now index.now }
     ensures result_value { Sure result → parameters_found g.now result ≡ listed kind value (grammar_of g.now).enumerants }
     ensures result_in_bounds { place_found result ≤ length g.now }
 {
     if kind == 0 {
-        return Found::Nothing;
+        return None;
     }
     let enumerant = guessed(g, index, kind, value);
     match enumerant {
-        Found::At(place) => {
+        Some(place) => {
             let parameters = place + 6;
-            Found::At(parameters)
+            Some(parameters)
         }
-        Found::Nothing => Found::Nothing,
+        None => None,
     }
 }
 
 // The operand that starts at a place, or the end of the row.
-pub fn slot_at(g: &[u8], at: usize) -> SlotAt
+pub fn slot_at(g: &[u8], at: usize) -> Option<(u8, u8)>
     ensures g_value { slots_of (items (drop at g.now)) ≡ slots_then result (slots_of (items (drop (at + 3) g.now))) }
     ensures result_in_bounds { slot_bytes result ≤ length g.now - at }
 {
     if g.len() <= at {
-        return SlotAt::End;
+        return None;
     }
     let x = item_at(g, at);
     let Item::Operand(kind, quantifier) = x else {
-        return SlotAt::End;
+        return None;
     };
-    SlotAt::Slot(kind, quantifier)
+    Some((kind, quantifier))
 }
 
 // The parameter that starts at a place, or the end of the enumerant.
-pub fn parameter_at(g: &[u8], at: usize) -> ParameterAt
+pub fn parameter_at(g: &[u8], at: usize) -> Option<u8>
     ensures g_value { parameters_of (items (drop at g.now)) ≡ parameters_then result (parameters_of (items (drop (at + 2) g.now))) }
     ensures result_in_bounds { parameter_bytes result ≤ length g.now - at }
 {
     if g.len() <= at {
-        return ParameterAt::End;
+        return None;
     }
     let x = item_at(g, at);
     let Item::Parameter(kind) = x else {
-        return ParameterAt::End;
+        return None;
     };
-    ParameterAt::Parameter(kind)
+    Some(kind)
 }
 
 // Whether the enumerant of a kind and a value is listed.
@@ -183,8 +168,8 @@ fn is_listed(g: &[u8], index: &[u16], kind: u8, value: u32) -> bool
 {
     let found = find_enumerant(g, index, kind, value);
     match found {
-        Found::At(_) => true,
-        Found::Nothing => false,
+        Some(_) => true,
+        None => false,
     }
 }
 

@@ -7,8 +7,7 @@ mod items;
 mod kinds;
 
 pub use find::{
-    ParameterAt, SlotAt, find_enumerant, find_row, guess_enumerant, guess_row, is_known,
-    parameter_at, slot_at,
+    find_enumerant, find_row, guess_enumerant, guess_row, is_known, parameter_at, slot_at,
 };
 pub use index::{GUESSES, Mark, SIZE, mark_of, put, rises_to};
 pub use items::{Item, item_at, item_length};

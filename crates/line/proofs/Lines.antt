@@ -18,8 +18,6 @@ use Rattle.spec.specs.Names.{name_of}
 use Rattle.spec.specs.Records.{Operand, narrow, wide, text, Placed}
 use Rattle.spec.specs.Check.{bits_in, field_in, placed_of}
 use Rattle.spec.specs.Disassembly.{id_text, name_text, set_of, name_by, ext_name, spaced, spaced_by, operands_text, result_text, type_text, instr_text}
-use Rattle.lookup.specs.declared.Named.{Named}
-use Rattle.lookup.specs.declared.Named.TheVariants.{At, Nothing}
 use Rattle.lookup.specs.Find.{text_found, Inside}
 use Rattle.operand.specs.Parts.{is_two}
 use Rattle.records.specs.Good.{operand_by, operand_at}
@@ -97,14 +95,14 @@ line_is is log strings f =
 -- THE NAME OF AN EXTENDED INSTRUCTION
 
 -- the operands by it
-pub operands_none : (is : List Placed) (log strings : List ℕ) (f : Fields) (run : List ℕ) (r : Named) → text_found run r ≡ name_in is (said_by log strings f) → r ≡ Nothing
+pub operands_none : (is : List Placed) (log strings : List ℕ) (f : Fields) (run : List ℕ) (r : Option (ℕ × ℕ)) → text_found run r ≡ name_in is (said_by log strings f) → r ≡ None
     → spaced (operands_from f.count log strings f.start) ≡ operands_text is (said_by log strings f)
 unfolding operands_text name_in text_found spaced_by said_by placed_of
 operands_none is log strings f run r e q =
     ap (λ (n : Option (List ℕ)). spaced_by n (operands_from f.count log strings f.start)) (sym (ap (text_found run) q) ∙ e)
 
 -- with a name
-operands_named : (is : List Placed) (log strings : List ℕ) (f : Fields) (run : List ℕ) (r : Named) (start end : ℕ) → text_found run r ≡ name_in is (said_by log strings f) → r ≡ At start end
+operands_named : (is : List Placed) (log strings : List ℕ) (f : Fields) (run : List ℕ) (r : Option (ℕ × ℕ)) (start end : ℕ) → text_found run r ≡ name_in is (said_by log strings f) → r ≡ Some (start, end)
     → spaced_by (Some (take (end - start) (drop start run))) (operands_from f.count log strings f.start) ≡ operands_text is (said_by log strings f)
 unfolding operands_text name_in text_found said_by placed_of
 operands_named is log strings f run r start end e q =
@@ -224,7 +222,7 @@ two_inside n log strings a h r =
     far false = omega arith
 
 -- nothing lies anywhere
-pub inside_none : (n : ℕ) → Inside Nothing n
+pub inside_none : (n : ℕ) → Inside None n
 unfolding Inside
 inside_none n = tt
 
@@ -257,7 +255,7 @@ module _ (is : List Placed) (log strings : List ℕ) (f : Fields) where
   name_by_lem o t x a b c = rw (a, b, c)
 
   -- no such instruction
-  pub name_off : (run : List ℕ) → ((not (eqb (f.head % 65536) 12) || not (eqb f.tag 15)) || ltb f.count 2) ≡ true → text_found run Nothing ≡ name_in is (said_by log strings f)
+  pub name_off : (run : List ℕ) → ((not (eqb (f.head % 65536) 12) || not (eqb f.tag 15)) || ltb f.count 2) ≡ true → text_found run None ≡ name_in is (said_by log strings f)
   unfolding text_found
   name_off run e = by (eqb (f.head % 65536) 12) (eqb f.tag 15) (ltb f.count 2) refl refl refl e
     where
@@ -280,7 +278,7 @@ module _ (is : List Placed) (log strings : List ℕ) (f : Fields) where
     name_of_lem x g = name_by_lem true true x ext.opcode ext.block g
 
     -- the first two are of other kinds
-    pub name_kinds : (run : List ℕ) → (not (eqb (get_or log f.start 0) 33) || not (eqb (get_or log (f.start + 5) 0) 35)) ≡ true → text_found run Nothing ≡ name_in is (said_by log strings f)
+    pub name_kinds : (run : List ℕ) → (not (eqb (get_or log f.start 0) 33) || not (eqb (get_or log (f.start + 5) 0) 35)) ≡ true → text_found run None ≡ name_in is (said_by log strings f)
     unfolding text_found
     name_kinds run g = by (eqb (get_or log f.start 0) 33) (eqb (get_or log (f.start + 5) 0) 35) refl refl g
       where
@@ -305,14 +303,14 @@ module _ (is : List Placed) (log strings : List ℕ) (f : Fields) where
 
       module _ (id s : ℕ) (i : id ≡ four_at (f.start + 1) log) (q : s ≡ or_zero (set_of id is)) where
         -- no set
-        pub name_setless : (run : List ℕ) → s ≡ 0 → text_found run Nothing ≡ name_in is (said_by log strings f)
+        pub name_setless : (run : List ℕ) → s ≡ 0 → text_found run None ≡ name_in is (said_by log strings f)
         unfolding text_found name_by
         name_setless run z =
             sym (ap (λ (x : Option ℕ). and_then x (λ set. name_of set (four_at (f.start + 6) log))) (set_zero (four_at (f.start + 1) log) is (sym (ap (λ (k : ℕ). or_zero (set_of k is)) i) ∙ sym q ∙ z)))
             ∙ by_set
 
         -- a set
-        pub name_set : (run : List ℕ) (r : Named) (m : ℕ) → (s ≡ 0 → ⊥) → m ≡ four_at (f.start + 6) log → text_found run r ≡ name_of s m → text_found run r ≡ name_in is (said_by log strings f)
+        pub name_set : (run : List ℕ) (r : Option (ℕ × ℕ)) (m : ℕ) → (s ≡ 0 → ⊥) → m ≡ four_at (f.start + 6) log → text_found run r ≡ name_of s m → text_found run r ≡ name_in is (said_by log strings f)
         unfolding name_by
         name_set run r m z w t =
             t ∙ ap (name_of s) w
@@ -355,7 +353,7 @@ four_pieces : (a x b : List ℕ) → a ++ ascii " " ++ x ++ b ≡ a ++ ((32 ∷ 
 four_pieces a x b = append_assoc (a ++ ascii " ") x b ∙ append_assoc a (ascii " ") (x ++ b)
 
 -- a name that is there
-module _ (is : List Placed) (log strings : List ℕ) (f : Fields) (run : List ℕ) (r : Named) (start end : ℕ) (e : text_found run r ≡ name_in is (said_by log strings f)) (q : r ≡ At start end) where
+module _ (is : List Placed) (log strings : List ℕ) (f : Fields) (run : List ℕ) (r : Option (ℕ × ℕ)) (start end : ℕ) (e : text_found run r ≡ name_in is (said_by log strings f)) (q : r ≡ Some (start, end)) where
   -- tells where the third operand stands
   pub named_third : Third log f
   unfolding text_found name_in said_by placed_of

@@ -14,7 +14,6 @@ ghost use Rattle.imports.specs.Imports.{ImportsEnd};
 ghost use Rattle.line.specs.Named.{name_in};
 
 use imports::set_of;
-use lookup::Named;
 use pieces::{put_byte, put_bytes, put_id, put_name, put_operands};
 use spec::{Fields, kinds, opcodes, tags};
 
@@ -63,7 +62,7 @@ fn ext_name(
     strings: &[u8],
     asked: Asked,
     f: Fields,
-) -> Named
+) -> Option<(usize, usize)>
     requires indexed { Indexed run.now index.now }
     requires good_stores { GoodStores instructions.now log.now strings.now asked.count }
     requires imports_le_count { (asked.imports ≤ asked.count) × ImportsEnd instructions.now asked.count asked.imports }
@@ -72,11 +71,11 @@ fn ext_name(
     ensures inside { Inside result (length run.now) }
 {
     if (((f.head % 65536) as u16) != opcodes::EXT_INST) | (f.tag != tags::BLOCK) | (f.count < 2) {
-        return Named::Nothing;
+        return None;
     }
     let a = f.start as usize;
     if (log[a] != kinds::ID_REF) | (log[a + 5] != kinds::EXT_INST) {
-        return Named::Nothing;
+        return None;
     }
     let set = set_of(
         instructions,
@@ -87,7 +86,7 @@ fn ext_name(
         words::word_at(log, a + 1),
     );
     if set == 0 {
-        return Named::Nothing;
+        return None;
     }
     lookup::find(run, index, set, words::word_at(log, a + 6))
 }
@@ -114,7 +113,7 @@ fn put_all(
     let a = f.start as usize;
     let n = f.count as usize;
     let name = ext_name(run, index, instructions, log, strings, asked, f);
-    let Named::At(start, end) = name else {
+    let Some((start, end)) = name else {
         return put_operands(run, index, log, strings, a, n, out, at, asked.keep);
     };
     let third = a + 10;

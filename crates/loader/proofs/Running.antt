@@ -9,11 +9,9 @@ use borrow.Author.Tests.{lt-leb, eqb-true}
 use lib.Dec.{eqb}
 use lib.ListN.{length, drop, length-append, length-drop}
 use lib.Seq.{sets, length-sets}
-use Rattle.spec.specs.declared.Limit.TheVariants.{Unlimited}
 use Rattle.spec.specs.declared.Refusal.{Refusal}
 use Rattle.spec.specs.declared.State.{State}
 use Rattle.spec.specs.declared.State.TheVariants.{Outside}
-use Rattle.spec.specs.declared.Cell.TheVariants.{Tagged}
 use Rattle.spec.specs.declared.Counts.{Counts}
 use Rattle.spec.specs.declared.Loaded.{Loaded}
 use Rattle.spec.specs.declared.Fields.{Fields}
@@ -48,13 +46,14 @@ use Rattle.loader.specs.Loading.{LoadsFrom}
 use Rattle.steps.proofs.Judging.{placed_as, book_of, word_left, Admitted, Stops, log_size, strings_few, strings_size, tracked_is, need_is, fields_are, placed_is}
 use Rattle.steps.proofs.Keeping.{log_short}
 use Rattle.loader.proofs.Growing.{begun_with, begun_next, records_next, grow, entries_next, types_next}
+use Rattle.std.specs.Prelude.{None, Ok}
 
 -- THE DEFINITION, A STEP AT A TIME
 
 module _ (g : Grammar) (room : Counts) (h s : List ℕ) (at : ℕ) where
   -- no word is left: the load ends
   load_ends : (n : ℕ) (b : Book) → length s - at < 4
-      → load_from g room h n b (reader_at s at Unlimited) ≡ stop h b (end_number b.state) at 0
+      → load_from g room h n b (reader_at s at None) ≡ stop h b (end_number b.state) at 0
   unfolding load_from reader_at
   load_ends zero b None = refl
   load_ends (suc n) b None =
@@ -63,18 +62,18 @@ module _ (g : Grammar) (room : Counts) (h s : List ℕ) (at : ℕ) where
 
   -- an instruction behind which it goes on
   load_goes : (n : ℕ) (b : Book) (i : Instr) (to tag : ℕ) (next : State) (used : Counts) → 4 ≤ length s - at
-      → read_instr g b.types (reader_at s at Unlimited) ≡ got i (reader_at s to Unlimited) → layout_of i.opcode b.state ≡ Tagged tag next
+      → read_instr g b.types (reader_at s at None) ≡ got i (reader_at s to None) → layout_of i.opcode b.state ≡ Ok (tag, next)
       → used_after b.used i (track i b.types) ≡ used → room_fault room used ≡ 0
-      → load_from g room h (suc n) b (reader_at s at Unlimited)
+      → load_from g room h (suc n) b (reader_at s at None)
       ≡ load_from g room h n (record { kept = b.kept ++ (placed_as i tag ∷ []); types = track i b.types; used = used; state = next })
-      (reader_at s to Unlimited)
+      (reader_at s to None)
   unfolding load_from reader_at
   load_goes n b i to tag next used more read place u fits =
       rw (word_left s at more, read, place)
       (ap
       (λ (c : Counts).
       let e : Book = record { kept = b.kept ++ (placed_as i tag ∷ []); types = track i b.types; used = c; state = next } in
-      on_book h b (roomed room i e (reader_at s to Unlimited)) (load_from g room h n))
+      on_book h b (roomed room i e (reader_at s to None)) (load_from g room h n))
       u
       ∙ rw fits)
 
@@ -86,8 +85,8 @@ pub record Running (s g : List ℕ) (room : Counts) (before now : Stores) (h₀ 
   pub kept : List Placed
   pub fuel : ℕ
   pub left : (h : List ℕ)
-      → load_from (grammar_of g) (room_in before) h (length s / 4) empty_book (reader_at s 20 Unlimited)
-      ≡ load_from (grammar_of g) room h fuel (book_of kept (entries_of p.tracker.count now.types) p) (reader_at s p.at Unlimited)
+      → load_from (grammar_of g) (room_in before) h (length s / 4) empty_book (reader_at s 20 None)
+      ≡ load_from (grammar_of g) room h fuel (book_of kept (entries_of p.tracker.count now.types) p) (reader_at s p.at None)
   pub enough : length s ≤ p.at + 4 * fuel + 3
   pub inside : p.at ≤ length s
   pub short : length s ≤ 67108864
@@ -130,7 +129,7 @@ start s g room before h₀ e few short t m q fits blank =
     (record {
       kept = [];
       fuel = length s / 4;
-      left = λ h. ap (λ (u : Counts). load_from (grammar_of g) u h (length s / 4) empty_book (reader_at s 20 Unlimited)) (sym e);
+      left = λ h. ap (λ (u : Counts). load_from (grammar_of g) u h (length s / 4) empty_book (reader_at s 20 None)) (sym e);
       enough = omega arith;
       inside = few;
       short = short;
@@ -186,7 +185,7 @@ module _ {s g : List ℕ} {room : Counts} {before now : Stores} {h₀ hs : List 
   -- where the load stops, the answer and the stores say so
   stopped : (y : Refusal) (b : ℕ) → (y.number ≡ 0 → b ≡ p.breaks)
       → ((h : List ℕ)
-      → load_from (grammar_of g) (room_in before) h (length s / 4) empty_book (reader_at s 20 Unlimited)
+      → load_from (grammar_of g) (room_in before) h (length s / 4) empty_book (reader_at s 20 None)
       ≡ stop h (book_of r.kept (entries_of p.tracker.count now.types) p) y.number y.place y.value)
       → LoadsFrom g s before now (record { progress = p; refusal = y; breaks = b })
   unfolding LoadsFrom said_at stores_of laid_on laid_over stored module_break
@@ -214,12 +213,12 @@ module _ {s g : List ℕ} {room : Counts} {before now : Stores} {h₀ hs : List 
   module _ (more : 4 ≤ length s - p.at) where
     -- what is left, where there is fuel
     left_more : (h : List ℕ)
-        → load_from (grammar_of g) (room_in before) h (length s / 4) empty_book (reader_at s 20 Unlimited)
-        ≡ load_from (grammar_of g) room h (suc (r.fuel - 1)) (book_of r.kept (entries_of p.tracker.count now.types) p) (reader_at s p.at Unlimited)
+        → load_from (grammar_of g) (room_in before) h (length s / 4) empty_book (reader_at s 20 None)
+        ≡ load_from (grammar_of g) room h (suc (r.fuel - 1)) (book_of r.kept (entries_of p.tracker.count now.types) p) (reader_at s p.at None)
     left_more h =
         let Some : r.fuel ≡ suc (r.fuel - 1) = omega (arith, r.enough) in
         r.left h
-        ∙ ap (λ (n : ℕ). load_from (grammar_of g) room h n (book_of r.kept (entries_of p.tracker.count now.types) p) (reader_at s p.at Unlimited))
+        ∙ ap (λ (n : ℕ). load_from (grammar_of g) room h n (book_of r.kept (entries_of p.tracker.count now.types) p) (reader_at s p.at None))
         Some
 
     -- the load stops at an instruction
@@ -304,11 +303,11 @@ module _ {s g : List ℕ} {room : Counts} {before now : Stores} {h₀ hs : List 
             left = λ z.
                 left_more here more z
                 ∙ load_goes (grammar_of g) room z s f.at (here.fuel - 1) (book_of ks es f) i q.at t.tag q.state (used_by q) more
-                (h.read ∙ ap (λ (n : ℕ). got i (reader_at s n Unlimited)) (sym k.at))
+                (h.read ∙ ap (λ (n : ℕ). got i (reader_at s n None)) (sym k.at))
                 (placed_is a.shown _ a.placed ∙ ap (Tagged t.tag) (sym k.state)) (sym (need_is a.shown es) ∙ sym k.used)
                 (ap (room_fault room) k.used ∙ a.fits)
                 ∙ ap
-                (λ (fs : List Entry). load_from (grammar_of g) room z (here.fuel - 1) (book_of (ks ++ (pl ∷ [])) fs q) (reader_at s q.at Unlimited))
+                (λ (fs : List Entry). load_from (grammar_of g) room z (here.fuel - 1) (book_of (ks ++ (pl ∷ [])) fs q) (reader_at s q.at None))
                 en;
             enough = omega (arith, here.enough, k.at, h.moves);
             inside = omega (arith, k.at, h.inside);

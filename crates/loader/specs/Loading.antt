@@ -1,6 +1,5 @@
 -- A load into lent stores: what it comes to, what it answers, and what it leaves.
 use Rattle.std.specs.Prelude.{ℕ, ◌/◌, ◌≡◌, List, length}
-use Rattle.spec.specs.declared.Limit.TheVariants.{Unlimited}
 use Rattle.spec.specs.declared.Loaded.{Loaded}
 use Rattle.spec.specs.Words.{AllBytes}
 use Rattle.spec.specs.Reader.{reader_at}
@@ -8,6 +7,7 @@ use Rattle.spec.specs.Grammar.{grammar_of}
 use Rattle.spec.specs.Load.{Outcome, empty_book, load_from, with_plain, load_with, load, Stores, stores_of, room_in, laid_on}
 use Rattle.steps.specs.declared.parts.Ended.{Ended}
 use Rattle.steps.specs.Steps.{said_at}
+use Rattle.std.specs.Prelude.{None}
 
 -- what a load of a module comes to by a grammar and the room in stores
 unfoldable pub loading : List ℕ → List ℕ → Stores → Outcome
@@ -31,5 +31,5 @@ LoadsWith g m before after r = Leaves (load_with (grammar_of g) (room_in before)
 unfoldable pub LoadsFrom : List ℕ → List ℕ → Stores → Stores → Ended → Type 0
 LoadsFrom g m before after r =
     (h : List ℕ)
-    → Leaves (with_plain m (load_from (grammar_of g) (room_in before) h (length m / 4) empty_book (reader_at m 20 Unlimited))) before after
+    → Leaves (with_plain m (load_from (grammar_of g) (room_in before) h (length m / 4) empty_book (reader_at m 20 None))) before after
     (said_at h (length m) r)

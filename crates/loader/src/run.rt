@@ -8,10 +8,7 @@ ghost use Rattle.loader.specs.Loading.{LoadsFrom, LoadsWith};
 
 use room::room_in;
 use spec::{Loaded, Numbers, Refusal, State, refusals};
-use steps::{
-    Ended, Judged, Progress, Taken, admit, decode, end_number, keep_operands, keep_record,
-    no_instruction, stopped,
-};
+use steps::{Ended, Progress, Taken, admit, decode, end_number, keep_operands, keep_record, no_instruction, stopped};
 use tracker::TypeTracker;
 
 // How many hints there are of where the type of an id is, and how many for a short module.
@@ -80,12 +77,12 @@ fn load_from(
         let read = decode(s, g, index, types, hints, scratch, spare, p);
         let verdict = admit(kinds, table, types, hints, room, p, read);
         match verdict {
-            Judged::Refused(x) => return Ended {
+            Err(x) => return Ended {
                 progress: p,
                 refusal: x,
                 breaks: 0,
             },
-            Judged::Got(d, tag, state) => {
+            Ok((d, tag, state)) => {
                 let t = Taken {
                     from: p,
                     read: d,

@@ -16,8 +16,6 @@ use Rattle.spec.specs.NameTable.{Name, name_table}
 use Rattle.spec.specs.Names.{is_name_of, named, name_of}
 use Rattle.spec.proofs.Choice.{left, right, both, cases}
 use Rattle.words.proofs.Front.{front_got}
-use Rattle.lookup.specs.declared.Named.{Named}
-use Rattle.lookup.specs.declared.Named.TheVariants.{At, Nothing}
 use Rattle.lookup.specs.Run.{name_size, name_bytes, name_run, place_in, slotted, places_from, has_place, placed, Indexed}
 use Rattle.lookup.specs.Find.{text_found, Inside}
 
@@ -191,42 +189,42 @@ module _ (run index : List ℕ) (ix : Indexed run index) (s n p : ℕ) (at : p �
   inside = rw there.has.size there.has.inside
 
   -- what is answered when the name there is the one that is looked for, and when it is not
-  abbrev pub Right : Named → Type 0
+  abbrev pub Right : Option (ℕ × ℕ) → Type 0
   Right r = (text_found run r ≡ name_of s n) × Inside r (length run)
 
   module _ (size : ℕ) (sized : size ≡ get_or run (p + 5) 0) where
     -- the text of a name found: where it stands, and how long it is
-    text_read : (t : List ℕ) → Found run p s n t → text_found run (At (p + 6) (p + 6 + size)) ≡ Some t
+    text_read : (t : List ℕ) → Found run p s n t → text_found run (Some (p + 6, p + 6 + size)) ≡ Some t
     unfolding text_found
     text_read t f =
         let long : p + 6 + size - (p + 6) ≡ length f.name.text = omega (arith, sized, f.has.size) in
         ap (λ (k : ℕ). Some (take k (drop (p + 6) run))) long ∙ ap Some (f.has.text ∙ f.text)
 
     -- the name there is the one that is looked for
-    pub hit : (w : ℕ) → get_or run p 0 ≡ s → w ≡ four_at (p + 1) run → w ≡ n → Right (At (p + 6) (p + 6 + size))
+    pub hit : (w : ℕ) → get_or run p 0 ≡ s → w ≡ four_at (p + 1) run → w ≡ n → Right (Some (p + 6, p + 6 + size))
     unfolding name_of Inside
     hit w set read number = (by (name_of s n) refl, (omega arith, omega (arith, sized, inside)))
       where
         sought : named s n name_table ≡ None → ⊥
         sought = rw (sym there.has.set ∙ set, sym there.has.number ∙ sym read ∙ number) at there.listed
 
-        by : (o : Option (List ℕ)) → name_of s n ≡ o → text_found run (At (p + 6) (p + 6 + size)) ≡ o
+        by : (o : Option (List ℕ)) → name_of s n ≡ o → text_found run (Some (p + 6, p + 6 + size)) ≡ o
         by None e = absurd (sought e)
         by (Some t) e = text_read t (looked t e)
 
   -- the name there is another, so that there is none
-  miss : ((get_or run p 0 ≡ s) × (four_at (p + 1) run ≡ n) → ⊥) → Right Nothing
+  miss : ((get_or run p 0 ≡ s) × (four_at (p + 1) run ≡ n) → ⊥) → Right None
   unfolding text_found Inside
   miss not = (by (name_of s n) refl, tt)
     where
-      by : (o : Option (List ℕ)) → name_of s n ≡ o → text_found run Nothing ≡ o
+      by : (o : Option (List ℕ)) → name_of s n ≡ o → text_found run None ≡ o
       by None e = refl
       by (Some t) e = let f = looked t e in absurd (not (f.has.set ∙ f.set, f.has.number ∙ f.number))
 
   -- its set is another
-  pub other_set : (get_or run p 0 ≡ s → ⊥) → Right Nothing
+  pub other_set : (get_or run p 0 ≡ s → ⊥) → Right None
   other_set not = miss (λ both. not both.0)
 
   -- its number is another
-  pub other_number : (w : ℕ) → w ≡ four_at (p + 1) run → (w ≡ n → ⊥) → Right Nothing
+  pub other_number : (w : ℕ) → w ≡ four_at (p + 1) run → (w ≡ n → ⊥) → Right None
   other_number w read not = miss (λ both. not (read ∙ both.1))

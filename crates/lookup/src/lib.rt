@@ -13,13 +13,6 @@ pub const GLSL: u8 = 46;
 
 pub const OPENCL: u8 = 47;
 
-// Where in the run a text starts and where it ends; or no name.
-#[derive(Clone, Copy)]
-pub enum Named {
-    At(usize, usize),
-    Nothing,
-}
-
 // The index begins with a shift for each set; slots follow, each with the place of a name in the run.
 const SETS: usize = 48;
 
@@ -49,7 +42,7 @@ fn place_of(index: &[u16], set: u8, number: u32) -> usize
 }
 
 // Where the text of a number in a set stands: there can be one place alone, and what stands there is tested before it is believed.
-pub fn find(run: &[u8], index: &[u16], set: u8, number: u32) -> Named
+pub fn find(run: &[u8], index: &[u16], set: u8, number: u32) -> Option<(usize, usize)>
     requires { Indexed run.now index.now }
     ensures result_value { text_found run.now result ≡ name_of set number }
     ensures inside { Inside result (length run.now) }
@@ -60,8 +53,8 @@ pub fn find(run: &[u8], index: &[u16], set: u8, number: u32) -> Named
         if there == number {
             let start = at + 6;
             let end = start + wide_byte(run[at + 5]);
-            return Named::At(start, end);
+            return Some((start, end));
         }
     }
-    Named::Nothing
+    None
 }

@@ -1,6 +1,5 @@
 -- What one instruction comes to: the answer and the stores after it, by the reader of `spec`.
 use Rattle.std.specs.Prelude.{ℕ, ◌+◌, ◌*◌, ◌≤◌, ◌≡◌, true, false, List, length}
-use Rattle.spec.specs.declared.Limit.TheVariants.{Unlimited}
 use Rattle.spec.specs.declared.Refusal.{Refusal}
 use Rattle.spec.specs.Records.{Instr, Entry, operands_log, operands_strings}
 use Rattle.spec.specs.Reader.{Reader, Read, got, refused, refusal, reader_at}
@@ -15,14 +14,13 @@ use Rattle.untyped.specs.Body.{body_read}
 use Rattle.used.specs.declared.used.Used.{Used}
 use Rattle.used.specs.declared.used.Frame.{Frame}
 use Rattle.parser.specs.declared.inst.Decoded.{Decoded}
-use Rattle.parser.specs.declared.inst.InstRead.{InstRead}
-use Rattle.parser.specs.declared.inst.InstRead.TheVariants.{Got, Refused}
+use Rattle.std.specs.Prelude.{Err, None, Ok, Result}
 
 -- an instruction was read: what is handed on says it, and its operands' records are what was added to what was in use and, where they fit,
 -- to log and strings
 pub record Handed (s : List ℕ) (at : ℕ) (x : Read Instr) (log₀ strs₀ log strs : List ℕ) (u : Used) (r : Decoded) : Type 0 where
   pub instr : Instr
-  pub read : x ≡ got instr (reader_at s (at + 4 * r.words) Unlimited)
+  pub read : x ≡ got instr (reader_at s (at + 4 * r.words) None)
   pub inside : at + 4 * r.words ≤ length s
   pub offset : instr.offset ≡ at
   pub words : instr.words ≡ r.words
@@ -57,9 +55,9 @@ pub record Ends (f : Frame) (n : Used) (r : Decoded) : Type 0 where
   pub breaks : r.breaks ≡ n.breaks
 
 -- its answer: 7 where words are left over
-unfoldable pub Ended : Frame → Decoder → Used → InstRead → Type 0
-Ended f e n (Got r) = (limit_reached e ≡ true) × Ends f n r
-Ended f e n (Refused y) = (limit_reached e ≡ false) × (y ≡ refusal 7 e.offset 0)
+unfoldable pub Ended : Frame → Decoder → Used → Result Decoded Refusal → Type 0
+Ended f e n (Ok r) = (limit_reached e ≡ true) × Ends f n r
+Ended f e n (Err y) = (limit_reached e ≡ false) × (y ≡ refusal 7 e.offset 0)
 
 -- it was refused
 pub record Declined (x : Read Instr) (y : Refusal) : Type 0 where
@@ -67,12 +65,12 @@ pub record Declined (x : Read Instr) (y : Refusal) : Type 0 where
   pub read : x ≡ refused y rest
 
 -- the answer to the read x of the instruction at a place, and the stores after it where it is good
-unfoldable pub Decodes : List ℕ → ℕ → Read Instr → List ℕ → List ℕ → List ℕ → List ℕ → Used → InstRead → Type 0
-Decodes s at x log₀ strs₀ log strs u (Got r) = Handed s at x log₀ strs₀ log strs u r
-Decodes s at x log₀ strs₀ log strs u (Refused y) = Declined x y
+unfoldable pub Decodes : List ℕ → ℕ → Read Instr → List ℕ → List ℕ → List ℕ → List ℕ → Used → Result Decoded Refusal → Type 0
+Decodes s at x log₀ strs₀ log strs u (Ok r) = Handed s at x log₀ strs₀ log strs u r
+Decodes s at x log₀ strs₀ log strs u (Err y) = Declined x y
 
 -- the same, whatever the stores held before
-pub record DecodesOver (s : List ℕ) (at : ℕ) (x : Read Instr) (log strs : List ℕ) (u : Used) (r : InstRead) : Type 0 where
+pub record DecodesOver (s : List ℕ) (at : ℕ) (x : Read Instr) (log strs : List ℕ) (u : Used) (r : Result Decoded Refusal) : Type 0 where
   pub log₀ : List ℕ
   pub strs₀ : List ℕ
   pub decodes : Decodes s at x log₀ strs₀ log strs u r
@@ -82,9 +80,9 @@ abbrev pub frame_of : ℕ → Decoded → Frame
 frame_of at r = record { at = at; words = r.words; opcode = r.opcode; place = r.place }
 
 -- an instruction that was read has this frame
-unfoldable pub ShapeIs : Frame → InstRead → Type 0
-ShapeIs f (Got r) = frame_of f.at r ≡ f
-ShapeIs f (Refused y) = Unit
+unfoldable pub ShapeIs : Frame → Result Decoded Refusal → Type 0
+ShapeIs f (Ok r) = frame_of f.at r ≡ f
+ShapeIs f (Err y) = Unit
 
 -- an instruction was read, by a row whose operands start at a place of the grammar
 pub record ByRow (g : List ℕ) (types : List Entry) (s : List ℕ) (at : ℕ) (x : Read Instr) (r : Decoded) : Type 0 where
@@ -93,6 +91,6 @@ pub record ByRow (g : List ℕ) (types : List Entry) (s : List ℕ) (at : ℕ) (
   pub body : x ≡ body_read g types s (frame_of at r)
 
 -- the row of an instruction that was read
-unfoldable pub RowIs : List ℕ → List Entry → List ℕ → ℕ → Read Instr → InstRead → Type 0
-RowIs g types s at x (Got r) = ByRow g types s at x r
-RowIs g types s at x (Refused y) = Unit
+unfoldable pub RowIs : List ℕ → List Entry → List ℕ → ℕ → Read Instr → Result Decoded Refusal → Type 0
+RowIs g types s at x (Ok r) = ByRow g types s at x r
+RowIs g types s at x (Err y) = Unit

@@ -13,12 +13,12 @@ ghost use Rattle.parser.specs.Inst.{Ended, Decodes, DecodesOver, ShapeIs, RowIs}
 ghost use Rattle.untyped.specs.Body.{Framed, body_read};
 
 use crate::rows::parse_operands;
-use decoder::{Decoder, WordRead};
+use decoder::Decoder;
 use operand::Parts;
-use simple::{Simple, simple_operands};
-use spec::{Found, Limit, Refusal, refusals};
+use simple::{simple_operands};
+use spec::{Refusal, refusals};
 use tracker::TypeTracker;
-use used::{Frame, Parsed, Used};
+use used::{Frame, Used};
 
 // An instruction that was read: its opcode and word count, where its row's operands start, its results as `Used` has them, how many
 // operands, the first two, where log and strings go on after its records, and the lowest offset that breaks it, or 0.
@@ -37,27 +37,20 @@ pub struct Decoded {
     pub breaks: usize,
 }
 
-// An instruction, or the first refusal in it.
-#[derive(Clone, Copy)]
-pub enum InstRead {
-    Got(Decoded),
-    Refused(Refusal),
-}
-
 // An instruction that is refused.
-fn no_inst(number: u32, place: usize, value: u32) -> InstRead
-    ensures { result ≡ InstRead.Refused (refusal number place value) }
+fn no_inst(number: u32, place: usize, value: u32) -> Result<Decoded, Refusal>
+    ensures { result ≡ Err (refusal number place value) }
 {
     let refusal = Refusal {
         number,
         place,
         value,
     };
-    InstRead::Refused(refusal)
+    Err(refusal)
 }
 
 // An instruction whose row was read: 7 where words are left over.
-fn finished(frame: Frame, e: Decoder, u: Used) -> InstRead
+fn finished(frame: Frame, e: Decoder, u: Used) -> Result<Decoded, Refusal>
     ensures { Ended frame e u result }
 {
     let opcode = frame.opcode;
@@ -78,7 +71,7 @@ fn finished(frame: Frame, e: Decoder, u: Used) -> InstRead
     let strings = u.strings;
     let breaks = u.breaks;
     if e.limit_reached() {
-        return InstRead::Got(Decoded {
+        return Ok(Decoded {
             opcode,
             words,
             place,
@@ -107,7 +100,7 @@ pub fn parse_body(
     log: &mut [u8],
     strings: &mut [u8],
     used: Used,
-) -> InstRead
+) -> Result<Decoded, Refusal>
     requires indexed { Indexed g.now index.now }
     requires framed { Framed s.now g.now frame × Fresh frame.at used }
     requires count_in_bounds { 3 * tracker.count ≤ length types.now }
@@ -119,21 +112,21 @@ pub fn parse_body(
         s, g, index, types, hints, tracker, frame, log, strings, used,
     );
     match parsed {
-        Parsed::Refused(x, _) => InstRead::Refused(x),
-        Parsed::Got(e, u) => finished(frame, e, u),
+        Err((x, _)) => Err(x),
+        Ok((u, e)) => finished(frame, e, u),
     }
 }
 
 // Where the operands of an opcode's row start: where the guess says, else by a search.
-fn row_of(g: &[u8], index: &[u16], opcode: u16) -> Found
+fn row_of(g: &[u8], index: &[u16], opcode: u16) -> Option<usize>
     requires { Indexed g.now index.now }
     ensures result_value { row_found g.now result ≡ row_of opcode (grammar_of g.now).rows }
     ensures result_in_bounds { place_found result ≤ length g.now }
 {
     let guess = grammar::guess_row(g, index, opcode);
     match guess {
-        Found::At(place) => Found::At(place),
-        Found::Nothing => grammar::find_row(g, index, opcode),
+        Some(place) => Some(place),
+        None => grammar::find_row(g, index, opcode),
     }
 }
 
@@ -150,7 +143,7 @@ pub fn parse_inst(
     log: &mut [u8],
     strings: &mut [u8],
     used: Used,
-) -> InstRead
+) -> Result<Decoded, Refusal>
     requires indexed { Indexed g.now index.now }
     requires s_len_bound { (length s.now ≤ 67108864) × (at ≤ length s.now) × Fresh at used }
     requires count_in_bounds { 3 * tracker.count ≤ length types.now }
@@ -160,19 +153,19 @@ pub fn parse_inst(
 {
     let start = Decoder {
         offset: at,
-        limit: Limit::Unlimited,
+        limit: None,
     };
     let first = start.word(s);
     match first {
-        WordRead::Refused(x, _) => InstRead::Refused(x),
-        WordRead::Got(w, _) => {
+        Err((x, _)) => Err(x),
+        Ok((w, _)) => {
             let words = (w / 65536) as u16;
             let opcode = (w % 65536) as u16;
             if words == 0 {
                 return no_inst(refusals::NO_WORDS, at, 0);
             }
             let row = row_of(g, index, opcode);
-            let Found::At(place) = row else {
+            let Some(place) = row else {
                 return no_inst(refusals::OPCODE_UNKNOWN, at, opcode as u32);
             };
             let frame = Frame {
@@ -184,7 +177,7 @@ pub fn parse_inst(
             let simple = simple_operands(
                 s, g, index, types, hints, tracker, frame, log, strings, used,
             );
-            if let Simple::Got(e, u) = simple {
+            if let Some((u, e)) = simple {
                 return finished(frame, e, u);
             }
             // Copies, which the call is handed: so the short walk's own need not lie in memory.

@@ -5,4 +5,4 @@ mod inst;
 mod literals;
 mod rows;
 
-pub use inst::{Decoded, InstRead, parse_body, parse_inst};
+pub use inst::{Decoded, parse_body, parse_inst};

@@ -4,10 +4,10 @@ ghost use Rattle.decoder.specs.Answer.{reader_of};
 ghost use Rattle.grammar.specs.Index.{Indexed};
 ghost use Rattle.used.specs.Parse.{Few, Parses, kind_is, is_literal, literal_alone, pair_alone};
 
-use decoder::{Decoder, LongRead};
+use decoder::{Answer, Decoder};
 use spec::{kinds, refusals};
 use untyped::read_one;
-use used::{Parsed, Used, push, refused};
+use used::{Used, push, refused};
 
 // A literal of a kind: 12 where there is none, before a word is read.
 pub fn parse_literal(
@@ -19,7 +19,7 @@ pub fn parse_literal(
     log: &mut [u8],
     strings: &mut [u8],
     u: Used,
-) -> Parsed
+) -> Answer<Used>
     requires indexed { Indexed g.now index.now }
     requires few { Few s.now d u × (is_literal literal ≡ true) }
     ensures { Parses s.now d 4 (literal_alone (kind_is literal) (reader_of s.now d)) log.old strings.old log.new strings.new u result }
@@ -30,8 +30,8 @@ pub fn parse_literal(
     if (literal == kinds::INT64) | (literal == kinds::FLOAT64) {
         let long = d.int64(s);
         match long {
-            LongRead::Refused(x, e) => Parsed::Refused(x, e),
-            LongRead::Got(v, e) => Parsed::Got(e, push(log, literal, v, u)),
+            Err((x, e)) => Err((x, e)),
+            Ok((v, e)) => Ok((push(log, literal, v, u), e)),
         }
     } else {
         read_one(d, s, g, index, literal, log, strings, u)
@@ -48,13 +48,13 @@ pub fn parse_literal_pair(
     log: &mut [u8],
     strings: &mut [u8],
     u: Used,
-) -> Parsed
+) -> Answer<Used>
     requires indexed { Indexed g.now index.now }
     requires few { Few s.now d u × (is_literal literal ≡ true) }
     ensures { Parses s.now d 4 (pair_alone (kind_is literal) (reader_of s.now d)) log.old strings.old log.new strings.new u result }
 {
     let r = parse_literal(d, s, g, index, literal, log, strings, u);
-    let Parsed::Got(e, n) = r else {
+    let Ok((n, e)) = r else {
         return r;
     };
     read_one(e, s, g, index, kinds::ID_REF, log, strings, n)

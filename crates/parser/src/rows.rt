@@ -13,13 +13,12 @@ ghost use Rattle.used.specs.Fresh.{Fresh};
 ghost use Rattle.untyped.specs.Body.{Framed, start_of, row_read};
 
 use crate::literals::{parse_literal, parse_literal_pair};
-use decoder::{Decoder, WordRead};
+use decoder::{Answer, Decoder};
 use embedded::parse_spec_constant_op;
-use grammar::SlotAt;
-use spec::{Limit, kinds, refusals};
+use spec::{kinds, refusals};
 use tracker::TypeTracker;
 use untyped::{next_place, parse_operand, read_word};
-use used::{Frame, Parsed, Used, literal_for, refused, there, with_result};
+use used::{Frame, Used, literal_for, refused, there, with_result};
 
 // An operand that is no result, where a literal by type is of a kind.
 fn parse_kind(
@@ -32,7 +31,7 @@ fn parse_kind(
     log: &mut [u8],
     strings: &mut [u8],
     u: Used,
-) -> Parsed
+) -> Answer<Used>
     requires indexed { Indexed g.now index.now }
     requires few { Few s.now d u × (may_be_operand kind ≡ true) × (is_result kind ≡ false) × (is_literal literal ≡ true) }
     ensures { Parses s.now d 4 (kind_alone (grammar_of g.now) (kind_is literal) kind (reader_of s.now d)) log.old strings.old log.new strings.new u result }
@@ -60,7 +59,7 @@ fn parse_slot(
     log: &mut [u8],
     strings: &mut [u8],
     u: Used,
-) -> Parsed
+) -> Answer<Used>
     requires indexed { Indexed g.now index.now }
     requires few { Few s.now d u × (may_be_operand kind ≡ true) × (is_literal literal ≡ true) }
     ensures { (types : List Entry) → kind_is literal ≡ literal_for types u kind → SlotWalks s.now d kind (λ x. read_slot (grammar_of g.now) types x kind (reader_of s.now d)) log.old strings.old log.new strings.new u result }
@@ -68,8 +67,8 @@ fn parse_slot(
     if grammar::is_result(kind) {
         let w = d.word(s);
         match w {
-            WordRead::Refused(x, e) => Parsed::Refused(x, e),
-            WordRead::Got(id, e) => Parsed::Got(e, with_result(u, kind, there(id))),
+            Err((x, e)) => Err((x, e)),
+            Ok((id, e)) => Ok((with_result(u, kind, there(id)), e)),
         }
     } else {
         if (31 <= kind) & (kind <= 35) {
@@ -91,7 +90,7 @@ pub fn parse_operands(
     log: &mut [u8],
     strings: &mut [u8],
     used: Used,
-) -> Parsed
+) -> Answer<Used>
     requires indexed { Indexed g.now index.now }
     requires framed { Framed s.now g.now frame × Fresh frame.at used }
     requires count_in_bounds { 3 * tracker.count ≤ length types.now }
@@ -100,29 +99,29 @@ pub fn parse_operands(
 {
     let mut d = Decoder {
         offset: frame.at + 4,
-        limit: Limit::Words((frame.words as usize) - 1),
+        limit: Some((frame.words as usize) - 1),
     };
     let mut u = used;
     let mut p = frame.place;
     while p < g.len() {
         let x = grammar::slot_at(g, p);
-        let SlotAt::Slot(k, q) = x else {
-            return Parsed::Got(d, u);
+        let Some((k, q)) = x else {
+            return Ok((u, d));
         };
         if d.limit_reached() {
             if q == 0 {
                 return refused(refusals::OPERAND_EXPECTED, d.offset, d);
             }
-            return Parsed::Got(d, u);
+            return Ok((u, d));
         }
         let literal = literal_for(types, hints, tracker, k, u);
         let r = parse_slot(d, s, g, index, k, literal, log, strings, u);
-        let Parsed::Got(e, n) = r else {
+        let Ok((n, e)) = r else {
             return r;
         };
         d = e;
         u = n;
         p = next_place(p, q);
     }
-    Parsed::Got(d, u)
+    Ok((u, d))
 }

@@ -19,14 +19,13 @@ use Rattle.spec.specs.Names.{name_of}
 use Rattle.spec.specs.Records.{wide}
 use Rattle.spec.specs.Disassembly.{id_text, hex_text, byte_text, string_text, or_nothing, name_text, names_in, set_of_kind, barred, narrow_text, operand_text, spaced}
 use Rattle.spec.proofs.Choice.{left, right}
-use Rattle.lookup.specs.declared.Named.{Named}
-use Rattle.lookup.specs.declared.Named.TheVariants.{At, Nothing}
 use Rattle.lookup.specs.Find.{text_found, Inside}
 use Rattle.operand.specs.Parts.{is_two}
 use Rattle.records.specs.Good.{operand_by, operand_at}
 use Rattle.records.proofs.Good.{operand_is}
 use Rattle.spelled.specs.Spelled.{Readable, AllReadable, operand_after, operands_from}
 use Rattle.pieces.specs.Putting.{barred_from, bit_text, has_bits}
+use Rattle.std.specs.Prelude.{None, Option, Some}
 
 -- A STRING
 
@@ -82,19 +81,19 @@ string_ends s i h = ap (λ (z : List ℕ). joined byte_text z ++ ascii "\"") (dr
 -- NAMES
 
 -- a name that is found
-pub name_found : (run : List ℕ) (set n start end : ℕ) (r : Named) → text_found run r ≡ name_of set n → r ≡ At start end → take (end - start) (drop start run) ≡ name_text set n
+pub name_found : (run : List ℕ) (set n start end : ℕ) (r : Option (ℕ × ℕ)) → text_found run r ≡ name_of set n → r ≡ Some (start, end) → take (end - start) (drop start run) ≡ name_text set n
 unfolding name_text text_found
 name_found run set n start end r e q = ap or_nothing (sym (ap (text_found run) q) ∙ e)
 
 -- one that is not
-pub name_none : (run : List ℕ) (set n : ℕ) (r : Named) → text_found run r ≡ name_of set n → r ≡ Nothing → [] ≡ name_text set n
+pub name_none : (run : List ℕ) (set n : ℕ) (r : Option (ℕ × ℕ)) → text_found run r ≡ name_of set n → r ≡ None → [] ≡ name_text set n
 unfolding name_text text_found
 name_none run set n r e q = ap or_nothing (sym (ap (text_found run) q) ∙ e)
 
 -- where it was found, it lies in the run
-pub name_inside : (n start end : ℕ) (r : Named) → Inside r n → r ≡ At start end → (start ≤ end) × (end ≤ n)
+pub name_inside : (n start end : ℕ) (r : Option (ℕ × ℕ)) → Inside r n → r ≡ Some (start, end) → (start ≤ end) × (end ≤ n)
 unfolding Inside
-name_inside n start end r h q = subst (λ (x : Named). Inside x n) q h
+name_inside n start end r h q = subst (λ (x : Option (ℕ × ℕ)). Inside x n) q h
 
 -- MASKS
 

@@ -9,7 +9,6 @@ ghost use Rattle.spelled.specs.Spelled.{Readable, AllReadable, operand_after, op
 ghost use Rattle.pieces.specs.Putting.{Room, Wrote, bit_text, has_bits};
 
 use crate::pieces::{put_byte, put_bytes, put_hex, put_id, put_number};
-use lookup::Named;
 use operand::is_two;
 use spec::kinds;
 
@@ -62,7 +61,7 @@ pub fn put_name(
     ensures { Wrote keep out.old at (name_text set number) result out.new }
 {
     let found = lookup::find(run, index, set, number);
-    let Named::At(start, end) = found else {
+    let Some((start, end)) = found else {
         return at;
     };
     put_bytes(out, at, &run[start..end], keep)

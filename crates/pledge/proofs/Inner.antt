@@ -11,14 +11,8 @@ use Rattle.spec.specs.Records.{Instr}
 use Rattle.spec.specs.Reader.{Reader, got}
 use Rattle.spec.specs.Grammar.{Slot}
 use Rattle.spec.proofs.Choice.{cases}
-use Rattle.grammar.specs.declared.find.SlotAt.{SlotAt}
-use Rattle.grammar.specs.declared.find.SlotAt.TheVariants.{Slot as ASlot, End as NoSlot}
-use Rattle.grammar.specs.declared.find.ParameterAt.{ParameterAt}
-use Rattle.grammar.specs.declared.find.ParameterAt.TheVariants.{Parameter as AParameter, End as NoParameter}
 use Rattle.grammar.specs.Find.{slots_then, parameters_then}
 use Rattle.tracker.specs.declared.TypeTracker.{TypeTracker}
-use Rattle.tracker.specs.declared.Id.{Id}
-use Rattle.tracker.specs.declared.Id.TheVariants.{Absent, Is}
 use Rattle.tracker.specs.Track.{id_is}
 use Rattle.used.specs.Parse.{kind_is}
 use Rattle.steps.specs.declared.parts.Progress.{Progress}
@@ -104,20 +98,20 @@ use Rattle.pledge.proofs.Offered.{Determined, both, and}
 -- ANSWERS OF WHICH THE SAME IS TOLD
 
 -- operands of a row
-same_slot : (x y : SlotAt) (rest : List Slot) → slots_then x rest ≡ slots_then y rest → x ≡ y
+same_slot : (x y : Option (ℕ × ℕ)) (rest : List Slot) → slots_then x rest ≡ slots_then y rest → x ≡ y
 unfolding slots_then
-same_slot (ASlot k q) (ASlot l r) rest e = cc
-same_slot (ASlot k q) NoSlot rest e = let z : ◌≡◌ {A = ℕ} 0 1 = cc in absurd (omega arith)
-same_slot NoSlot (ASlot l r) rest e = let z : ◌≡◌ {A = ℕ} 0 1 = cc in absurd (omega arith)
-same_slot NoSlot NoSlot rest e = refl
+same_slot (Some (k, q)) (Some (l, r)) rest e = cc
+same_slot (Some (k, q)) None rest e = let z : ◌≡◌ {A = ℕ} 0 1 = cc in absurd (omega arith)
+same_slot None (Some (l, r)) rest e = let z : ◌≡◌ {A = ℕ} 0 1 = cc in absurd (omega arith)
+same_slot None None rest e = refl
 
 -- parameters of an enumerant
-same_parameter : (x y : ParameterAt) (rest : List ℕ) → parameters_then x rest ≡ parameters_then y rest → x ≡ y
+same_parameter : (x y : Option ℕ) (rest : List ℕ) → parameters_then x rest ≡ parameters_then y rest → x ≡ y
 unfolding parameters_then
-same_parameter (AParameter k) (AParameter l) rest e = cc
-same_parameter (AParameter k) NoParameter rest e = let z : ◌≡◌ {A = ℕ} 0 1 = cc in absurd (omega arith)
-same_parameter NoParameter (AParameter l) rest e = let z : ◌≡◌ {A = ℕ} 0 1 = cc in absurd (omega arith)
-same_parameter NoParameter NoParameter rest e = refl
+same_parameter (Some k) (Some l) rest e = cc
+same_parameter (Some k) None rest e = let z : ◌≡◌ {A = ℕ} 0 1 = cc in absurd (omega arith)
+same_parameter None (Some l) rest e = let z : ◌≡◌ {A = ℕ} 0 1 = cc in absurd (omega arith)
+same_parameter None None rest e = refl
 
 -- trackers, which are a count, a greatest id and a number of marks
 same_tracker : {x y : TypeTracker} → x.count ≡ y.count → x.greatest ≡ y.greatest → x.marks ≡ y.marks → x ≡ y
@@ -126,12 +120,12 @@ same_tracker e f h =
     ap₂ (λ (t : ℕ → TypeTracker) (m : ℕ). t m) (ap₂ by e f) h
 
 -- ids that may be missing
-same_id : (x y : Id) → id_is x ≡ id_is y → x ≡ y
+same_id : (x y : Option ℕ) → id_is x ≡ id_is y → x ≡ y
 unfolding id_is
-same_id Absent Absent e = refl
-same_id Absent (Is j) e = let z : ◌≡◌ {A = ℕ} 0 1 = cc in absurd (omega arith)
-same_id (Is i) Absent e = let z : ◌≡◌ {A = ℕ} 0 1 = cc in absurd (omega arith)
-same_id (Is i) (Is j) e = cc
+same_id None None e = refl
+same_id None (Some j) e = let z : ◌≡◌ {A = ℕ} 0 1 = cc in absurd (omega arith)
+same_id (Some i) None e = let z : ◌≡◌ {A = ℕ} 0 1 = cc in absurd (omega arith)
+same_id (Some i) (Some j) e = cc
 
 -- no kind is one
 some_none : (k : ℕ) → ◌≡◌ {A = Option ℕ} (Some k) None → ⊥

@@ -10,8 +10,6 @@ use borrow.Author.Tests.{leb-true, le-leb}
 use lib.Dec.{leb, eqb}
 use lib.ListN.{length}
 use Rattle.spec.specs.declared.State.{State}
-use Rattle.spec.specs.declared.Cell.{Cell}
-use Rattle.spec.specs.declared.Cell.TheVariants.{Tagged, Refuses}
 use Rattle.spec.specs.declared.Fields.{Fields}
 use Rattle.std.specs.Prelude.{if◌then◌else◌}
 use Rattle.spec.specs.Base.{implies}
@@ -19,6 +17,8 @@ use Rattle.spec.specs.Layout.{layout_of, end_number}
 use Rattle.spec.specs.Records.{Placed}
 use Rattle.spec.specs.Check.{lower, fields_good, fields_fault, Left, take_record, Scan, on_record, scan_from, on_tag, tags_fault}
 use Rattle.records.specs.Steps.{missing_from}
+use Rattle.spec.specs.Layout.{Cell}
+use Rattle.std.specs.Prelude.{Err, Ok}
 
 -- no fault, or one at an index or later
 unfoldable pub AtLeast : ℕ → Option ℕ → Type 0
@@ -132,8 +132,8 @@ scan_late lc sc i l (f ∷ fs) =
 -- after the tag of a record
 late_tag : (i tag : ℕ) (c : Cell) (more : State → Option ℕ) → ((s : State) → AtLeast i (more s)) → AtLeast i (on_tag i tag c more)
 unfolding AtLeast
-late_tag i tag (Tagged t s) more h = late_if i (eqb tag t) (more s) (Some i) (h s) (omega arith)
-late_tag i tag (Refuses n) more h = omega arith
+late_tag i tag (Ok (t, s)) more h = late_if i (eqb tag t) (more s) (Some i) (h s) (omega arith)
+late_tag i tag (Err n) more h = omega arith
 
 -- tags
 pub tags_late : (whole : Bool) (i : ℕ) (s : State) (fs : List Fields) → AtLeast i (tags_fault whole i s fs)

@@ -12,16 +12,12 @@ use lib.ListN.{length, take, drop, length-drop}
 use lib.Seq.{drop-drop}
 use Rattle.spec.specs.declared.State.{State}
 use Rattle.spec.specs.declared.State.TheVariants.{Outside}
-use Rattle.spec.specs.declared.Cell.{Cell}
-use Rattle.spec.specs.declared.Cell.TheVariants.{Tagged, Refuses}
 use Rattle.spec.specs.declared.Fields.{Fields}
 use Rattle.std.specs.Prelude.{if◌then◌else◌}
 use Rattle.spec.specs.Records.{Placed, field_size, fields_at}
 use Rattle.spec.specs.Layout.{layout_of, end_number}
 use Rattle.spec.specs.Check.{lower, records_of, missing, fields_good, fields_fault, Left, take_record, on_record, scan_from, on_tag, tags_fault, fault_of}
 use Rattle.records.specs.declared.Asked.{Asked}
-use Rattle.records.specs.declared.Checked.{Checked}
-use Rattle.records.specs.declared.Checked.TheVariants.{Good, Bad}
 use Rattle.records.specs.declared.Offset.{Offset}
 use Rattle.records.specs.declared.Offset.TheVariants as offset
 use Rattle.records.specs.declared.Passed.{Passed}
@@ -32,6 +28,8 @@ use Rattle.records.specs.Steps.{given, checked_is, end_answer, at_most, left_at,
 use Rattle.records.proofs.Fields.{take_most}
 use Rattle.records.proofs.Operands.{has_yes, has_no, passes_none, record_passes}
 use Rattle.records.proofs.Lowest.{lowest_1, lowest_2, lowest_3, lowest_4, both_ends, missing_late, fields_late, scan_late, tags_late}
+use Rattle.spec.specs.Layout.{Cell}
+use Rattle.std.specs.Prelude.{Err, Ok}
 
 -- THE RECORDS
 
@@ -104,8 +102,8 @@ tag_if i s more false u x e = (λ g. let z : ◌≡◌ {A = ℕ} 0 1 = cc in abs
 tag_told : (i tag : ℕ) (s : State) (more : State → Option ℕ) (c : Cell) (x : Tagging) → x ≡ tag_by tag c
     → (x ≡ tagging.Got s → on_tag i tag c more ≡ more s) × (x ≡ tagging.Refused → on_tag i tag c more ≡ Some i)
 unfolding tag_by
-tag_told i tag s more (Tagged t u) x e = tag_if i s more (eqb tag t) u x e
-tag_told i tag s more (Refuses n) x e = (λ g. let z : ◌≡◌ {A = ℕ} 0 1 = cc in absurd (omega arith), λ g. refl)
+tag_told i tag s more (Ok (t, u)) x e = tag_if i s more (eqb tag t) u x e
+tag_told i tag s more (Err n) x e = (λ g. let z : ◌≡◌ {A = ℕ} 0 1 = cc in absurd (omega arith), λ g. refl)
 
 -- THE PASS
 
@@ -191,13 +189,13 @@ end_is true i = refl
 end_is false i = ap Some (add-one i)
 
 -- no fault is a good answer
-pub free_good : (t : Bool) (x : Option ℕ) → t ≡ is_free x → t ≡ true → checked_is Good ≡ x
+pub free_good : (t : Bool) (x : Option ℕ) → t ≡ is_free x → t ≡ true → checked_is None ≡ x
 unfolding checked_is is_free
 free_good t None e q = refl
 free_good t (Some i) e q = let z : ◌≡◌ {A = Bool} true false = sym q ∙ e in let k : ◌≡◌ {A = ℕ} 0 1 = cc in absurd (omega arith)
 
 -- a bad answer is a fault
-pub bad_fault : (k : ℕ) (x : Option ℕ) → checked_is (Bad k) ≡ x → false ≡ is_free x
+pub bad_fault : (k : ℕ) (x : Option ℕ) → checked_is (Some k) ≡ x → false ≡ is_free x
 unfolding checked_is is_free
 bad_fault k x e = ap is_free e
 
@@ -227,12 +225,12 @@ module _ {q : Asked} {ws log strings : List ℕ} {i at a b : ℕ} {s : State} (s
     (r : Checking q ws log strings i at a b s) where
   -- an answer that names the record
   bad_here : faults_from q (suc i) (q.count - i) at (left_at log strings a b) s (records_of q.size (q.count - i) (drop (q.size * i) ws)) ≡ Some (suc i)
-      → checked_is (Bad (i + 1)) ≡ fault_in q ws log strings
+      → checked_is (Some (i + 1)) ≡ fault_in q ws log strings
   unfolding checked_is
   bad_here e = ap Some (add-one i) ∙ sym (r.fault ∙ e)
 
   -- a record that does not lie wholly in the store
-  pub check_missing : i < q.count → length ws / q.size ≤ i → checked_is (Bad (i + 1)) ≡ fault_in q ws log strings
+  pub check_missing : i < q.count → length ws / q.size ≤ i → checked_is (Some (i + 1)) ≡ fault_in q ws log strings
   check_missing h g =
       let n : q.count - i ≡ suc (q.count - (i + 1)) = omega arith in
       bad_here
@@ -253,16 +251,16 @@ module _ {q : Asked} {ws log strings : List ℕ} {i at a b : ℕ} {s : State} (s
         ∙ ap (λ (n : ℕ). faults_from q (suc i) n at (left_at log strings a b) s (f ∷ records_of q.size (q.count - (i + 1)) (drop (q.size * (i + 1)) ws))) n
 
     -- its fields are bad
-    pub check_fields : (x : Offset) → x ≡ offset_after at f → x ≡ offset.Refused → checked_is (Bad (i + 1)) ≡ fault_in q ws log strings
+    pub check_fields : (x : Offset) → x ≡ offset_after at f → x ≡ offset.Refused → checked_is (Some (i + 1)) ≡ fault_in q ws log strings
     check_fields x c d = bad_here (first ∙ faults_fields q log strings (suc i) at a b s f _ (q.count - (i + 1)) x c d)
 
     -- its operands are bad
     pub check_operands : (x : Passed) → x ≡ operands_after f (left_at log strings a b) → x ≡ passed.Refused
-        → checked_is (Bad (i + 1)) ≡ fault_in q ws log strings
+        → checked_is (Some (i + 1)) ≡ fault_in q ws log strings
     check_operands x c d = bad_here (first ∙ faults_operands q log strings (suc i) at a b s f _ (q.count - (i + 1)) x c d)
 
     -- its tag is bad
-    pub check_tag : (x : Tagging) → x ≡ tag_after s f → x ≡ tagging.Refused → checked_is (Bad (i + 1)) ≡ fault_in q ws log strings
+    pub check_tag : (x : Tagging) → x ≡ tag_after s f → x ≡ tagging.Refused → checked_is (Some (i + 1)) ≡ fault_in q ws log strings
     check_tag x c d = bad_here (first ∙ faults_tag q log strings (suc i) at a b s f _ (q.count - (i + 1)) x c d)
 
     -- it is good
@@ -305,12 +303,12 @@ module _ {q : Asked} {ws log strings : List ℕ} {i at a b : ℕ} {s : State} (s
     check_free = free_by ended i ∙ ap is_free ends
 
     -- the answer
-    pub check_ends : (x : Checked) → x ≡ end_answer ended (i + 1) → checked_is x ≡ fault_in q ws log strings
+    pub check_ends : (x : Option ℕ) → x ≡ end_answer ended (i + 1) → checked_is x ≡ fault_in q ws log strings
     check_ends x c = ap checked_is c ∙ end_is ended i ∙ ends
 
 -- log and strings up to their counts
 pub check_whole : (q : Asked) (ws log strings : List ℕ) (le se : ℕ) → le ≡ at_most q.log (length log) → se ≡ at_most q.strings (length strings)
-    → (x : Checked) → checked_is x ≡ fault_in q ws (take le log) (take se strings)
+    → (x : Option ℕ) → checked_is x ≡ fault_in q ws (take le log) (take se strings)
     → checked_is x ≡ fault_of q.size q.whole (given ws log strings q.count q.log q.strings)
 unfolding fault_of fault_in faults_from missing_from missing left_at
 check_whole q ws log strings le se c d x e =

@@ -12,7 +12,7 @@ ghost use Rattle.records.specs.Steps.{given, checked_is, end_answer, left_at, fi
 ghost use Rattle.records.specs.Good.{numbers_at, Whole, Logged};
 
 use operand::{Parts, is_two};
-use spec::{Cell, Fields, Found, Numbers, State, kinds};
+use spec::{Cell, Fields, Numbers, State, kinds};
 
 // How many words the fields of an instruction record have, which were last season's whole record.
 pub const FIELDS: usize = 8;
@@ -83,13 +83,6 @@ pub fn put_record(instructions: &mut [u32], at: usize, f: Fields, n: Numbers)
 
 // THE CHECK
 
-// What the check comes to: good records, or the index of the first that is bad (count + 1 for the end).
-#[derive(Clone, Copy)]
-pub enum Checked {
-    Good,
-    Bad(usize),
-}
-
 // 1. FIELDS AND OFFSETS
 
 // A record's fields are bad, or the offset after it.
@@ -140,7 +133,7 @@ fn is_string(s: &[u8]) -> bool
         return true;
     }
     let found = text::zero(s);
-    let Found::Nothing = found else {
+    let None = found else {
         return false;
     };
     text::utf8(s)
@@ -301,7 +294,7 @@ fn tag_after(kinds: &[u8; 256], table: &[[u8; 3]; 19], s: State, f: Fields) -> T
     ensures { result ≡ tag_after s f }
 {
     let cell = reflect::place(kinds, table, (f.head % 65536) as u16, s);
-    let Cell::Tagged(tag, next) = cell else {
+    let Ok((tag, next)) = cell else {
         return Tagging::Refused;
     };
     if f.tag == (tag as u32) {
@@ -324,13 +317,13 @@ fn is_outside(s: State) -> bool
 }
 
 // The answer where all records are passed: the end is good, or bad at an index.
-fn at_end(good: bool, index: usize) -> Checked
+fn at_end(good: bool, index: usize) -> Option<usize>
     ensures { result ≡ end_answer good index }
 {
     if good {
-        return Checked::Good;
+        return None;
     }
-    Checked::Bad(index)
+    Some(index)
 }
 
 // What is asked for: whether the records are to end outside functions, how many words a record has, how many records, log bytes and
@@ -352,7 +345,7 @@ fn first_fault(
     instructions: &[u32],
     log: &[u8],
     strings: &[u8],
-) -> Checked
+) -> Option<usize>
     requires table_value { (table.now ≡ layout_table) × (kinds.now ≡ kind_table) }
     requires field_size_le_size { field_size ≤ asked.size }
     ensures { checked_is result ≡ fault_in asked instructions.now log.now strings.now }
@@ -366,17 +359,17 @@ fn first_fault(
     let mut s = State::Outside;
     while i < asked.count {
         if there <= i {
-            return Checked::Bad(i + 1);
+            return Some(i + 1);
         }
         let f = fields_at(instructions, size * i);
         let Offset::Got(next_at) = offset_after(at, f) else {
-            return Checked::Bad(i + 1);
+            return Some(i + 1);
         };
         let Passed::Got(next_a, next_b, _) = operands_after(false, log, strings, a, b, f) else {
-            return Checked::Bad(i + 1);
+            return Some(i + 1);
         };
         let Tagging::Got(next_s) = tag_after(kinds, table, s, f) else {
-            return Checked::Bad(i + 1);
+            return Some(i + 1);
         };
         at = next_at;
         a = next_a;
@@ -454,7 +447,7 @@ pub fn check_of(
     count: usize,
     log_count: usize,
     string_count: usize,
-) -> Checked
+) -> Option<usize>
     requires { field_size ≤ size }
     ensures { checked_is result ≡ fault_of size whole (given instructions.now log.now strings.now count log_count string_count) }
 {
@@ -473,7 +466,7 @@ pub fn check_of(
     };
     if text::is_ascii_text(strings) {
         if finds_nothing(&kinds, &table, asked, instructions, log, strings) {
-            return Checked::Good;
+            return None;
         }
     }
     first_fault(&kinds, &table, asked, instructions, log, strings)
@@ -488,7 +481,7 @@ pub fn check(
     count: usize,
     log_count: usize,
     string_count: usize,
-) -> Checked
+) -> Option<usize>
     ensures { checked_is result ≡ fault_of record_size whole (given instructions.now log.now strings.now count log_count string_count) }
 {
     check_of(

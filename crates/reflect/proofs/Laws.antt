@@ -12,11 +12,11 @@ use Rattle.std.specs.Prelude.{if◌then◌else◌}
 use Rattle.spec.specs.Base.{is_in, every}
 use Rattle.spec.specs.declared.State.{State}
 use Rattle.spec.specs.declared.State.TheVariants.{Outside, Function, Block}
-use Rattle.spec.specs.declared.Cell.{Cell}
-use Rattle.spec.specs.declared.Cell.TheVariants.{Tagged, Refuses}
 use Rattle.spec.specs.Layout.{Line, lines, opcode_kind, kind_from, layout_at, layout_of}
 use Rattle.reflect.specs.Column.{column_of, code_of, line_of, listed, layout_table, kind_table}
 use Rattle.reflect.proofs.Arms.{NoneOf, pass, passed, clear, absent}
+use Rattle.spec.specs.Layout.{Cell}
+use Rattle.std.specs.Prelude.{Err, Ok}
 
 -- a list by a rule has at each place what the rule gives there
 listed_at : {A : Type 0} (f : ℕ → A) (d : A) (n a i : ℕ) → i < n → get_or (listed f a n) i d ≡ f (a + i)
@@ -114,13 +114,13 @@ column_tells Block Block e = refl
 -- cells of one number are one
 code_tells : (a b : Cell) → code_of a ≡ code_of b → a ≡ b
 unfolding code_of
-code_tells (Tagged t s) (Tagged u r) e =
+code_tells (Ok (t, s)) (Ok (u, r)) e =
     let x : t ≡ u = omega (arith, column_low s, column_low r) in
     let y = column_tells s r (omega (arith, column_low s, column_low r)) in
     cc
-code_tells (Tagged t s) (Refuses n) e = absurd (omega (arith, column_low s))
-code_tells (Refuses n) (Tagged u r) e = absurd (omega (arith, column_low r))
-code_tells (Refuses n) (Refuses m) e = let x : n ≡ m = omega arith in cc
+code_tells (Ok (t, s)) (Err n) e = absurd (omega (arith, column_low s))
+code_tells (Err n) (Ok (u, r)) e = absurd (omega (arith, column_low r))
+code_tells (Err n) (Err m) e = let x : n ≡ m = omega arith in cc
 
 -- so what a lent table has at a kind's line and a state's column is what the layout says
 pub place_is : (t : List (List ℕ)) (kind c code : ℕ) (s : State) (r : Cell) → t ≡ layout_table → (1 ≤ kind) × (kind ≤ 19) → c ≡ column_of s

@@ -2,9 +2,9 @@
 use Rattle.std.specs.Prelude.{ℕ, zero, suc, ◌+◌, ◌*◌, List, [], ◌∷◌}
 use Rattle.spec.specs.declared.State.{State}
 use Rattle.spec.specs.declared.State.TheVariants.{Outside, Function, Block}
-use Rattle.spec.specs.declared.Cell.{Cell}
-use Rattle.spec.specs.declared.Cell.TheVariants.{Tagged, Refuses}
 use Rattle.spec.specs.Layout.{opcode_kind, layout_at}
+use Rattle.spec.specs.Layout.{Cell}
+use Rattle.std.specs.Prelude.{Err, Ok}
 
 -- the column of a state
 abbrev pub column_of : State → ℕ
@@ -14,8 +14,8 @@ column_of Block = 2
 
 -- the number of a cell: four times a tag and the column of the state after it, or four times the number of a refusal and 3
 unfoldable pub code_of : Cell → ℕ
-code_of (Tagged tag s) = 4 * tag + column_of s
-code_of (Refuses n) = 4 * n + 3
+code_of (Ok (tag, s)) = 4 * tag + column_of s
+code_of (Err n) = 4 * n + 3
 
 -- the cells of a kind, in the order of the columns
 abbrev pub line_of : ℕ → List ℕ

@@ -137,10 +137,10 @@ fn cell(code: u8) -> Cell
 {
     let value = code / 4;
     match code % 4 {
-        0 => Cell::Tagged(value, Outside),
-        1 => Cell::Tagged(value, Function),
-        2 => Cell::Tagged(value, Block),
-        _ => Cell::Refuses(value),
+        0 => Ok((value, Outside)),
+        1 => Ok((value, Function)),
+        2 => Ok((value, Block)),
+        _ => Err(value),
     }
 }
 

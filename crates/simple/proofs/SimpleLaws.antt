@@ -7,10 +7,6 @@ use Rattle.std.specs.Prelude.{Some}
 use native.Mathlib.Omega.{arith}
 use borrow.Author.Tests.{ne_eqb}
 use lib.ListN.{length, drop}
-use Rattle.spec.specs.declared.Found.{Found}
-use Rattle.spec.specs.declared.Found.TheVariants.{At}
-use Rattle.spec.specs.declared.Limit.{Limit}
-use Rattle.spec.specs.declared.Limit.TheVariants.{Unlimited, Words}
 use Rattle.spec.specs.Base.{every}
 use Rattle.spec.specs.Words.{Front, four_at, bits_from, bits_of}
 use Rattle.spec.specs.Kinds.{is_enum, is_mask}
@@ -20,16 +16,11 @@ use Rattle.spec.specs.Match.{read_each, read_operand}
 use Rattle.operand.specs.Parts.{parts}
 use Rattle.operand.specs.Log.{record_of, Laid}
 use Rattle.decoder.specs.declared.Decoder.{Decoder}
-use Rattle.decoder.specs.declared.WordRead.TheVariants.{Got as Word}
 use Rattle.decoder.specs.Answer.{decoder, reader_of, limit_reached, word_answer, word_from}
 use Rattle.words.proofs.Front.{front_got}
 use Rattle.grammar.specs.Find.{Sure, place_found, parameters_found, is_listed}
 use Rattle.grammar.specs.Index.{Indexed}
 use Rattle.used.specs.declared.used.Used.{Used}
-use Rattle.used.specs.declared.used.Parsed.{Parsed}
-use Rattle.used.specs.declared.used.Parsed.TheVariants.{Got}
-use Rattle.simple.specs.declared.Simple.{Simple}
-use Rattle.simple.specs.declared.Simple.TheVariants.{Got as Taken, Pass}
 use Rattle.used.specs.Parse.{Pushed, Few, Parses, left_of, is_single, parameters_are, parameters_at}
 use Rattle.untyped.specs.Enums.{EnumIs, KnownAs}
 use Rattle.simple.specs.Simple.{There, IfTaken}
@@ -38,70 +29,72 @@ use Rattle.untyped.proofs.One.{held_narrow, few_pushed, spotted_enum, mask_known
 use Rattle.untyped.proofs.Walk.{same_read, seq, step_went}
 use Rattle.untyped.proofs.Carried.{listed_single}
 use Rattle.untyped.proofs.Values.{nothing, same_each, same_single, are_known, place_listed, operand_known}
+use Rattle.decoder.specs.Answer.{Answered}
+use Rattle.std.specs.Prelude.{None, Ok, Option}
 
 -- WHAT IS TAKEN
 
 -- what a limit has left, where there is none
-pub left_none : (l : Limit) → l ≡ Unlimited → 0 ≡ left_of l
+pub left_none : (l : Option ℕ) → l ≡ None → 0 ≡ left_of l
 unfolding left_of
 left_none l e = rw e refl
 
 -- where there is one
-pub left_words : (l : Limit) (n : ℕ) → l ≡ Words n → n ≡ left_of l
+pub left_words : (l : Option ℕ) (n : ℕ) → l ≡ Some n → n ≡ left_of l
 unfolding left_of
 left_words l n e = rw e refl
 
-module _ (P : Parsed → Type 0) where
+module _ (P : Answered Used → Type 0) where
   -- nothing is said of what is passed over
-  pub pass : IfTaken P Pass
+  pub pass : IfTaken P None
   unfolding IfTaken
   pass = tt
 
   -- what is good is taken
-  pub take : (e : Decoder) (n : Used) → P (Got e n) → IfTaken P (Taken e n)
+  pub take : (e : Decoder) (n : Used) → P (Ok (n, e)) → IfTaken P (Some (n, e))
   unfolding IfTaken
   take e n h = h
 
   -- what was taken is good
-  pub took : (v : Simple) (e : Decoder) (n : Used) → IfTaken P v → v ≡ Taken e n → P (Got e n)
+  pub took : (v : Option (Used × Decoder)) (e : Decoder) (n : Used) → IfTaken P v → v ≡ Some (n, e) → P (Ok (n, e))
   unfolding IfTaken
   took v e n h q = rw q at h
 
   -- what is said of every answer is said of what was taken of one
-  pub take_of : (v : Parsed) (r : Simple) → IfTaken (λ p. v ≡ p) r → P v → IfTaken P r
+  pub take_of : (v : Answered Used) (r : Option (Used × Decoder)) → IfTaken (λ p. v ≡ p) r → P v → IfTaken P r
   unfolding IfTaken
-  take_of v (Taken e n) h p = subst P h p
-  take_of v Pass h p = tt
+  take_of v (Some (n, e)) h p = subst P h p
+  take_of v None h p = tt
 
   -- what follows from what is said of an answer
-  pub take_so : (Q : Parsed → Type 0) → ((p : Parsed) → Q p → P p) → (r : Simple) → IfTaken Q r → IfTaken P r
+  pub take_so : (Q : Answered Used → Type 0) → ((p : Answered Used) → Q p → P p) → (r : Option (Used × Decoder)) → IfTaken Q r → IfTaken P r
   unfolding IfTaken
-  take_so Q f (Taken e n) h = f (Got e n) h
-  take_so Q f Pass h = tt
+  take_so Q f (Some (n, e)) h = f (Ok (n, e)) h
+  take_so Q f None h = tt
 
 -- what is good is taken, with its limit
-pub take_good : (v : Parsed) (e : Decoder) (n : Used) (m : ℕ) → v ≡ Got e n → e.limit ≡ Words m → IfTaken (λ p. v ≡ p) (Taken (decoder e.offset (Words m)) n)
+pub take_good : (v : Answered Used) (e : Decoder) (n : Used) (m : ℕ) → v ≡ Ok (n, e) → e.limit ≡ Some m → IfTaken (λ p. v ≡ p) (Some (n, decoder e.offset (Some m)))
 unfolding IfTaken
-take_good v e n m p q = p ∙ ap (λ (l : Limit). Got (decoder e.offset l) n) q
+take_good v e n m p q = p ∙ ap (λ (l : Option ℕ). Ok (n, decoder e.offset l)) q
 
 -- THE NEXT WORD
 
 -- a word that is there is what the decoder gives
-next_by : (s : List ℕ) (at : ℕ) (l : Limit) (w n : ℕ) → 1 ≤ left_of l → at + 4 ≤ length s → w ≡ four_at at s → n ≡ left_of l
-    → Word w (decoder (at + 4) (Words (n - 1))) ≡ word_from s (decoder at l)
+next_by : (s : List ℕ) (at : ℕ) (l : Option ℕ) (w n : ℕ) → 1 ≤ left_of l → at + 4 ≤ length s → w ≡ four_at at s → n ≡ left_of l
+    → Ok (w, decoder (at + 4) (Some (n - 1))) ≡ word_from s (decoder at l)
 unfolding left_of word_from word_answer reader_of reader_at word_at
-next_by s at Unlimited w n h i e f = absurd (omega arith)
-next_by s at (Words zero) w n h i e f = absurd (omega arith)
-next_by s at (Words (suc m)) w n h i e f =
+next_by s at None w n h i e f = absurd (omega arith)
+next_by s at (Some zero) w n h i e f = absurd (omega arith)
+next_by s at (Some (suc m)) w n h i e f =
     let p : n - 1 ≡ m = omega arith in
-    ap (λ (v : ℕ). Word v (decoder (at + 4) (Words (n - 1)))) e ∙ ap (λ (k : ℕ). Word (four_at at s) (decoder (at + 4) (Words k))) p
-    ∙ ap (λ (y : Front). word_answer (stream_word at (Words m) (drop at s) y)) (sym (front_got s at i))
+    ap (λ (v : ℕ). Ok (v, decoder (at + 4) (Some (n - 1)))) e ∙ ap (λ (k : ℕ). Ok (four_at at s, decoder (at + 4) (Some k))) p
+    ∙ ap (λ (y : Front). word_answer (stream_word at (Some m) (drop at s) y)) (sym (front_got s at i))
 
 -- a limit with a word left is not reached
-left_by : (l : Limit) → 1 ≤ left_of l → reached l ≡ false
+left_by : (l : Option ℕ) → 1 ≤ left_of l → reached l ≡ false
 unfolding left_of
-left_by Unlimited h = refl
-left_by (Words n) h = ne_eqb n 0 (λ e. omega arith)
+left_by None h = refl
+left_by (Some n) h = ne_eqb n 0 (λ e. omega arith)
 
 module _ (s : List ℕ) (d : Decoder) (h : There s d) where
   -- four bytes are there
@@ -109,7 +102,7 @@ module _ (s : List ℕ) (d : Decoder) (h : There s d) where
   there_four = omega (arith, h.left, h.inside)
 
   -- so the word is
-  pub next_there : (w n : ℕ) → w ≡ four_at d.offset s → n ≡ left_of d.limit → Word w (decoder (d.offset + 4) (Words (n - 1))) ≡ word_from s d
+  pub next_there : (w n : ℕ) → w ≡ four_at d.offset s → n ≡ left_of d.limit → Ok (w, decoder (d.offset + 4) (Some (n - 1))) ≡ word_from s d
   next_there w n e f = next_by s d.offset d.limit w n h.left there_four e f
 
   -- and the limit is not reached
@@ -129,21 +122,21 @@ pub zero_none : (k : ℕ) (g : Grammar) → is_mask k ≡ true → parameters_ar
 zero_none k g m = sym (are_known k 0 g [] (mask_zero k g m))
 
 -- what was found is sure
-found_sure : (f : Found) (p : ℕ) → f ≡ At p → Sure f
+found_sure : (f : Option ℕ) (p : ℕ) → f ≡ Some p → Sure f
 unfolding Sure
 found_sure f p e = rw e tt
 
-module _ (s g : List ℕ) (k : ℕ) (d : Decoder) (t : There s d) (w : ℕ) (e : Decoder) (h : Word w e ≡ word_from s d) where
+module _ (s g : List ℕ) (k : ℕ) (d : Decoder) (t : There s d) (w : ℕ) (e : Decoder) (h : Ok (w, e) ≡ word_from s d) where
   -- a mask of no bits is known
   pub known_zero : is_mask k ≡ true → w ≡ 0 → KnownAs s g k d 0 (length g) e
   unfolding EnumIs is_listed
   known_zero m z =
-      mask_known s g k d false (sym (there_left s d t)) refl 0 e (ap (λ (v : ℕ). Word v e) (sym z) ∙ h) true true (sym m) refl
+      mask_known s g k d false (sym (there_left s d t)) refl 0 e (ap (λ (v : ℕ). Ok (v, e)) (sym z) ∙ h) true true (sym m) refl
       (sym (ap is_listed (mask_zero k (grammar_of g) m))) refl
 
   -- another value is, where it was found
-  pub known_found : is_mask k ≡ false → (f : Found) (p : ℕ) → (Sure f → parameters_found g f ≡ listed k w (grammar_of g).enumerants) → place_found f ≤ length g
-      → f ≡ At p → KnownAs s g k d w p e
+  pub known_found : is_mask k ≡ false → (f : Option ℕ) (p : ℕ) → (Sure f → parameters_found g f ≡ listed k w (grammar_of g).enumerants) → place_found f ≤ length g
+      → f ≡ Some p → KnownAs s g k d w p e
   unfolding EnumIs
   known_found m f p i l q =
       value_known s g k d false (sym (there_left s d t)) refl w e h false (sym m) refl f (i (found_sure f p q)) p q l
@@ -160,15 +153,15 @@ module _ {s g : List ℕ} {d e : Decoder} {k w p : ℕ} (a : KnownAs s g k d w p
 
     module _ (l t l₁ : List ℕ) (i : is_enum k ≡ true) (x : Laid l u.log (record_of (parts k w)) l₁) (b : n.breaks ≡ u.breaks) where
       -- it is held, and its parameters are read then
-      value_then : (l₂ t₂ : List ℕ) (v : Parsed) → Parses s e 0 (read_each (grammar_of g) (parameters_are k w (grammar_of g)) (reader_of s e)) l₁ t l₂ t₂ n v
+      value_then : (l₂ t₂ : List ℕ) (v : Answered Used) → Parses s e 0 (read_each (grammar_of g) (parameters_are k w (grammar_of g)) (reader_of s e)) l₁ t l₂ t₂ n v
           → Parses s d 4 (read_operand (grammar_of g) k (reader_of s d)) l t l₂ t₂ u v
       value_then l₂ t₂ v r =
           seq (held_narrow l t l₁ u n k w (enum_narrow k i) q x) s 0 l₂ t₂ _ _
           (step_went s d e 1 a.step f.left f.limited) (spotted_enum s d e u n k w a.step i b) (operand_known s g k d (is_enum k) refl i w p e a) v r
 
       -- it has none
-      pub value_alone : parameters_are k w (grammar_of g) ≡ [] → IfTaken (Parses s d 4 (read_operand (grammar_of g) k (reader_of s d)) l t l₁ t u) (Taken e n)
-      value_alone z = take _ e n (value_then l₁ t (Got e n) (nothing s (grammar_of g) l₁ t e n _ known_few z))
+      pub value_alone : parameters_are k w (grammar_of g) ≡ [] → IfTaken (Parses s d 4 (read_operand (grammar_of g) k (reader_of s d)) l t l₁ t u) (Some (n, e))
+      value_alone z = take _ e n (value_then l₁ t (Ok (n, e)) (nothing s (grammar_of g) l₁ t e n _ known_few z))
 
       module _ (m : is_mask k ≡ false) where
         -- its parameters are those at its place
@@ -176,11 +169,11 @@ module _ {s g : List ℕ} {d e : Decoder} {k w p : ℕ} (a : KnownAs s g k d w p
         are_at = sym (a.place m ∙ are_known k w (grammar_of g) a.parameters a.listed)
 
         -- none start at its place
-        pub value_end : parameters_at g p ≡ [] → IfTaken (Parses s d 4 (read_operand (grammar_of g) k (reader_of s d)) l t l₁ t u) (Taken e n)
+        pub value_end : parameters_at g p ≡ [] → IfTaken (Parses s d 4 (read_operand (grammar_of g) k (reader_of s d)) l t l₁ t u) (Some (n, e))
         value_end z = value_alone (are_at ∙ z)
 
         -- those that do were parsed
-        pub value_parsed : (l₂ t₂ : List ℕ) (v : Parsed) (r : Simple)
+        pub value_parsed : (l₂ t₂ : List ℕ) (v : Answered Used) (r : Option (Used × Decoder))
             → Parses s e 0 (read_each (grammar_of g) (parameters_at g p) (reader_of s e)) l₁ t l₂ t₂ n v → IfTaken (λ p. v ≡ p) r
             → IfTaken (Parses s d 4 (read_operand (grammar_of g) k (reader_of s d)) l t l₂ t₂ u) r
         value_parsed l₂ t₂ v r y z =

@@ -15,12 +15,9 @@ use Rattle.spec.specs.Reader.{Read}
 use Rattle.spec.specs.Grammar.{Grammar, slot}
 use Rattle.spec.specs.Match.{read_slot}
 use Rattle.decoder.specs.declared.Decoder.{Decoder}
-use Rattle.decoder.specs.declared.WordRead.TheVariants.{Got as Word}
 use Rattle.decoder.specs.Answer.{reader_of, word_from, limit_reached}
 use Rattle.used.specs.declared.used.Used.{Used}
 use Rattle.used.specs.declared.used.Frame.{Frame}
-use Rattle.simple.specs.declared.Simple.{Simple}
-use Rattle.simple.specs.declared.Simple.TheVariants.{Got as Taken}
 use Rattle.used.specs.Parse.{word_is, left_of, Went, Few, Parses, kind_is, literal_for, kind_alone, slots_at, SlotWalks}
 use Rattle.used.specs.Fresh.{with_result}
 use Rattle.untyped.specs.Body.{Framed, start_of}
@@ -28,6 +25,7 @@ use Rattle.simple.specs.Simple.{There, IfTaken}
 use Rattle.untyped.proofs.SlotLaws.{walks_result, walks_as}
 use Rattle.untyped.proofs.RowLaws.{left_some}
 use Rattle.simple.proofs.SimpleLaws.{take, take_so}
+use Rattle.std.specs.Prelude.{Ok, Option}
 
 -- OPERANDS
 
@@ -38,12 +36,12 @@ no_result k x y = fails (is_result k) (λ e. omega (arith, in_range 46 k 47 e, x
 module _ (s : List ℕ) (g : Grammar) (j l : ℕ) (d : Decoder) (log strs : List ℕ) (u : Used) (t : Bool) (p : t ≡ is_result j) (types : List Entry)
     (f : kind_is l ≡ literal_for types u j) where
   -- a result
-  pub reads_result : t ≡ true → Few s d u → (v : ℕ) (e : Decoder) → Word v e ≡ word_from s d → (i : ℕ) → word_is i ≡ Some v → (n : Used) → n ≡ with_result j i u
-      → IfTaken (SlotWalks s d j (λ x. read_slot g types x j (reader_of s d)) log strs log strs u) (Taken e n)
+  pub reads_result : t ≡ true → Few s d u → (v : ℕ) (e : Decoder) → Ok (v, e) ≡ word_from s d → (i : ℕ) → word_is i ≡ Some v → (n : Used) → n ≡ with_result j i u
+      → IfTaken (SlotWalks s d j (λ x. read_slot g types x j (reader_of s d)) log strs log strs u) (Some (n, e))
   reads_result q m v e h i o n z = take _ e n (walks_result s g j l d log strs u t p types f q m v e h i o n z)
 
   -- any other operand, by its read
-  pub reads_as : t ≡ false → (log₁ strs₁ : List ℕ) (v : Simple) (y : Read (List Operand)) → kind_alone g (kind_is l) j (reader_of s d) ≡ y
+  pub reads_as : t ≡ false → (log₁ strs₁ : List ℕ) (v : Option (Used × Decoder)) (y : Read (List Operand)) → kind_alone g (kind_is l) j (reader_of s d) ≡ y
       → IfTaken (Parses s d 4 y log strs log₁ strs₁ u) v → IfTaken (SlotWalks s d j (λ x. read_slot g types x j (reader_of s d)) log strs log₁ strs₁ u) v
   reads_as q log₁ strs₁ v y e h = take_so _ _ (λ a. walks_as s g j l d log strs u t p types f q log₁ strs₁ a y e) v h
 

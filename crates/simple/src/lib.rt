@@ -17,19 +17,12 @@ ghost use Rattle.used.specs.Fresh.{Fresh};
 ghost use Rattle.untyped.specs.Body.{Framed, start_of, row_read};
 ghost use Rattle.simple.specs.Simple.{There, IfTaken};
 
-use decoder::{Decoder, TextRead};
-use grammar::{ParameterAt, SlotAt};
-use spec::{Found, Limit, kinds};
+use decoder::{Answer, Decoder};
+
+use spec::{kinds};
 use tracker::TypeTracker;
 use untyped::{next_place, parse_parameters};
-use used::{Frame, Parsed, Used, id_of, literal_kind, push, push_text, there, with_result};
-
-// Operands that were read, with the decoder after them; or passed over.
-#[derive(Clone, Copy)]
-pub enum Simple {
-    Got(Decoder, Used),
-    Pass,
-}
+use used::{Frame, Used, id_of, literal_kind, push, push_text, there, with_result};
 
 // A word, and the decoder after it.
 #[derive(Clone, Copy)]
@@ -39,12 +32,12 @@ pub struct Next {
 }
 
 // The words that a limit has left.
-fn words_left(limit: Limit) -> usize
+fn words_left(limit: Option<usize>) -> usize
     ensures { result ≡ left_of limit }
 {
     match limit {
-        Limit::Unlimited => 0,
-        Limit::Words(n) => n,
+        None => 0,
+        Some(n) => n,
     }
 }
 
@@ -59,45 +52,45 @@ fn next_word(d: Decoder, s: &[u8]) -> Next
     let word = words::word_at(s, at);
     let after = Decoder {
         offset: at + 4,
-        limit: Limit::Words(left - 1),
+        limit: Some(left - 1),
     };
     Next { word, after }
 }
 
 // What was parsed, taken where it is good and breaks no more than was broken before: so the short walk has no new break to carry.
-fn taken(r: Parsed, breaks: usize) -> Simple
+fn taken(r: Answer<Used>, breaks: usize) -> Option<(Used, Decoder)>
     ensures { IfTaken (λ v. r ≡ v) result }
 {
-    let Parsed::Got(e, n) = r else {
-        return Simple::Pass;
+    let Ok((n, e)) = r else {
+        return None;
     };
     if n.breaks != breaks {
-        return Simple::Pass;
+        return None;
     }
     let limit = e.limit;
-    let Limit::Words(left) = limit else {
-        return Simple::Pass;
+    let Some(left) = limit else {
+        return None;
     };
     let after = Decoder {
         offset: e.offset,
-        limit: Limit::Words(left),
+        limit: Some(left),
     };
-    Simple::Got(after, n)
+    Some((n, after))
 }
 
 // A result type or a result id.
-fn simple_result(d: Decoder, s: &[u8], kind: u8, u: Used) -> Simple
+fn simple_result(d: Decoder, s: &[u8], kind: u8, u: Used) -> Option<(Used, Decoder)>
     requires few { Few s.now d u × (is_result kind ≡ true) }
     requires there { There s.now d }
     ensures { (g : Grammar) (types : List Entry) (l t : List ℕ) → IfTaken (SlotWalks s.now d kind (λ x. read_slot g types x kind (reader_of s.now d)) l t l t u) result }
 {
     let x = next_word(d, s);
     let e = x.after;
-    Simple::Got(e, with_result(u, kind, there(x.word)))
+    Some((with_result(u, kind, there(x.word)), e))
 }
 
 // One record of a word.
-fn simple_word(d: Decoder, s: &[u8], kind: u8, log: &mut [u8], u: Used) -> Simple
+fn simple_word(d: Decoder, s: &[u8], kind: u8, log: &mut [u8], u: Used) -> Option<(Used, Decoder)>
     requires few { Few s.now d u × (is_word kind ≡ true) }
     requires there { There s.now d }
     ensures { (g : Grammar) (t : List ℕ) → IfTaken (Parses s.now d 4 (read_each g (kind ∷ []) (reader_of s.now d)) log.old t log.new t u) result }
@@ -105,25 +98,25 @@ fn simple_word(d: Decoder, s: &[u8], kind: u8, log: &mut [u8], u: Used) -> Simpl
     let x = next_word(d, s);
     let e = x.after;
     let n = push(log, kind, x.word as u64, u);
-    Simple::Got(e, n)
+    Some((n, e))
 }
 
 // A string.
-fn simple_text(d: Decoder, s: &[u8], log: &mut [u8], strings: &mut [u8], u: Used) -> Simple
+fn simple_text(d: Decoder, s: &[u8], log: &mut [u8], strings: &mut [u8], u: Used) -> Option<(Used, Decoder)>
     requires { Few s.now d u }
     ensures { (g : Grammar) → IfTaken (Parses s.now d 4 (read_each g (40 ∷ []) (reader_of s.now d)) log.old strings.old log.new strings.new u) result }
 {
     let t = d.string(s);
-    let TextRead::Got(x) = t else {
-        return Simple::Pass;
+    let Ok(x) = t else {
+        return None;
     };
     let e = x.next;
     let n = push_text(log, strings, s, x.start, x.length, x.breaks, u);
-    taken(Parsed::Got(e, n), u.breaks)
+    taken(Ok((n, e)), u.breaks)
 }
 
 // A literal of a kind, where that is one word.
-fn simple_literal(d: Decoder, s: &[u8], literal: u8, log: &mut [u8], u: Used) -> Simple
+fn simple_literal(d: Decoder, s: &[u8], literal: u8, log: &mut [u8], u: Used) -> Option<(Used, Decoder)>
     requires few { Few s.now d u }
     requires there { There s.now d }
     ensures { (t : List ℕ) → IfTaken (Parses s.now d 4 (literal_alone (kind_is literal) (reader_of s.now d)) log.old t log.new t u) result }
@@ -131,7 +124,7 @@ fn simple_literal(d: Decoder, s: &[u8], literal: u8, log: &mut [u8], u: Used) ->
     if (literal == kinds::INT32) | (literal == kinds::FLOAT32) {
         return simple_word(d, s, literal, log, u);
     }
-    Simple::Pass
+    None
 }
 
 // A value where the guess says, with its parameters; of masks zero alone.
@@ -144,7 +137,7 @@ fn simple_value(
     log: &mut [u8],
     strings: &mut [u8],
     u: Used,
-) -> Simple
+) -> Option<(Used, Decoder)>
     requires indexed { Indexed g.now index.now }
     requires few { Few s.now d u × (is_enum kind ≡ true) }
     requires there { There s.now d }
@@ -155,18 +148,18 @@ fn simple_value(
     let e = w.after;
     if grammar::is_mask(kind) {
         if value != 0 {
-            return Simple::Pass;
+            return None;
         }
-        return Simple::Got(e, push(log, kind, 0, u));
+        return Some((push(log, kind, 0, u), e));
     }
     let found = grammar::guess_enumerant(g, index, kind, value);
-    let Found::At(place) = found else {
-        return Simple::Pass;
+    let Some(place) = found else {
+        return None;
     };
     let n = push(log, kind, value as u64, u);
     let x = grammar::parameter_at(g, place);
-    let ParameterAt::Parameter(_) = x else {
-        return Simple::Got(e, n);
+    let Some(_) = x else {
+        return Some((n, e));
     };
     taken(
         parse_parameters(e, s, g, index, place, log, strings, n),
@@ -188,7 +181,7 @@ fn simple_slot(
     log: &mut [u8],
     strings: &mut [u8],
     u: Used,
-) -> Simple
+) -> Option<(Used, Decoder)>
     requires indexed { Indexed g.now index.now }
     requires few { Few s.now d u }
     requires there { There s.now d }
@@ -216,7 +209,7 @@ fn simple_slot(
         let literal = literal_kind(tracker.resolve(types, hints, id));
         return simple_literal(d, s, literal, log, u);
     }
-    Simple::Pass
+    None
 }
 
 // The operands of an instruction by its row, up to its end, where all are simple.
@@ -231,7 +224,7 @@ pub fn simple_operands(
     log: &mut [u8],
     strings: &mut [u8],
     used: Used,
-) -> Simple
+) -> Option<(Used, Decoder)>
     requires indexed { Indexed g.now index.now }
     requires framed { Framed s.now g.now frame × Fresh frame.at used }
     requires count_in_bounds { 3 * tracker.count ≤ length types.now }
@@ -240,32 +233,32 @@ pub fn simple_operands(
 {
     let mut d = Decoder {
         offset: frame.at + 4,
-        limit: Limit::Words((frame.words as usize) - 1),
+        limit: Some((frame.words as usize) - 1),
     };
     if s.len() - d.offset < 4 * ((frame.words as usize) - 1) {
-        return Simple::Pass;
+        return None;
     }
     let mut u = used;
     let mut p = frame.place;
     // An operand has three bytes.
     while p + 3 <= g.len() {
         let x = grammar::slot_at(g, p);
-        let SlotAt::Slot(k, q) = x else {
-            return Simple::Got(d, u);
+        let Some((k, q)) = x else {
+            return Some((u, d));
         };
         if d.limit_reached() {
             if q == 0 {
-                return Simple::Pass;
+                return None;
             }
-            return Simple::Got(d, u);
+            return Some((u, d));
         }
         let r = simple_slot(d, s, g, index, types, hints, tracker, k, log, strings, u);
-        let Simple::Got(e, n) = r else {
-            return Simple::Pass;
+        let Some((n, e)) = r else {
+            return None;
         };
         d = e;
         u = n;
         p = next_place(p, q);
     }
-    Simple::Got(d, u)
+    Some((u, d))
 }

@@ -10,8 +10,6 @@ use borrow.Author.Tests.{eqb-true, eq-eqb, leb-true}
 use lib.Dec.{leb, ltb, eqb}
 use Rattle.spec.specs.declared.State.{State}
 use Rattle.spec.specs.declared.State.TheVariants.{Outside}
-use Rattle.spec.specs.declared.Cell.{Cell}
-use Rattle.spec.specs.declared.Cell.TheVariants.{Tagged, Refuses}
 use Rattle.spec.specs.declared.Fields.{Fields}
 use Rattle.std.specs.Prelude.{if◌then◌else◌}
 use Rattle.spec.specs.Base.{implies}
@@ -19,6 +17,8 @@ use Rattle.spec.specs.Records.{Operand, Placed}
 use Rattle.spec.specs.Layout.{layout_of}
 use Rattle.spec.specs.Check.{Given, lower, missing, bits_in, fields_good, fields_fault, Left, take_operands, placed_of, words_good, take_record, Scan, on_record, scan_from, on_tag, tags_fault, records_in, scan_of, fault_of, good, checked_by, check}
 use Rattle.spec.proofs.Choice.{left, right, either, IfSome, if_then}
+use Rattle.spec.specs.Layout.{Cell}
+use Rattle.std.specs.Prelude.{Err, Ok}
 
 -- THE FOLDS
 
@@ -128,11 +128,11 @@ module _ (log_count string_count : ℕ) where
 
 -- a tag without fault is the one that the table gives, and so on after it
 pub tag_told : (index tag : ℕ) (c : Cell) (more : State → Option ℕ) → on_tag index tag c more ≡ None
-    → (s : State) × (c ≡ Tagged tag s) × (more s ≡ None)
-tag_told index tag (Refuses n) more e = absurd (none-some index (sym e))
-tag_told index tag (Tagged t s) more e =
+    → (s : State) × (c ≡ Ok (tag, s)) × (more s ≡ None)
+tag_told index tag (Err n) more e = absurd (none-some index (sym e))
+tag_told index tag (Ok (t, s)) more e =
     let same = none_if index (eqb tag t) (more s) e in
-    (s, ap (λ (k : ℕ). Tagged k s) (sym (eqb-true tag t same.0)), same.1)
+    (s, ap (λ (k : ℕ). Ok (k, s)) (sym (eqb-true tag t same.0)), same.1)
 
 -- tags without fault that end outside functions are so wherever they may end
 tags_part : (fs : List Fields) (index : ℕ) (s : State) → tags_fault true index s fs ≡ None → tags_fault false index s fs ≡ None

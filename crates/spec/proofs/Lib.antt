@@ -4,3 +4,4 @@ pub mod Faultless
 pub mod Fittings
 pub mod Range
 pub mod Store
+pub mod Answered

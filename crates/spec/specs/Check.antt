@@ -7,8 +7,6 @@ use Rattle.std.specs.Prelude.{ℕ, zero, suc, ◌+◌, ◌*◌, ◌/◌, ◌%◌
 use Rattle.std.specs.Prelude.{Option, None, Some}
 use Rattle.spec.specs.declared.State.{State}
 use Rattle.spec.specs.declared.State.TheVariants.{Outside}
-use Rattle.spec.specs.declared.Cell.{Cell}
-use Rattle.spec.specs.declared.Cell.TheVariants.{Tagged, Refuses}
 use Rattle.spec.specs.declared.Fields.{Fields}
 use Rattle.spec.specs.declared.Counts.{Counts}
 use Rattle.spec.specs.Base.{implies, has, every, and_then as ◌>>=◌}
@@ -18,6 +16,8 @@ use Rattle.spec.specs.Kinds.{is_logged, is_long, is_text}
 use Rattle.spec.specs.Records.{Operand, narrow, wide, text, Placed, operands_size, id_size, fields_at}
 use Rattle.spec.specs.Layout.{layout_of, end_number}
 use Rattle.spec.specs.Load.{Stores}
+use Rattle.spec.specs.Layout.{Cell}
+use Rattle.std.specs.Prelude.{Err, Ok}
 
 -- three stores and their counts: records, log bytes, string bytes
 pub record Given : Type 0 where
@@ -178,8 +178,8 @@ scan_from log_count string_count index l (f ∷ fs) =
 
 -- go on where the tag is the one that the table gives
 abbrev pub on_tag : ℕ → ℕ → Cell → (State → Option ℕ) → Option ℕ
-on_tag index tag (Tagged t s) more = if eqb tag t then more s else Some index
-on_tag index tag (Refuses n) more = Some index
+on_tag index tag (Ok (t, s)) more = if eqb tag t then more s else Some index
+on_tag index tag (Err n) more = Some index
 
 -- the first record whose tag is bad, the first of them at an index and in a state; whole: the end must be outside functions
 unfoldable pub tags_fault : Bool → ℕ → State → List Fields → Option ℕ

@@ -2,9 +2,8 @@
 use Rattle.std.specs.Prelude.{ℕ, suc, ◌-◌, List, [], ◌∷◌, ◌++◌, get_or, if◌then◌else◌}
 use Rattle.spec.specs.declared.State.{State}
 use Rattle.spec.specs.declared.State.TheVariants.{Outside, Function, Block}
-use Rattle.spec.specs.declared.Cell.{Cell}
-use Rattle.spec.specs.declared.Cell.TheVariants.{Tagged, Refuses}
 use Rattle.spec.specs.Base.{is_in}
+use Rattle.std.specs.Prelude.{Result, Ok, Err}
 
 -- OPCODES
 
@@ -23,6 +22,10 @@ terminator_opcodes = 249 ∷ 250 ∷ 251 ∷ 252 ∷ 253 ∷ 254 ∷ 255 ∷ 441
 
 -- THE TABLE
 
+-- a cell: the tag and the state after it, or the number of a refusal
+abbrev pub Cell : Type 0
+Cell = Result (ℕ × State) ℕ
+
 -- a line of the table: the opcodes of its kind, and its cell in each state
 pub record Line : Type 0 where
   pub opcodes : List ℕ
@@ -39,7 +42,7 @@ line ops o f b = record { opcodes = ops; cell = cell }
 
 -- "Tags 1 to 11 in any state, state kept"
 abbrev pub section : ℕ → List ℕ → Line
-section tag ops = record { opcodes = ops; cell = λ s. Tagged tag s }
+section tag ops = record { opcodes = ops; cell = λ s. Ok (tag, s) }
 
 -- the lines of kinds 1 to 18, in the order of the kinds
 abbrev pub lines : List Line
@@ -55,18 +58,18 @@ lines =
     ∷ section 9 (330 ∷ [])  -- ModuleProcessed
     ∷ section 10 (71 ∷ 72 ∷ 73 ∷ 74 ∷ 75 ∷ 5632 ∷ 5633 ∷ [])  -- annotations, `is_annotation`
     ∷ section 11 (type_opcodes ++ constant_opcodes)  -- types and constants
-    ∷ line (8 ∷ 317 ∷ []) (Tagged 11 Outside) (Tagged 11 Function) (Tagged 15 Block)  -- Line, NoLine
-    ∷ line (59 ∷ 1 ∷ []) (Tagged 11 Outside) (Refuses 23) (Tagged 15 Block)  -- Variable, Undef
-    ∷ line (54 ∷ []) (Tagged 12 Function) (Refuses 15) (Refuses 15)  -- Function
-    ∷ line (55 ∷ []) (Refuses 18) (Tagged 13 Function) (Tagged 13 Block)  -- FunctionParameter
-    ∷ line (248 ∷ []) (Refuses 19) (Tagged 14 Block) (Refuses 20)  -- Label
-    ∷ line terminator_opcodes (Refuses 22) (Refuses 22) (Tagged 15 Function)  -- terminators
-    ∷ line (56 ∷ []) (Refuses 17) (Tagged 16 Outside) (Refuses 21)  -- FunctionEnd
+    ∷ line (8 ∷ 317 ∷ []) (Ok (11, Outside)) (Ok (11, Function)) (Ok (15, Block))  -- Line, NoLine
+    ∷ line (59 ∷ 1 ∷ []) (Ok (11, Outside)) (Err 23) (Ok (15, Block))  -- Variable, Undef
+    ∷ line (54 ∷ []) (Ok (12, Function)) (Err 15) (Err 15)  -- Function
+    ∷ line (55 ∷ []) (Err 18) (Ok (13, Function)) (Ok (13, Block))  -- FunctionParameter
+    ∷ line (248 ∷ []) (Err 19) (Ok (14, Block)) (Err 20)  -- Label
+    ∷ line terminator_opcodes (Err 22) (Err 22) (Ok (15, Function))  -- terminators
+    ∷ line (56 ∷ []) (Err 17) (Ok (16, Outside)) (Err 21)  -- FunctionEnd
     ∷ []
 
 -- the line of kind 19, "other": every opcode of no line above
 abbrev pub other_line : Line
-other_line = line [] (Refuses 23) (Refuses 23) (Tagged 15 Block)
+other_line = line [] (Err 23) (Err 23) (Ok (15, Block))
 
 -- the number of the first of some lines that has the opcode, where the first of them is of kind n
 unfoldable pub kind_from : ℕ → ℕ → List Line → ℕ

@@ -1,12 +1,9 @@
 -- Loading a module: the first refusals, the header, the instructions, the end, and the stores afterwards.
 use Rattle.std.specs.Prelude.{ℕ, zero, suc, ◌+◌, ◌*◌, ◌/◌, ◌≤◌, ◌<◌, ◌≡◌, Bool, false, ◌&&◌, List, [], ◌∷◌, ◌++◌, ltb, eqb, length, drop, if◌then◌else◌}
 use Rattle.std.proofs.lemmas.List.Edits.{sets}
-use Rattle.spec.specs.declared.Limit.TheVariants.{Unlimited}
 use Rattle.spec.specs.declared.HeaderRead.{HeaderRead}
 use Rattle.spec.specs.declared.State.{State}
 use Rattle.spec.specs.declared.State.TheVariants.{Outside}
-use Rattle.spec.specs.declared.Cell.{Cell}
-use Rattle.spec.specs.declared.Cell.TheVariants.{Tagged, Refuses}
 use Rattle.spec.specs.declared.Counts.{Counts}
 use Rattle.spec.specs.declared.Loaded.{Loaded}
 use Rattle.spec.specs.Base.{within, has, joined}
@@ -18,6 +15,8 @@ use Rattle.spec.specs.Layout.{layout_of, end_number}
 use Rattle.spec.specs.Types.{track}
 use Rattle.spec.specs.Match.{read_instr}
 use Rattle.spec.specs.Plain.{module_break}
+use Rattle.spec.specs.Layout.{Cell}
+use Rattle.std.specs.Prelude.{Err, None, Ok}
 
 -- COUNTS AND ROOM
 
@@ -152,8 +151,8 @@ nothing n at =
 
 -- layout: the book with the instruction, or a refusal at it
 abbrev pub placed : Book → Instr → Cell → Parse Book
-placed b i (Tagged tag s) = give (entered b i tag s)
-placed b i (Refuses n) = refuse n i.offset
+placed b i (Ok (tag, s)) = give (entered b i tag s)
+placed b i (Err n) = refuse n i.offset
 
 -- room: the book as it is, or a refusal at its last instruction
 abbrev pub roomed : Counts → Instr → Book → Parse Book
@@ -210,7 +209,7 @@ with_plain s x =
 abbrev pub after_header : Grammar → Counts → List ℕ → HeaderRead → Outcome
 after_header g room s h =
     if eqb h.refusal.number 0
-    then with_plain s (load_from g room h.words (length s / 4) empty_book (reader 20 Unlimited (drop 20 s)))
+    then with_plain s (load_from g room h.words (length s / 4) empty_book (reader 20 None (drop 20 s)))
     else nothing h.refusal.number h.refusal.place
 
 -- a load with the rows and enumerants of a grammar

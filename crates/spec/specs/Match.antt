@@ -1,7 +1,6 @@
 -- Matching: the operands of an instruction against the row of its opcode ("Matching"; the standard, 2.3 and 3).
 use Rattle.std.specs.Prelude.{ℕ, zero, suc, ◌-◌, ◌/◌, ◌%◌, Bool, List, [], ◌∷◌, ◌++◌, eqb, if◌then◌else◌}
 use Rattle.std.specs.Prelude.{Option, None, Some}
-use Rattle.spec.specs.declared.Limit.TheVariants.{Unlimited, Words}
 use Rattle.spec.specs.Base.{is_in, every}
 use Rattle.spec.specs.Kinds.{is_enum, is_result, may_embed, is_long, is_text}
 use Rattle.spec.specs.Reader.{Parse, ◌>>=◌, ◌into◌, give, refuse, refuse_with, here, spent, with_limit, read_word, read_long, read_text}
@@ -209,13 +208,13 @@ unfoldable pub all_read : Instr → Parse Instr
 all_read i = do
   at ← here
   end ← spent
-  if end then with_limit Unlimited into (λ u. i) else refuse 7 at
+  if end then with_limit None into (λ u. i) else refuse 7 at
 
 -- an opcode without a row is 5, with the opcode; then "operands left to right; words left over"
 abbrev pub read_body : Grammar → List Entry → ℕ → ℕ → ℕ → Option (List Slot) → Parse Instr
 read_body g types at count op None = refuse_with 5 at op
 read_body g types at count op (Some ss) = do
-  u ← with_limit (Words (count - 1))
+  u ← with_limit (Some (count - 1))
   s ← read_row g types (count - 1) ss nothing_seen
   all_read (instr_of at count op s)
 

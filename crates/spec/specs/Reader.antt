@@ -1,8 +1,6 @@
 -- Reading: a position, a limit, and the bytes from the position on ("The decoder is a position and a limit").
 use Rattle.std.specs.Prelude.{ℕ, zero, suc, ◌+◌, ◌*◌, ◌-◌, Bool, false, List, ltb, eqb, length, take, drop, if◌then◌else◌}
 use Rattle.std.specs.Prelude.{Option, None, Some}
-use Rattle.spec.specs.declared.Limit.{Limit}
-use Rattle.spec.specs.declared.Limit.TheVariants.{Unlimited, Words}
 use Rattle.spec.specs.declared.Refusal.{Refusal}
 use Rattle.spec.specs.Words.{Front, short, front, front_of, long}
 use Rattle.spec.specs.Text.{until_zero, text_words, is_utf8}
@@ -12,11 +10,11 @@ infixl 10 ◌into◌
 -- the position in bytes, the limit in words, and the bytes from the position on
 pub record Reader : Type 0 where
   pub at : ℕ
-  pub limit : Limit
+  pub limit : Option ℕ
   pub rest : List ℕ
 
 -- a reader by its three parts
-abbrev pub reader : ℕ → Limit → List ℕ → Reader
+abbrev pub reader : ℕ → Option ℕ → List ℕ → Reader
 reader a l r = record { at = a; limit = l; rest = r }
 
 -- what reading comes to: a value or a refusal, and the reader after it
@@ -62,30 +60,30 @@ abbrev pub here : Parse ℕ
 here = λ r. got r.at r
 
 -- the limit is there and reached
-abbrev pub reached : Limit → Bool
-reached Unlimited = false
-reached (Words n) = eqb n 0
+abbrev pub reached : Option ℕ → Bool
+reached None = false
+reached (Some n) = eqb n 0
 
 -- whether no words are left
 abbrev pub spent : Parse Bool
 spent = λ r. got (reached r.limit) r
 
 -- another limit
-abbrev pub with_limit : Limit → Parse Unit
+abbrev pub with_limit : Option ℕ → Parse Unit
 with_limit l = λ r. got tt (reader r.at l r.rest)
 
 -- WORDS: "Word reading tests the limit first, then the stream."
 
 -- a word of the stream, else 9 at the position; "A stream refusal leaves the position"
-abbrev pub stream_word : ℕ → Limit → List ℕ → Front → Read ℕ
+abbrev pub stream_word : ℕ → Option ℕ → List ℕ → Front → Read ℕ
 stream_word at l rest (front w r) = got w (reader (at + 4) l r)
 stream_word at l rest short = refuse 9 at (reader at l rest)
 
 -- 8 at the position on a spent limit; "but has already taken one from the limit"
-unfoldable pub word_at : ℕ → Limit → List ℕ → Read ℕ
-word_at at (Words zero) rest = refuse 8 at (reader at (Words 0) rest)
-word_at at (Words (suc n)) rest = stream_word at (Words n) rest (front_of rest)
-word_at at Unlimited rest = stream_word at Unlimited rest (front_of rest)
+unfoldable pub word_at : ℕ → Option ℕ → List ℕ → Read ℕ
+word_at at (Some zero) rest = refuse 8 at (reader at (Some 0) rest)
+word_at at (Some (suc n)) rest = stream_word at (Some n) rest (front_of rest)
+word_at at None rest = stream_word at None rest (front_of rest)
 
 -- a word
 abbrev pub read_word : Parse ℕ
@@ -101,19 +99,19 @@ read_long = do
 -- STRINGS: "Refused strings move nothing."
 
 -- so many words off the limit
-abbrev pub less : Limit → ℕ → Limit
-less Unlimited n = Unlimited
-less (Words m) n = Words (m - n)
+abbrev pub less : Option ℕ → ℕ → Option ℕ
+less None n = None
+less (Some m) n = Some (m - n)
 
 -- "With a limit, only the limit's bytes are searched"
-abbrev pub searched : Limit → List ℕ → List ℕ
-searched Unlimited rest = rest
-searched (Words n) rest = take (4 * n) rest
+abbrev pub searched : Option ℕ → List ℕ → List ℕ
+searched None rest = rest
+searched (Some n) rest = take (4 * n) rest
 
 -- "none found is refusal 8 at their end. Without a limit it is refusal 9 at the string's start."
-abbrev pub no_zero : Limit → Parse (List ℕ)
-no_zero Unlimited r = refuse 9 r.at r
-no_zero (Words n) r = refuse 8 (r.at + 4 * n) r
+abbrev pub no_zero : Option ℕ → Parse (List ℕ)
+no_zero None r = refuse 9 r.at r
+no_zero (Some n) r = refuse 8 (r.at + 4 * n) r
 
 -- the reader after a string of so many bytes
 abbrev pub past_text : ℕ → Reader → Reader
@@ -125,9 +123,9 @@ text_found None r = no_zero r.limit r
 text_found (Some s) r = if is_utf8 s then got s (past_text (length s) r) else refuse 11 r.at r
 
 -- the limit runs past the bytes
-abbrev pub limit_past : Limit → List ℕ → Bool
-limit_past Unlimited rest = false
-limit_past (Words n) rest = ltb (length rest) (4 * n)
+abbrev pub limit_past : Option ℕ → List ℕ → Bool
+limit_past None rest = false
+limit_past (Some n) rest = ltb (length rest) (4 * n)
 
 -- a string; "The Rust panics on a limit that runs past the bytes ..; the port gives 9 at the string's start."
 unfoldable pub read_text : Parse (List ℕ)
@@ -138,9 +136,9 @@ read_text r =
 -- FROM ANY POSITION: the decoder's calls, for any position and limit
 
 -- the reader at a position of some bytes, with a limit
-unfoldable pub reader_at : List ℕ → ℕ → Limit → Reader
+unfoldable pub reader_at : List ℕ → ℕ → Option ℕ → Reader
 reader_at s at l = reader at l (drop at s)
 
 -- a string; "or a string read from beyond them; the port gives 9 at the string's start"
-unfoldable pub read_text_at : List ℕ → ℕ → Limit → Read (List ℕ)
+unfoldable pub read_text_at : List ℕ → ℕ → Option ℕ → Read (List ℕ)
 read_text_at s at l = if ltb (length s) at then refuse 9 at (reader_at s at l) else read_text (reader_at s at l)

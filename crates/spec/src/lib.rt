@@ -6,26 +6,12 @@ pub mod opcodes;
 pub mod refusals;
 pub mod tags;
 
-// How many words may still be read: any number, or so many.
-#[derive(Clone, Copy)]
-pub enum Limit {
-    Unlimited,
-    Words(usize),
-}
-
 // A refusal: its number in the table of refusals (0 for none), its place and its value.
 #[derive(Clone, Copy)]
 pub struct Refusal {
     pub number: u32,
     pub place: usize,
     pub value: u32,
-}
-
-// Where a byte was found, or nowhere.
-#[derive(Clone, Copy)]
-pub enum Found {
-    At(usize),
-    Nothing,
 }
 
 // The five header words, and a refusal's number and place; the words are 0 where the number is not.
@@ -44,11 +30,7 @@ pub enum State {
 }
 
 // A cell of the layout table: the tag and the state after it, or the number of a refusal.
-#[derive(Clone, Copy)]
-pub enum Cell {
-    Tagged(u8, State),
-    Refuses(u8),
-}
+pub type Cell = Result<(u8, State), u8>;
 
 // The fields of an instruction record: its first eight words.
 #[derive(Clone, Copy)]

@@ -7,7 +7,6 @@ ghost use Rattle.spec.specs.Write.{standing as standing_of};
 ghost use Rattle.records.specs.Steps.{given};
 ghost use Rattle.standing.specs.Stand.{may_come, order_after};
 
-use records::Checked;
 use spec::{Stands, refusals, tags};
 
 // Where a pass over the tags is: the tag before, 12 after the first instruction of a function; whether a label came in the
@@ -73,7 +72,7 @@ pub fn standing(
         log_count,
         string_count,
     );
-    if let Checked::Bad(index) = checked {
+    if let Some(index) = checked {
         return Stands {
             number: refusals::BAD_RECORDS,
             index,

@@ -7,11 +7,8 @@ use native.Mathlib.Omega.{arith}
 use borrow.Author.Tests.{eqb-true, eqb-false, ne_eqb, le-ltb, le-leb}
 use lib.Dec.{eqb}
 use lib.ListN.{length, drop, length-drop}
-use Rattle.spec.specs.declared.Limit.TheVariants.{Unlimited}
 use Rattle.spec.specs.declared.Refusal.{Refusal}
 use Rattle.spec.specs.declared.State.{State}
-use Rattle.spec.specs.declared.Cell.{Cell}
-use Rattle.spec.specs.declared.Cell.TheVariants.{Tagged, Refuses}
 use Rattle.spec.specs.declared.Counts.{Counts}
 use Rattle.spec.specs.declared.Fields.{Fields}
 use Rattle.std.specs.Prelude.{if◌then◌else◌}
@@ -28,24 +25,21 @@ use Rattle.demands.proofs.Cells.{layout_refuses}
 use Rattle.demands.proofs.Formed.{GrammarGood, well_formed_good}
 use Rattle.demands.proofs.Instructions.{Frames, instr_read}
 use Rattle.grammar.specs.Index.{Indexed}
-use Rattle.tracker.specs.declared.Id.{Id}
 use Rattle.tracker.specs.Entries.{entries_of}
 use Rattle.tracker.specs.Track.{id_is, told_of, told_with}
 use Rattle.tracker.proofs.Laws.{length_entries}
 use Rattle.tracker.proofs.Growth.{Grown, track_grows}
 use Rattle.tracker.proofs.Instruction.{track_as}
 use Rattle.parser.specs.declared.inst.Decoded.{Decoded}
-use Rattle.parser.specs.declared.inst.InstRead.{InstRead}
-use Rattle.parser.specs.declared.inst.InstRead.TheVariants as inst
 use Rattle.used.specs.declared.used.Used.{Used}
 use Rattle.parser.specs.Inst.{Decodes, DecodesOver, RowIs}
 use Rattle.used.specs.Parse.{word_is}
 use Rattle.used.specs.Fresh.{unused}
 use Rattle.steps.specs.declared.parts.Progress.{Progress}
 use Rattle.steps.specs.declared.parts.Taken.{Taken}
-use Rattle.steps.specs.declared.step.Judged.{Judged}
-use Rattle.steps.specs.declared.step.Judged.TheVariants.{Got, Refused}
 use Rattle.steps.specs.Steps.{used_by, read_at, Moderate, Fair, tracked, Tells, need_of, fields_by, Shown, Shows, taken, judged_by, judged}
+use Rattle.spec.specs.Layout.{Cell}
+use Rattle.std.specs.Prelude.{Err, None, Ok, Option, Result}
 
 -- an instruction with its tag
 abbrev pub placed_as : Instr → ℕ → Placed
@@ -54,13 +48,13 @@ placed_as i tag = record { instr = i; tag = tag }
 -- DECODED
 
 -- what the parser tells
-pub shows : (s g types scratch spare : List ℕ) (p : Progress) (u : Used) → u ≡ unused 0 0 p.strings p.breaks → (v : InstRead)
+pub shows : (s g types scratch spare : List ℕ) (p : Progress) (u : Used) → u ≡ unused 0 0 p.strings p.breaks → (v : Result Decoded Refusal)
     → DecodesOver s p.at (read_at s g types p) scratch spare u v
     → RowIs g (entries_of p.tracker.count types) s p.at (read_at s g types p) v → Shows s g types scratch spare p v
 unfolding Decodes RowIs Shows
-shows s g types scratch spare p u e (inst.Got d) h b =
+shows s g types scratch spare p u e (Ok d) h b =
     record { scratch₀ = h.log₀; spare₀ = h.strs₀; handed = rw e at h.decodes; row = b }
-shows s g types scratch spare p u e (inst.Refused y) h b = h.decodes
+shows s g types scratch spare p u e (Err y) h b = h.decodes
 
 module _ {s g types scratch spare : List ℕ} {p : Progress} {d : Decoded} (shown : Shown s g types scratch spare p d) where
   -- its records' length
@@ -120,35 +114,35 @@ module _ {s g types scratch spare : List ℕ} {p : Progress} {d : Decoded} (show
       }
 
 -- nor has what was read
-pub fair : (s g types scratch spare : List ℕ) (p : Progress) (v : InstRead) → Shows s g types scratch spare p v → length s ≤ 67108864 → Fair v
+pub fair : (s g types scratch spare : List ℕ) (p : Progress) (v : Result Decoded Refusal) → Shows s g types scratch spare p v → length s ≤ 67108864 → Fair v
 unfolding Shows Fair
-fair s g types scratch spare p (inst.Got d) h short = moderate h short
-fair s g types scratch spare p (inst.Refused y) h short = tt
+fair s g types scratch spare p (Ok d) h short = moderate h short
+fair s g types scratch spare p (Err y) h short = tt
 
 -- LAYOUT, THEN ROOM
 
 -- not read
-pub judged_unread : (room : Counts) (es : List Entry) (p : Progress) (v : InstRead) (y : Refusal) → v ≡ inst.Refused y
-    → Refused y ≡ judged room es p v
+pub judged_unread : (room : Counts) (es : List Entry) (p : Progress) (v : Result Decoded Refusal) (y : Refusal) → v ≡ Err y
+    → Err y ≡ judged room es p v
 unfolding judged
 judged_unread room es p v y q = rw q
 
-module _ (room : Counts) (es : List Entry) (p : Progress) (v : InstRead) (d : Decoded) (q : v ≡ inst.Got d) where
+module _ (room : Counts) (es : List Entry) (p : Progress) (v : Result Decoded Refusal) (d : Decoded) (q : v ≡ Ok d) where
   -- no place
-  pub judged_misplaced : (n : ℕ) → layout_of d.opcode p.state ≡ Refuses n → (r : Judged) → r ≡ Refused (refusal n p.at 0)
+  pub judged_misplaced : (n : ℕ) → layout_of d.opcode p.state ≡ Err n → (r : Result (Decoded × ℕ × State) Refusal) → r ≡ Err (refusal n p.at 0)
       → r ≡ judged room es p v
   unfolding judged judged_by
   judged_misplaced n e r f = rw (q, e) f
 
-  module _ (tag : ℕ) (next : State) (e : layout_of d.opcode p.state ≡ Tagged tag next) (fault : ℕ)
+  module _ (tag : ℕ) (next : State) (e : layout_of d.opcode p.state ≡ Ok (tag, next)) (fault : ℕ)
       (f : fault ≡ room_fault room (need_of p d es)) where
     -- a place, and room
-    pub judged_good : fault ≡ 0 → Got d tag next ≡ judged room es p v
+    pub judged_good : fault ≡ 0 → Ok (d, tag, next) ≡ judged room es p v
     unfolding judged judged_by
     judged_good z = rw (q, e, ← f, z)
 
     -- a place, and no room
-    pub judged_crowded : (fault ≡ 0 → ⊥) → (r : Judged) → r ≡ Refused (refusal fault p.at 0) → r ≡ judged room es p v
+    pub judged_crowded : (fault ≡ 0 → ⊥) → (r : Result (Decoded × ℕ × State) Refusal) → r ≡ Err (refusal fault p.at 0) → r ≡ judged room es p v
     unfolding judged judged_by
     judged_crowded z r k = rw (q, e, ← f, ne_eqb fault 0 z) k
 
@@ -173,13 +167,13 @@ module _ (room : Counts) (p : Progress) (d : Decoded) where
       )
 
 -- what is told of it, by its results
-pub tells : (d : Decoded) (a b : Id) → Moderate d → id_is a ≡ word_is d.rtype → id_is b ≡ word_is d.rid
+pub tells : (d : Decoded) (a b : Option ℕ) → Moderate d → id_is a ≡ word_is d.rtype → id_is b ≡ word_is d.rid
     → Tells d (record { opcode = d.opcode; rtype = a; rid = b; operands = d.operands; first = d.first; second = d.second })
 unfolding tracked told_of told_with
 tells d a b m e f = record { tracks = λ es. rw (e, f); fits = m.fits }
 
 -- the fields of its record, by its results
-pub fields_by_lem : (p : Progress) (d : Decoded) (tag bits t i : ℕ) (a b : Id) → id_is a ≡ word_is d.rtype → id_is b ≡ word_is d.rid
+pub fields_by_lem : (p : Progress) (d : Decoded) (tag bits t i : ℕ) (a b : Option ℕ) → id_is a ≡ word_is d.rtype → id_is b ≡ word_is d.rid
     → bits ≡ presence (id_is a) (id_is b) → t ≡ or_zero (id_is a) → i ≡ or_zero (id_is b)
     → ◌≡◌ {A = Fields}
     (record {
@@ -210,27 +204,27 @@ word_left s at h = has_leb 4 (drop at s) ∙ le-leb 4 (length (drop at s)) (simp
 pub record Admitted (s g types scratch spare : List ℕ) (room : Counts) (p : Progress) (t : Taken) : Type 0 where
   pub from : t.from ≡ p
   pub shown : Shown s g types scratch spare t.from t.read
-  pub placed : layout_of t.read.opcode t.from.state ≡ Tagged t.tag t.state
+  pub placed : layout_of t.read.opcode t.from.state ≡ Ok (t.tag, t.state)
   pub fits : room_fault room (need_of t.from t.read (entries_of t.from.tracker.count types)) ≡ 0
 
 -- an instruction that is refused: the load stops at it, with any header, whatever is kept
 pub record Stops (s g types : List ℕ) (room : Counts) (p : Progress) (y : Refusal) : Type 0 where
   pub refuses : y.number ≡ 0 → ⊥
   pub stops : (h : List ℕ) (ks : List Placed) (n : ℕ) → 4 ≤ length s - p.at
-      → load_from (grammar_of g) room h (suc n) (book_of ks (entries_of p.tracker.count types) p) (reader_at s p.at Unlimited)
+      → load_from (grammar_of g) room h (suc n) (book_of ks (entries_of p.tracker.count types) p) (reader_at s p.at None)
       ≡ stop h (book_of ks (entries_of p.tracker.count types) p) y.number y.place y.value
 
 module _ (s g types scratch spare : List ℕ) (room : Counts) (p : Progress) where
   -- one of the two
-  abbrev pub Verdict : Judged → Type 0
-  Verdict (Got d tag next) = Admitted s g types scratch spare room p (taken p d tag next)
-  Verdict (Refused y) = Stops s g types room p y
+  abbrev pub Verdict : Result (Decoded × ℕ × State) Refusal → Type 0
+  Verdict (Ok (d, tag, next)) = Admitted s g types scratch spare room p (taken p d tag next)
+  Verdict (Err y) = Stops s g types room p y
 
   module _ (d : Decoded) (shown : Shown s g types scratch spare p d) where
     -- by room
-    room_verdict : (tag : ℕ) (next : State) → layout_of d.opcode p.state ≡ Tagged tag next → (c : Bool)
+    room_verdict : (tag : ℕ) (next : State) → layout_of d.opcode p.state ≡ Ok (tag, next) → (c : Bool)
         → eqb (room_fault room (need_of p d (entries_of p.tracker.count types))) 0 ≡ c
-        → Verdict (if c then Got d tag next else Refused (refusal (room_fault room (need_of p d (entries_of p.tracker.count types))) p.at 0))
+        → Verdict (if c then Ok (d, tag, next) else Err (refusal (room_fault room (need_of p d (entries_of p.tracker.count types))) p.at 0))
     unfolding load_from reader_at
     room_verdict tag next e true f = record { from = refl; shown = shown; placed = e; fits = eqb-true _ _ f }
     room_verdict tag next e false f =
@@ -247,8 +241,8 @@ module _ (s g types scratch spare : List ℕ) (room : Counts) (p : Progress) whe
     cell_verdict : (c : Cell) → layout_of d.opcode p.state ≡ c
         → Verdict (judged_by room (need_of p d (entries_of p.tracker.count types)) p d c)
     unfolding judged_by load_from reader_at
-    cell_verdict (Tagged tag next) e = room_verdict tag next e (eqb (room_fault room (need_of p d (entries_of p.tracker.count types))) 0) refl
-    cell_verdict (Refuses m) e =
+    cell_verdict (Ok (tag, next)) e = room_verdict tag next e (eqb (room_fault room (need_of p d (entries_of p.tracker.count types))) 0) refl
+    cell_verdict (Err m) e =
         let i = shown.handed in
         record {
           refuses = λ z. omega (arith, z, (layout_refuses d.opcode m p.state e).0);
@@ -256,16 +250,16 @@ module _ (s g types scratch spare : List ℕ) (room : Counts) (p : Progress) whe
         }
 
   -- by what was read
-  read_verdict : GrammarGood (grammar_of g) → (v : InstRead) → Shows s g types scratch spare p v
+  read_verdict : GrammarGood (grammar_of g) → (v : Result Decoded Refusal) → Shows s g types scratch spare p v
       → Verdict (judged room (entries_of p.tracker.count types) p v)
   unfolding Shows judged load_from reader_at
-  read_verdict good (inst.Got d) x = cell_verdict d x (layout_of d.opcode p.state) refl
-  read_verdict good (inst.Refused y) x =
+  read_verdict good (Ok d) x = cell_verdict d x (layout_of d.opcode p.state) refl
+  read_verdict good (Err y) x =
       let es = entries_of p.tracker.count types in
       let z = subst (Frames (grammar_of g) es p.at (drop p.at s)) x.read (instr_read (grammar_of g) good es p.at (drop p.at s)) in
       record { refuses = λ e. omega (arith, e, z.0.0); stops = λ h ks n w. rw (word_left s p.at w, x.read) }
 
   -- by the answer
-  pub verdict : {index : List ℕ} → Indexed g index → (v : InstRead) → Shows s g types scratch spare p v → (r : Judged)
-      → r ≡ judged room (entries_of p.tracker.count types) p v → (z : Judged) → r ≡ z → Verdict z
+  pub verdict : {index : List ℕ} → Indexed g index → (v : Result Decoded Refusal) → Shows s g types scratch spare p v → (r : Result (Decoded × ℕ × State) Refusal)
+      → r ≡ judged room (entries_of p.tracker.count types) p v → (z : Result (Decoded × ℕ × State) Refusal) → r ≡ z → Verdict z
   verdict ix v x r e z q = subst Verdict (sym e ∙ q) (read_verdict (well_formed_good g ix.well) v x)

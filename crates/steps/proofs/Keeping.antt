@@ -7,7 +7,6 @@ use native.Mathlib.Omega.{arith}
 use lib.ListN.{length, get_or, set, take, drop, take-append-drop}
 use borrow.Rule.Slice.PartMut.{mid_of}
 use lib.Seq.{sets, sets-eq, take-append_seam, length-take-le}
-use Rattle.spec.specs.declared.Limit.TheVariants.{Unlimited}
 use Rattle.spec.specs.declared.Fields.{Fields}
 use Rattle.spec.specs.Records.{Instr, Entry, operands_log, operands_strings, record_size, record_words}
 use Rattle.spec.specs.Words.{four_at, bytes_of}
@@ -29,8 +28,6 @@ use Rattle.tracker.specs.Entries.{entries_of, stored}
 use Rattle.tracker.specs.declared.TypeTracker.{TypeTracker}
 use Rattle.tracker.specs.Hints.{Hinted}
 use Rattle.parser.specs.declared.inst.Decoded.{Decoded}
-use Rattle.parser.specs.declared.inst.InstRead.{InstRead}
-use Rattle.parser.specs.declared.inst.InstRead.TheVariants.{Got, Refused}
 use Rattle.used.specs.declared.used.Used.{Used}
 use Rattle.untyped.specs.Body.{body_read}
 use Rattle.parser.specs.Inst.{Decodes, frame_of}
@@ -39,6 +36,8 @@ use Rattle.steps.specs.declared.parts.Progress.{Progress}
 use Rattle.steps.specs.declared.parts.Taken.{Taken}
 use Rattle.steps.specs.Steps.{read_at, tracked, need_of, fields_by, Shown, Stored, Recorded}
 use Rattle.steps.proofs.Judging.{log_size, strings_size}
+use Rattle.spec.specs.declared.Refusal.{Refusal}
+use Rattle.std.specs.Prelude.{Err, None, Ok, Result}
 
 -- what is read once is the same
 same_read : (x : Read Instr) (i j : Instr) (r q : Reader) → x ≡ got i r → x ≡ got j q → j ≡ i
@@ -90,7 +89,7 @@ front_is l₀ l bs n h q k =
 
 -- the records of an instruction have nine bytes at most for each of its words
 pub log_short : (g index : List ℕ) → Indexed g index → (es : List Entry) (s : List ℕ) (at : ℕ) (i : Instr) (r : Reader) (b : ℕ)
-    → read_instr (grammar_of g) es (reader_at s at Unlimited) ≡ got i r → length (operands_log b i.operands) ≤ 9 * i.words
+    → read_instr (grammar_of g) es (reader_at s at None) ≡ got i r → length (operands_log b i.operands) ≤ 9 * i.words
 unfolding reader_at
 log_short g index ix es s at i r b e =
     let z : Frames (grammar_of g) es at (drop at s) (got i r) =
@@ -116,11 +115,11 @@ module _ {s g types scratch spare : List ℕ} {p : Progress} {d : Decoded} (h : 
       )
 
   -- else they are read again
-  pub from_module : (l₀ s₀ l₁ s₁ : List ℕ) → p.log + d.log ≤ length l₀ → p.strings + d.strings ≤ length s₀ → (v : InstRead)
+  pub from_module : (l₀ s₀ l₁ s₁ : List ℕ) → p.log + d.log ≤ length l₀ → p.strings + d.strings ≤ length s₀ → (v : Result Decoded Refusal)
       → (u : Used) → u ≡ unused p.log p.strings 0 0
       → Decodes s p.at (body_read g (entries_of p.tracker.count types) s (frame_of p.at d)) l₀ s₀ l₁ s₁ u v → Stored s g types l₀ s₀ l₁ s₁ p
   unfolding Stored Decodes unused
-  from_module l₀ s₀ l₁ s₁ fl fs (Got c) u e told i r f =
+  from_module l₀ s₀ l₁ s₁ fl fs (Ok c) u e told i r f =
       let k = rw e at told in
       let j = same_read (read_at s g types p) h.handed.instr i _ r h.handed.read f in
       let o = same_read (read_at s g types p) i k.instr r _ f (h.row.body ∙ k.read) in
@@ -130,7 +129,7 @@ module _ {s g types scratch spare : List ℕ} {p : Progress} {d : Decoded} (h : 
         k.strings_laid.there (omega (arith, fs, strings_size h, ap (λ (y : Instr). length (operands_strings y.operands)) (o ∙ j)))
             ∙ ap (λ (y : Instr). sets s₀ p.strings (operands_strings y.operands)) o,
       )
-  from_module l₀ s₀ l₁ s₁ fl fs (Refused y) u e k i r f =
+  from_module l₀ s₀ l₁ s₁ fl fs (Err y) u e k i r f =
       let w : read_at s g types p ≡ refused y k.rest = h.row.body ∙ k.read in
       let z : ◌≡◌ {A = ℕ} 0 1 = cc in
       absurd (omega arith)

@@ -1,10 +1,7 @@
 -- A load by steps: where it stands, what becomes of the next instruction, and what is stored of it.
 use Rattle.std.specs.Prelude.{ℕ, ◌+◌, ◌*◌, ◌≤◌, ◌≡◌, ◌&&◌, List, eqb, length, if◌then◌else◌}
 use Rattle.std.proofs.lemmas.List.Edits.{sets}
-use Rattle.spec.specs.declared.Limit.TheVariants.{Unlimited}
 use Rattle.spec.specs.declared.State.{State}
-use Rattle.spec.specs.declared.Cell.{Cell}
-use Rattle.spec.specs.declared.Cell.TheVariants.{Tagged, Refuses}
 use Rattle.spec.specs.declared.Counts.{Counts}
 use Rattle.spec.specs.declared.Fields.{Fields}
 use Rattle.spec.specs.declared.Loaded.{Loaded}
@@ -22,16 +19,15 @@ use Rattle.tracker.specs.Hints.{Hinted}
 use Rattle.tracker.specs.declared.Told.{Told}
 use Rattle.tracker.specs.Track.{literal_of, track_of, told_of, FirstFit}
 use Rattle.parser.specs.declared.inst.Decoded.{Decoded}
-use Rattle.parser.specs.declared.inst.InstRead.{InstRead}
-use Rattle.parser.specs.declared.inst.InstRead.TheVariants as inst
 use Rattle.parser.specs.Inst.{Handed, Declined, ByRow}
 use Rattle.used.specs.Parse.{word_is}
 use Rattle.used.specs.Fresh.{unused}
 use Rattle.steps.specs.declared.parts.Progress.{Progress}
 use Rattle.steps.specs.declared.parts.Taken.{Taken}
 use Rattle.steps.specs.declared.parts.Ended.{Ended}
-use Rattle.steps.specs.declared.step.Judged.{Judged}
-use Rattle.steps.specs.declared.step.Judged.TheVariants.{Got, Refused}
+use Rattle.spec.specs.Layout.{Cell}
+use Rattle.spec.specs.declared.Refusal.{Refusal}
+use Rattle.std.specs.Prelude.{Err, None, Ok, Result}
 
 -- WHERE A LOAD STANDS
 
@@ -56,7 +52,7 @@ said_at h size e =
 
 -- the next instruction, by the types known
 abbrev pub read_at : List ℕ → List ℕ → List ℕ → Progress → Read Instr
-read_at s g types p = read_instr (grammar_of g) (entries_of p.tracker.count types) (reader_at s p.at Unlimited)
+read_at s g types p = read_instr (grammar_of g) (entries_of p.tracker.count types) (reader_at s p.at None)
 
 -- the load stands in a module, and what is kept is in proportion to what was read
 pub record Bounded (p : Progress) : Type 0 where
@@ -82,9 +78,9 @@ pub record Moderate (d : Decoded) : Type 0 where
   pub fits : FirstFit d.operands d.first d.second
 
 -- by what was read
-unfoldable pub Fair : InstRead → Type 0
-Fair (inst.Got d) = Moderate d
-Fair (inst.Refused y) = Unit
+unfoldable pub Fair : Result Decoded Refusal → Type 0
+Fair (Ok d) = Moderate d
+Fair (Err y) = Unit
 
 -- the entries after it
 unfoldable pub tracked : Decoded → List Entry → List Entry
@@ -121,9 +117,9 @@ pub record Shown (s g types scratch spare : List ℕ) (p : Progress) (d : Decode
   pub row : ByRow g (entries_of p.tracker.count types) s p.at (read_at s g types p) d
 
 -- by what was read
-unfoldable pub Shows : List ℕ → List ℕ → List ℕ → List ℕ → List ℕ → Progress → InstRead → Type 0
-Shows s g types scratch spare p (inst.Got d) = Shown s g types scratch spare p d
-Shows s g types scratch spare p (inst.Refused y) = Declined (read_at s g types p) y
+unfoldable pub Shows : List ℕ → List ℕ → List ℕ → List ℕ → List ℕ → Progress → Result Decoded Refusal → Type 0
+Shows s g types scratch spare p (Ok d) = Shown s g types scratch spare p d
+Shows s g types scratch spare p (Err y) = Declined (read_at s g types p) y
 
 -- LAYOUT, THEN ROOM
 
@@ -132,15 +128,15 @@ abbrev pub taken : Progress → Decoded → ℕ → State → Taken
 taken p d tag next = record { from = p; read = d; tag = tag; state = next }
 
 -- it goes in with a tag and the state after it, or is refused at its place
-unfoldable pub judged_by : Counts → Counts → Progress → Decoded → Cell → Judged
-judged_by room need p d (Tagged tag next) =
-    if eqb (room_fault room need) 0 then Got d tag next else Refused (refusal (room_fault room need) p.at 0)
-judged_by room need p d (Refuses n) = Refused (refusal n p.at 0)
+unfoldable pub judged_by : Counts → Counts → Progress → Decoded → Cell → Result (Decoded × ℕ × State) Refusal
+judged_by room need p d (Ok (tag, next)) =
+    if eqb (room_fault room need) 0 then Ok (d, tag, next) else Err (refusal (room_fault room need) p.at 0)
+judged_by room need p d (Err n) = Err (refusal n p.at 0)
 
 -- by what was read
-unfoldable pub judged : Counts → List Entry → Progress → InstRead → Judged
-judged room es p (inst.Got d) = judged_by room (need_of p d es) p d (layout_of d.opcode p.state)
-judged room es p (inst.Refused y) = Refused y
+unfoldable pub judged : Counts → List Entry → Progress → Result Decoded Refusal → Result (Decoded × ℕ × State) Refusal
+judged room es p (Ok d) = judged_by room (need_of p d es) p d (layout_of d.opcode p.state)
+judged room es p (Err y) = Err y
 
 -- WHAT IS STORED
 

@@ -5,4 +5,4 @@ mod parts;
 mod step;
 
 pub use parts::{Ended, Progress, Taken, end_number, no_instruction, stopped};
-pub use step::{Judged, admit, decode, keep_operands, keep_record};
+pub use step::{admit, decode, keep_operands, keep_record};

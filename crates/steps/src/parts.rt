@@ -10,7 +10,7 @@ ghost use Rattle.steps.specs.Steps.{said_at, fields_by, Bounded, Moderate};
 
 use parser::Decoded;
 use spec::{Counts, Fields, Loaded, Numbers, Refusal, State, refusals};
-use tracker::{Id, TypeTracker};
+use tracker::{TypeTracker};
 use used::id_of;
 
 // Where a load stands: the place of the next instruction, what is kept so far, the functions and blocks that have begun, the state of the
@@ -128,28 +128,28 @@ pub fn stopped(header: [u32; 5], e: Ended, size: usize) -> Loaded
 }
 
 // "1 for a result type, 2 for a result id".
-fn presence_of(rtype: Id, rid: Id) -> u32
+fn presence_of(rtype: Option<u32>, rid: Option<u32>) -> u32
     ensures { (result ≡ presence (id_is rtype) (id_is rid)) × (result ≤ 3) }
 {
     match rtype {
-        Id::Absent => match rid {
-            Id::Absent => 0,
-            Id::Is(_) => 2,
+        None => match rid {
+            None => 0,
+            Some(_) => 2,
         },
-        Id::Is(_) => match rid {
-            Id::Absent => 1,
-            Id::Is(_) => 3,
+        Some(_) => match rid {
+            None => 1,
+            Some(_) => 3,
         },
     }
 }
 
 // The word of an id, 0 where there is none.
-fn id_word(x: Id) -> u32
+fn id_word(x: Option<u32>) -> u32
     ensures { result ≡ or_zero (id_is x) }
 {
     match x {
-        Id::Absent => 0,
-        Id::Is(i) => i,
+        None => 0,
+        Some(i) => i,
     }
 }
 

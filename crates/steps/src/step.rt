@@ -10,19 +10,12 @@ ghost use Rattle.tracker.specs.Entries.{entries_of};
 ghost use Rattle.steps.specs.Steps.{Bounded, Typed, Moderate, Fair, Tells, need_of, judged, tracked, Shown, Shows, Stored, Recorded};
 
 use crate::parts::{Progress, Taken, fields_of};
-use parser::{Decoded, InstRead, parse_body, parse_inst};
+use parser::{Decoded, parse_body, parse_inst};
 use records::RECORD;
 use room::room_fault;
 use spec::{Cell, Counts, Refusal, State, refusals};
 use tracker::Told;
 use used::{Frame, id_of, unused};
-
-// What becomes of an instruction before anything is kept: it goes in, with a tag and the state after it, or is refused.
-#[derive(Clone, Copy)]
-pub enum Judged {
-    Got(Decoded, u8, State),
-    Refused(Refusal),
-}
 
 // DECODING
 
@@ -36,7 +29,7 @@ pub fn decode(
     scratch: &mut [u8],
     spare: &mut [u8],
     p: Progress,
-) -> InstRead
+) -> Result<Decoded, Refusal>
     requires indexed { Indexed g.now index.now }
     requires s_len_bound { (length s.now ≤ 67108864) × (p.at + 4 ≤ length s.now) }
     requires bounded { Bounded p × Typed types.now hints.now p }
@@ -91,15 +84,15 @@ fn need_after(types: &[u32], hints: &[u16], room: Counts, p: Progress, d: Decode
 }
 
 // A decoded instruction that is refused for its layout or for room.
-fn refused(number: u32, place: usize) -> Judged
-    ensures { result ≡ Judged.Refused (refusal number place 0) }
+fn refused(number: u32, place: usize) -> Result<(Decoded, u8, State), Refusal>
+    ensures { result ≡ Err (refusal number place 0) }
 {
     let x = Refusal {
         number,
         place,
         value: 0,
     };
-    Judged::Refused(x)
+    Err(x)
 }
 
 // An instruction by its layout and the room for it, where it was read.
@@ -110,24 +103,24 @@ pub fn admit(
     hints: &[u16],
     room: Counts,
     p: Progress,
-    read: InstRead,
-) -> Judged
+    read: Result<Decoded, Refusal>,
+) -> Result<(Decoded, u8, State), Refusal>
     requires table_value { (table.now ≡ layout_table) × (kinds.now ≡ kind_table) }
     requires bounded { Bounded p × Typed types.now hints.now p }
     requires fair { Fair read }
     ensures { result ≡ judged room (entries_of p.tracker.count types.now) p read }
 {
     match read {
-        InstRead::Refused(x) => Judged::Refused(x),
-        InstRead::Got(d) => {
+        Err(x) => Err(x),
+        Ok(d) => {
             let state = p.state;
             let cell = reflect::place(kinds, table, d.opcode, state);
             match cell {
-                Cell::Refuses(n) => refused(n as u32, p.at),
-                Cell::Tagged(tag, next) => {
+                Err(n) => refused(n as u32, p.at),
+                Ok((tag, next)) => {
                     let fault = room_fault(room, need_after(types, hints, room, p, d));
                     if fault == refusals::ACCEPTED {
-                        return Judged::Got(d, tag, next);
+                        return Ok((d, tag, next));
                     }
                     refused(fault, p.at)
                 }

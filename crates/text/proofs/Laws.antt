@@ -11,8 +11,6 @@ use borrow.Author.Tests.{eq-eqb, ne_eqb}
 use lib.Dec.{eqb}
 use lib.ListN.{length, take, drop, get_or, drop_of_length-le}
 use lib.Seq.{drop-cons}
-use Rattle.spec.specs.declared.Found.{Found}
-use Rattle.spec.specs.declared.Found.TheVariants.{At, Nothing}
 use Rattle.spec.specs.Text.{until_zero}
 use Rattle.text.specs.Zero.{zero_after, zero_in}
 
@@ -37,24 +35,24 @@ front [] = tt
 front (b ∷ s) = front_cons b s (eqb b 0) (until_zero s) refl refl (front s)
 
 -- the string before a zero byte found at i
-at_by : (s : List ℕ) (i : ℕ) (o : Option (List ℕ)) → Front s o → At i ≡ zero_after o → (i < length s) × (o ≡ Some (take i s))
+at_by : (s : List ℕ) (i : ℕ) (o : Option (List ℕ)) → Front s o → Some i ≡ zero_after o → (i < length s) × (o ≡ Some (take i s))
 unfolding Front zero_after
 at_by s i None h e = let z : ◌≡◌ {A = ℕ} 0 1 = cc in absurd (omega arith)
 at_by s i (Some bs) h e = let q : i ≡ length bs = cc in rw q (h.0, ap Some h.1)
 
 -- a zero byte found at i is within the bytes, and the string is the i bytes before it
-pub zero_at : (s : List ℕ) (i : ℕ) → At i ≡ zero_in s → (i < length s) × (until_zero s ≡ Some (take i s))
+pub zero_at : (s : List ℕ) (i : ℕ) → Some i ≡ zero_in s → (i < length s) × (until_zero s ≡ Some (take i s))
 unfolding zero_in
 zero_at s i e = at_by s i (until_zero s) (front s) e
 
 -- no string before a zero byte that is not found
-nothing_by : (o : Option (List ℕ)) → Nothing ≡ zero_after o → o ≡ None
+nothing_by : (o : Option (List ℕ)) → None ≡ zero_after o → o ≡ None
 unfolding zero_after
 nothing_by None e = refl
 nothing_by (Some bs) e = let z : ◌≡◌ {A = ℕ} 0 1 = cc in absurd (omega arith)
 
 -- where no zero byte is found, no string ends
-pub zero_nothing : (s : List ℕ) → Nothing ≡ zero_in s → until_zero s ≡ None
+pub zero_nothing : (s : List ℕ) → None ≡ zero_in s → until_zero s ≡ None
 unfolding zero_in
 zero_nothing s e = nothing_by (until_zero s) e
 
@@ -65,9 +63,9 @@ pub rest : (s : List ℕ) (i : ℕ) → i < length s → drop i s ≡ get_or s i
 rest s i h = rw (add-one, drop-cons s i 0)
 
 -- the answer where i bytes are passed and this is the string of the rest
-unfoldable pub found_from : ℕ → Option (List ℕ) → Found
-found_from i None = Nothing
-found_from i (Some bs) = At (i + length bs)
+unfoldable pub found_from : ℕ → Option (List ℕ) → Option ℕ
+found_from i None = None
+found_from i (Some bs) = Some (i + length bs)
 
 -- no byte is passed at first
 from_start : (o : Option (List ℕ)) → zero_after o ≡ found_from 0 o
@@ -79,7 +77,7 @@ from_start (Some bs) = simp zero-add
 from_next : (i b : ℕ) (s : List ℕ) (o : Option (List ℕ)) → (b ≡ 0 → ⊥) → until_zero s ≡ o → found_from i (until_zero (b ∷ s)) ≡ found_from (i + 1) o
 unfolding found_from until_zero
 from_next i b s None z e = simp (ne_eqb b 0 z, e)
-from_next i b s (Some bs) z e = simp (ne_eqb b 0 z, e) (ap At (omega arith))
+from_next i b s (Some bs) z e = simp (ne_eqb b 0 z, e) (ap Some (omega arith))
 
 -- at i, the answer is that of the rest
 pub record Searched (s : List ℕ) (i : ℕ) : Type 0 where
@@ -100,11 +98,11 @@ module _ {s : List ℕ} {i : ℕ} (r : Searched s i) where
   search_goes_on h z = record { answer = here h ∙ from_next i (get_or s i 0) (drop (i + 1) s) _ z refl }
 
   -- at a zero byte
-  pub search_finds : i < length s → get_or s i 0 ≡ 0 → At i ≡ zero_in s
+  pub search_finds : i < length s → get_or s i 0 ≡ 0 → Some i ≡ zero_in s
   unfolding found_from until_zero
   search_finds h z = sym (here h ∙ simp (eq-eqb (get_or s i 0) 0 z, add-zero))
 
   -- at the end
-  pub search_ends : length s ≤ i → Nothing ≡ zero_in s
+  pub search_ends : length s ≤ i → None ≡ zero_in s
   unfolding found_from until_zero
   search_ends h = sym (r.answer ∙ ap (λ (l : List ℕ). found_from i (until_zero l)) (drop_of_length-le s h))

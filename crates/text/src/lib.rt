@@ -7,20 +7,18 @@ ghost use Rattle.text.specs.Zero.{zero_in};
 ghost use Rattle.text.specs.AsciiText.{is_ascii_text};
 ghost use Rattle.text.specs.Steps.{utf8_rows, first_of};
 
-use spec::Found;
-
 // Where the first zero byte is.
-pub fn zero(s: &[u8]) -> Found
+pub fn zero(s: &[u8]) -> Option<usize>
     ensures { result ≡ zero_in s.now }
 {
     let mut at = 0;
     while at < s.len() {
         if s[at] == 0 {
-            return Found::At(at);
+            return Some(at);
         }
         at += 1;
     }
-    Found::Nothing
+    None
 }
 
 // Whether the bytes are ASCII text, each of ASCII and none zero: looked at to the end, so that many go at once.

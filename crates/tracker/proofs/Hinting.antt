@@ -9,8 +9,6 @@ use lib.Dec.{leb, ltb, eqb}
 use lib.ListN.{length, get_or, set, length-set}
 use lib.Seq.{sets, drop-length, get_or-set_same, get_or-set_other}
 use borrow.Author.Tests.{le-leb, lt-leb, leb-true, lt-ltb, le-ltb, ltb-true, ltb-false, eq-eqb, ne_eqb, eqb-true, eqb-false}
-use Rattle.spec.specs.declared.Found.{Found}
-use Rattle.spec.specs.declared.Found.TheVariants.{At, Nothing}
 use Rattle.std.specs.Prelude.{if◌then◌else◌}
 use Rattle.spec.specs.Records.{Entry, entry}
 use Rattle.spec.specs.Types.{define}
@@ -19,6 +17,7 @@ use Rattle.tracker.specs.Entries.{entries_of, stored, place_from, place_of}
 use Rattle.tracker.specs.Hints.{is_marked, with_mark, marks_for, slot_of, guess_of, guess_for, is_own, marked_for, guessed_for, noted, new_of, hints_with, greater_of, greatest_with, Alone, Blank, is_there, Hinted}
 use Rattle.tracker.proofs.Laws.{Sits, here, later, Misses, nowhere, not_here, sits_within, own_word, entries_stored, length_found, defined_found, length_missed, defined_missed}
 use Rattle.tracker.proofs.Marks.{mark_own, mark_other, length_marked, marked_behind}
+use Rattle.std.specs.Prelude.{None, Option, Some}
 
 -- HOW MANY MARKS
 
@@ -310,8 +309,8 @@ other_place_by : (i w s j k id x y : ℕ) (es ds : List Entry) → (i ≡ j → 
     → eqb id i ≡ t → place_from k j (if t then entry i w s ∷ es else entry id x y ∷ ds) ≡ place_from k j (entry id x y ∷ es)
 unfolding place_from
 other_place_by i w s j k id x y es ds h p true e =
-    ap (λ (z : ℕ). if eqb z j then At k else place_from (suc k) j es) (sym (eqb-true id i e))
-other_place_by i w s j k id x y es ds h p false e = ap (λ (z : Found). if eqb id j then At k else z) p
+    ap (λ (z : ℕ). if eqb z j then Some k else place_from (suc k) j es) (sym (eqb-true id i e))
+other_place_by i w s j k id x y es ds h p false e = ap (λ (z : Option ℕ). if eqb id j then Some k else z) p
 
 -- another id's entry stands where it stood
 other_place : (i w s j : ℕ) → (i ≡ j → ⊥) → (k : ℕ) (es : List Entry) → place_from k j (define i w s es) ≡ place_from k j es
@@ -327,22 +326,22 @@ own_place {i} (here e r) w s k = simp (e, eq-eqb i i refl)
 own_place (later e r) w s k = simp e (own_place r w s (suc k))
 
 -- an id that is missed stands nowhere
-missed_place : {i n : ℕ} {l : List ℕ} → Misses i n l → (k : ℕ) → place_from k i (entries_of n l) ≡ Nothing
+missed_place : {i n : ℕ} {l : List ℕ} → Misses i n l → (k : ℕ) → place_from k i (entries_of n l) ≡ None
 unfolding place_from entries_of
 missed_place nowhere k = refl
 missed_place (not_here e r) k = simp e (missed_place r (suc k))
 
 -- a place that is there is not nothing
-not_both : {k : ℕ} → At k ≡ Nothing → ⊥
+not_both : {k : ℕ} → Some k ≡ None → ⊥
 not_both e = let z : ◌≡◌ {A = ℕ} 0 1 = cc in omega arith
 
 -- a new id stands last
-new_place : {i n : ℕ} {l : List ℕ} → Misses i n l → (w s k : ℕ) → At (n + k) ≡ place_from k i (define i w s (entries_of n l))
+new_place : {i n : ℕ} {l : List ℕ} → Misses i n l → (w s k : ℕ) → Some (n + k) ≡ place_from k i (define i w s (entries_of n l))
 unfolding place_from define entries_of
 new_place {i} nowhere w s k = simp (eq-eqb i i refl, zero-add)
 new_place (not_here {n} e r) w s k =
     let q : suc n + k ≡ n + suc k = omega arith in
-    simp e (ap At q ∙ new_place r w s (suc k))
+    simp e (ap Some q ∙ new_place r w s (suc k))
 
 -- THE WORDS AFTER A DEFINITION
 
@@ -381,24 +380,24 @@ hinted_none l hs g m room blank = record {
 
 -- an id whose mark is not set has no entry
 pub unmarked : {t : TypeTracker} {l hs : List ℕ} → Hinted t l hs → (i : ℕ) → i / 16 < t.marks → (y : Bool) → y ≡ is_marked hs i → y ≡ false
-    → Nothing ≡ place_of i (entries_of t.count l)
+    → None ≡ place_of i (entries_of t.count l)
 unmarked {t} {l} {hs} r i h y p q = by (place_of i (entries_of t.count l)) refl
   where
-    by : (f : Found) → place_of i (entries_of t.count l) ≡ f → Nothing ≡ place_of i (entries_of t.count l)
-    by (At k) e =
+    by : (f : Option ℕ) → place_of i (entries_of t.count l) ≡ f → None ≡ place_of i (entries_of t.count l)
+    by (Some k) e =
         let both : true ≡ false = sym (r.marked i h ∙ ap is_there e) ∙ sym p ∙ q in
         let z : ◌≡◌ {A = ℕ} 0 1 = cc in
         absurd (omega arith)
-    by Nothing e = sym e
+    by None e = sym e
 
 -- an id whose slot is empty has none
 pub emptied : {t : TypeTracker} {l hs : List ℕ} → Hinted t l hs → (i p : ℕ) → p ≡ slot_of (length hs) t.marks i → get_or hs p 0 ≡ 0
-    → Nothing ≡ place_of i (entries_of t.count l)
+    → None ≡ place_of i (entries_of t.count l)
 unfolding guess_of
 emptied {hs = hs} r i p e h = sym (r.empty i (ap (λ (z : ℕ). get_or hs z 0) (sym e) ∙ h))
 
 -- the mark of an id that has no entry is not set
-pub mark_none : {t : TypeTracker} {l hs : List ℕ} → Hinted t l hs → (i : ℕ) → Nothing ≡ place_of i (entries_of t.count l) → i / 16 < t.marks
+pub mark_none : {t : TypeTracker} {l hs : List ℕ} → Hinted t l hs → (i : ℕ) → None ≡ place_of i (entries_of t.count l) → i / 16 < t.marks
     → is_marked hs i ≡ false
 mark_none r i e h = r.marked i h ∙ ap is_there (sym e)
 
@@ -453,11 +452,11 @@ module _ {i n : ℕ} {l : List ℕ} (m : Misses i n l) (w s : ℕ) (room : 3 * n
   entries_more = entries_after (n + 1) l u (define i w s (entries_of n l)) (length_missed m w s) (e ∙ defined_missed m w s) (omega arith)
 
   -- it stands last
-  last_place : place_of i (entries_of (n + 1) u) ≡ At n
+  last_place : place_of i (entries_of (n + 1) u) ≡ Some n
   unfolding place_of
   last_place =
       let q : n + 0 ≡ n = omega arith in
-      ap (place_from 0 i) entries_more ∙ sym (new_place m w s 0) ∙ ap At q
+      ap (place_from 0 i) entries_more ∙ sym (new_place m w s 0) ∙ ap Some q
 
   -- every other stands where it stood
   others_place : (j : ℕ) → (i ≡ j → ⊥) → place_of j (entries_of (n + 1) u) ≡ place_of j (entries_of n l)
@@ -465,12 +464,12 @@ module _ {i n : ℕ} {l : List ℕ} (m : Misses i n l) (w s : ℕ) (room : 3 * n
   others_place j h = ap (place_from 0 j) entries_more ∙ other_place i w s j h 0 (entries_of n l)
 
   -- it stood nowhere
-  no_place : place_of i (entries_of n l) ≡ Nothing
+  no_place : place_of i (entries_of n l) ≡ None
   unfolding place_of
   no_place = missed_place m 0
 
   -- so no id has two entries, by whether the entry is the new one
-  alone_by : Alone n l → (k : ℕ) → k < n + 1 → (y : Bool) → ltb k n ≡ y → place_of (get_or u (3 * k) 0) (entries_of (n + 1) u) ≡ At k
+  alone_by : Alone n l → (k : ℕ) → k < n + 1 → (y : Bool) → ltb k n ≡ y → place_of (get_or u (3 * k) 0) (entries_of (n + 1) u) ≡ Some k
   unfolding Alone
   alone_by a k h true q =
       let less = ltb-true k n q in
@@ -480,7 +479,7 @@ module _ {i n : ℕ} {l : List ℕ} (m : Misses i n l) (w s : ℕ) (room : 3 * n
   alone_by a k h false q =
       let same : n ≡ k = omega (arith, ltb-false k n q) in
       let word : get_or u (3 * n) 0 ≡ i = ap (λ (z : List ℕ). get_or z (3 * n) 0) e ∙ word_own l i w s n (omega arith) in
-      subst (λ (z : ℕ). place_of (get_or u (3 * z) 0) (entries_of (n + 1) u) ≡ At z) same
+      subst (λ (z : ℕ). place_of (get_or u (3 * z) 0) (entries_of (n + 1) u) ≡ Some z) same
       (ap (λ (z : ℕ). place_of z (entries_of (n + 1) u)) word ∙ last_place)
 
 -- and the hints with its own are those of the store with its entry
@@ -505,7 +504,7 @@ module _ (t : TypeTracker) {i : ℕ} {l : List ℕ} (m : Misses i t.count l) (w 
 
   -- each empty slot, by whether it is its own
   empty_by : (j : ℕ) → guess_of t.marks ks j ≡ 0 → (y : Bool) → eqb (slot_of (length hs) t.marks j) (slot_of (length hs) t.marks i) ≡ y
-      → place_of j (entries_of (t.count + 1) u) ≡ Nothing
+      → place_of j (entries_of (t.count + 1) u) ≡ None
   empty_by j h true q =
       absurd (same_slot t.marks i t.count hs r.room clear j (eqb-true _ _ q) (ap (λ (z : List ℕ). guess_of t.marks z j) (sym f) ∙ h))
   empty_by j h false q =

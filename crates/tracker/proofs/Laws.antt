@@ -9,8 +9,6 @@ use lib.Dec.{eqb}
 use lib.ListN.{length, get_or, drop}
 use lib.Seq.{sets}
 use borrow.Author.Tests.{eqb-true}
-use Rattle.spec.specs.declared.Found.{Found}
-use Rattle.spec.specs.declared.Found.TheVariants.{At, Nothing}
 use Rattle.std.specs.Prelude.{if◌then◌else◌}
 use Rattle.spec.specs.Base.{joined}
 use Rattle.spec.specs.Records.{Entry, entry, entry_words}
@@ -19,6 +17,7 @@ use Rattle.spec.specs.Load.{laid_over}
 use Rattle.spec.proofs.Store.{sets_rest}
 use Rattle.tracker.specs.declared.Resolved.TheVariants.{«Type», Unknown}
 use Rattle.tracker.specs.Entries.{entries_of, stored, place_from, place_of, type_at, resolved_by}
+use Rattle.std.specs.Prelude.{None, Option, Some}
 
 -- THE STORE
 
@@ -91,17 +90,17 @@ pub data Misses (i : ℕ) : ℕ → List ℕ → Type 0 where
   not_here : {n a b c : ℕ} {l : List ℕ} → eqb a i ≡ false → Misses i n l → Misses i (suc n) (a ∷ b ∷ c ∷ l)
 
 -- what a place says, where the first of the entries has index j
-unfoldable Placed : ℕ → ℕ → ℕ → List ℕ → Found → Type 0
-Placed j i n l (At m) = (k : ℕ) × (j + k ≡ m) × Sits i n k l
-Placed j i n l Nothing = Misses i n l
+unfoldable Placed : ℕ → ℕ → ℕ → List ℕ → Option ℕ → Type 0
+Placed j i n l (Some m) = (k : ℕ) × (j + k ≡ m) × Sits i n k l
+Placed j i n l None = Misses i n l
 
 -- by whether the first entry is the id's
-placed_by : (i j n a b c : ℕ) (l : List ℕ) → Holds n l → (t : Bool) → eqb a i ≡ t → (f : Found) → Placed (suc j) i n l f
-    → Placed j i (suc n) (a ∷ b ∷ c ∷ l) (if t then At j else f)
+placed_by : (i j n a b c : ℕ) (l : List ℕ) → Holds n l → (t : Bool) → eqb a i ≡ t → (f : Option ℕ) → Placed (suc j) i n l f
+    → Placed j i (suc n) (a ∷ b ∷ c ∷ l) (if t then Some j else f)
 unfolding Placed
 placed_by i j n a b c l r true e f p = (0, omega arith, here e r)
-placed_by i j n a b c l r false e (At m) p = (suc p.0, omega (arith, p.1), later e p.2)
-placed_by i j n a b c l r false e Nothing p = not_here e p
+placed_by i j n a b c l r false e (Some m) p = (suc p.0, omega (arith, p.1), later e p.2)
+placed_by i j n a b c l r false e None p = not_here e p
 
 -- where an id is found it sits, and where it is not found no entry is its own
 placed : {n : ℕ} {l : List ℕ} → Holds n l → (i j : ℕ) → Placed j i n l (place_from j i (entries_of n l))
@@ -110,9 +109,9 @@ placed none_yet i j = nowhere
 placed (one_more {n} {a} {b} {c} {l} r) i j =
     placed_by i j n a b c l r (eqb a i) refl (place_from (suc j) i (entries_of n l)) (placed r i (suc j))
 
-module _ {i n : ℕ} {l : List ℕ} (h : 3 * n ≤ length l) (f : Found) (e : f ≡ place_of i (entries_of n l)) where
+module _ {i n : ℕ} {l : List ℕ} (h : 3 * n ≤ length l) (f : Option ℕ) (e : f ≡ place_of i (entries_of n l)) where
   -- an id that is found sits there
-  pub sits : (k : ℕ) → f ≡ At k → Sits i n k l
+  pub sits : (k : ℕ) → f ≡ Some k → Sits i n k l
   unfolding place_of Placed
   sits k q =
       let p : (m : ℕ) × (0 + m ≡ k) × Sits i n m l = subst (Placed 0 i n l) (sym e ∙ q) (placed (holds n l h) i 0) in
@@ -120,7 +119,7 @@ module _ {i n : ℕ} {l : List ℕ} (h : 3 * n ≤ length l) (f : Found) (e : f 
       subst (λ (m : ℕ). Sits i n m l) same p.2
 
   -- an id that is not found is in no entry
-  pub misses : f ≡ Nothing → Misses i n l
+  pub misses : f ≡ None → Misses i n l
   unfolding place_of Placed
   misses q = subst (Placed 0 i n l) (sym e ∙ q) (placed (holds n l h) i 0)
 

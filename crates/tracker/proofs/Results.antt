@@ -11,8 +11,6 @@ use borrow.Author.Tests.{le-leb, lt-leb, eq-eqb, ne_eqb}
 use Rattle.std.specs.Prelude.{if◌then◌else◌}
 use Rattle.spec.specs.Records.{Entry, entry}
 use Rattle.spec.specs.Types.{is_type, entry_of, define, inherit, track_value}
-use Rattle.tracker.specs.declared.Id.{Id}
-use Rattle.tracker.specs.declared.Id.TheVariants.{Absent, Is}
 use Rattle.tracker.specs.declared.Resolved.{Resolved}
 use Rattle.tracker.specs.declared.Resolved.TheVariants.{«Type», Unknown}
 use Rattle.tracker.specs.Entries.{entries_of, stored, type_at, resolved_by, known_of}
@@ -96,11 +94,11 @@ module _ (op count : ℕ) (a b : Option ℕ) where
 -- WHAT IS KNOWN OF AN ID
 
 -- no id: nothing
-pub known_none : (x : Id) → x ≡ Absent → (es : List Entry) → Unknown ≡ known_of (id_is x) es
+pub known_none : (x : Option ℕ) → x ≡ None → (es : List Entry) → Unknown ≡ known_of (id_is x) es
 unfolding known_of resolved_by id_is
 known_none x e es = rw e
 
-module _ (x : Id) (i : ℕ) (e : x ≡ Is i) {n : ℕ} {l : List ℕ} where
+module _ (x : Option ℕ) (i : ℕ) (e : x ≡ Some i) {n : ℕ} {l : List ℕ} where
   -- an id that is found: what its entry says
   pub known_found : {k : ℕ} → Sits i n k l → (r : Resolved) → r ≡ type_at l k → r ≡ known_of (id_is x) (entries_of n l)
   unfolding known_of id_is
@@ -140,12 +138,12 @@ module _ (t : Told) where
 
 module _ (t : Told) (es : List Entry) where
   -- no result id: the entries stay
-  pub result_absent : t.rid ≡ Absent → es ≡ told_of t es
+  pub result_absent : t.rid ≡ None → es ≡ told_of t es
   unfolding told_of told_with track_of id_is
   result_absent e = rw e
 
   -- an id, and the type of the result
-  module _ (i : ℕ) (e : t.rid ≡ Is i) (r : Resolved) (h : (j : ℕ) → defined j r es ≡ told_with t (Some j) es) where
+  module _ (i : ℕ) (e : t.rid ≡ Some i) (r : Resolved) (h : (j : ℕ) → defined j r es ≡ told_with t (Some j) es) where
     -- nothing is known: the entries stay
     pub result_unknown : r ≡ Unknown → es ≡ told_of t es
     unfolding told_of told_with defined id_is

@@ -7,25 +7,24 @@ use native.Mathlib.Omega.{arith}
 use lib.Dec.{ltb}
 use lib.ListN.{length, get_or}
 use borrow.Author.Tests.{ltb-true, ltb-false}
-use Rattle.spec.specs.declared.Found.{Found}
-use Rattle.spec.specs.declared.Found.TheVariants.{At, Nothing}
 use Rattle.tracker.specs.Entries.{entries_of, place_of}
 use Rattle.tracker.specs.Hints.{Alone}
 use Rattle.tracker.proofs.Laws.{sits, sits_below, own_word}
+use Rattle.std.specs.Prelude.{None, Option, Some}
 
 -- an entry that is the id's is where the id is found
-pub found_own : (n : ℕ) (l : List ℕ) → Alone n l → (id k : ℕ) → k < n → get_or l (3 * k) 0 ≡ id → At k ≡ place_of id (entries_of n l)
+pub found_own : (n : ℕ) (l : List ℕ) → Alone n l → (id k : ℕ) → k < n → get_or l (3 * k) 0 ≡ id → Some k ≡ place_of id (entries_of n l)
 unfolding Alone
 found_own n l a id k h e = sym (a k h) ∙ ap (λ (i : ℕ). place_of i (entries_of n l)) e
 
 -- an id that no entry has is not found
 pub found_none : (n : ℕ) (l : List ℕ) → 3 * n ≤ length l → (id : ℕ) → ((k : ℕ) → k < n → get_or l (3 * k) 0 ≡ id → ⊥)
-    → Nothing ≡ place_of id (entries_of n l)
+    → None ≡ place_of id (entries_of n l)
 found_none n l room id None = by (place_of id (entries_of n l)) refl
   where
-    by : (f : Found) → f ≡ place_of id (entries_of n l) → Nothing ≡ place_of id (entries_of n l)
-    by (At k) e = let m = sits room (At k) e k refl in absurd (None k (sits_below m) (own_word m))
-    by Nothing e = e
+    by : (f : Option ℕ) → f ≡ place_of id (entries_of n l) → None ≡ place_of id (entries_of n l)
+    by (Some k) e = let m = sits room (Some k) e k refl in absurd (None k (sits_below m) (own_word m))
+    by None e = e
 
 -- how far a search has come: no entry before the one index is the id's, and none from the other on
 pub record Seeking (l : List ℕ) (n id i end : ℕ) : Type 0 where
@@ -61,7 +60,7 @@ module _ {l : List ℕ} {n id i end : ℕ} (r : Seeking l n id i end) (h : i < e
       behind_by k f g false q = r.behind k (ltb-false k end q) g
 
 -- all are passed
-pub seek_end : {l : List ℕ} {n id i end : ℕ} → Seeking l n id i end → 3 * n ≤ length l → end ≤ i → Nothing ≡ place_of id (entries_of n l)
+pub seek_end : {l : List ℕ} {n id i end : ℕ} → Seeking l n id i end → 3 * n ≤ length l → end ≤ i → None ≡ place_of id (entries_of n l)
 seek_end {l} {n} {id} {i} {end} r room h = found_none n l room id (λ k f. passed k f (ltb k i) refl)
   where
     passed : (k : ℕ) → k < n → (t : Bool) → ltb k i ≡ t → get_or l (3 * k) 0 ≡ id → ⊥

@@ -1,8 +1,6 @@
 -- The entries of a type store: what its words say, where an id stands among them, and what a look-up answers.
 use Rattle.std.specs.Prelude.{ℕ, zero, suc, ◌+◌, ◌*◌, List, [], ◌∷◌, eqb, get_or, drop, if◌then◌else◌}
 use Rattle.std.specs.Prelude.{Option, None, Some}
-use Rattle.spec.specs.declared.Found.{Found}
-use Rattle.spec.specs.declared.Found.TheVariants.{At, Nothing}
 use Rattle.spec.specs.Base.{joined}
 use Rattle.spec.specs.Records.{Entry, entry, entry_words}
 use Rattle.spec.specs.Match.{type_of}
@@ -20,12 +18,12 @@ unfoldable pub stored : List ℕ → List Entry → List ℕ
 stored ws es = laid_over ws (joined entry_words es)
 
 -- the index of an id's entry, where the first of some entries has index k
-unfoldable pub place_from : ℕ → ℕ → List Entry → Found
-place_from k i [] = Nothing
-place_from k i (entry id w s ∷ es) = let later = place_from (suc k) i es in if eqb id i then At k else later
+unfoldable pub place_from : ℕ → ℕ → List Entry → Option ℕ
+place_from k i [] = None
+place_from k i (entry id w s ∷ es) = let later = place_from (suc k) i es in if eqb id i then Some k else later
 
 -- the index of an id's entry
-unfoldable pub place_of : ℕ → List Entry → Found
+unfoldable pub place_of : ℕ → List Entry → Option ℕ
 place_of i es = place_from 0 i es
 
 -- the type that the entry at an index says: its second and third word

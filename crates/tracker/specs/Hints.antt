@@ -1,10 +1,9 @@
 -- Hints: one run of numbers of 16 bits that tells where an id's entry may stand, or that it has none. Marks come first, then slots.
 use Rattle.std.specs.Prelude.{ℕ, ◌+◌, ◌-◌, ◌*◌, ◌/◌, ◌%◌, ◌^◌, ◌<◌, ◌≤◌, ◌≡◌, Bool, true, false, ◌&&◌, List, [], ◌∷◌, leb, ltb, eqb, length, get_or, set, drop, if◌then◌else◌}
-use Rattle.spec.specs.declared.Found.{Found}
-use Rattle.spec.specs.declared.Found.TheVariants.{At, Nothing}
 use Rattle.spec.specs.Records.{Entry, entry}
 use Rattle.tracker.specs.declared.TypeTracker.{TypeTracker}
 use Rattle.tracker.specs.Entries.{entries_of, place_of}
+use Rattle.std.specs.Prelude.{None, Option, Some}
 
 -- MARKS: a bit for each id below 16 times their number
 
@@ -76,16 +75,16 @@ greatest_with (entry id w s ∷ es) g = greatest_with es (greater_of g id)
 
 -- no id has two entries: each entry is where its id is found
 unfoldable pub Alone : ℕ → List ℕ → Type 0
-Alone count types = (k : ℕ) → k < count → place_of (get_or types (3 * k) 0) (entries_of count types) ≡ At k
+Alone count types = (k : ℕ) → k < count → place_of (get_or types (3 * k) 0) (entries_of count types) ≡ Some k
 
 -- hints of which none is set
 unfoldable pub Blank : List ℕ → Type 0
 Blank hints = (k : ℕ) → get_or hints k 0 ≡ 0
 
 -- was it found
-abbrev pub is_there : Found → Bool
-is_there (At k) = true
-is_there Nothing = false
+abbrev pub is_there : Option ℕ → Bool
+is_there (Some k) = true
+is_there None = false
 
 -- the hints of a tracker's entries: a mark is set where its id has an entry, no id whose slot is empty has one, and none above the
 -- greatest has
@@ -93,5 +92,5 @@ pub record Hinted (t : TypeTracker) (types hints : List ℕ) : Type 0 where
   pub room : t.marks + 2048 ≤ length hints
   pub alone : Alone t.count types
   pub marked : (id : ℕ) → id / 16 < t.marks → is_marked hints id ≡ is_there (place_of id (entries_of t.count types))
-  pub empty : (id : ℕ) → guess_of t.marks hints id ≡ 0 → place_of id (entries_of t.count types) ≡ Nothing
-  pub above : (id : ℕ) → t.greatest < id → place_of id (entries_of t.count types) ≡ Nothing
+  pub empty : (id : ℕ) → guess_of t.marks hints id ≡ 0 → place_of id (entries_of t.count types) ≡ None
+  pub above : (id : ℕ) → t.greatest < id → place_of id (entries_of t.count types) ≡ None

@@ -6,8 +6,6 @@ use Rattle.spec.specs.Records.{Entry}
 use Rattle.spec.specs.Types.{is_type, define, literal_int, define_int, define_float, track_value}
 use Rattle.operand.specs.declared.Parts.{Parts}
 use Rattle.operand.specs.Parts.{Fits}
-use Rattle.tracker.specs.declared.Id.{Id}
-use Rattle.tracker.specs.declared.Id.TheVariants.{Absent, Is}
 use Rattle.tracker.specs.declared.Resolved.{Resolved}
 use Rattle.tracker.specs.declared.Resolved.TheVariants.{«Type», Unknown}
 use Rattle.tracker.specs.declared.Told.{Told}
@@ -16,9 +14,9 @@ use Rattle.tracker.specs.Entries.{stored}
 use Rattle.tracker.specs.Hints.{new_of, hints_with, greatest_with, Hinted}
 
 -- the id that is there, or none
-unfoldable pub id_is : Id → Option ℕ
-id_is Absent = None
-id_is (Is i) = Some i
+unfoldable pub id_is : Option ℕ → Option ℕ
+id_is None = None
+id_is (Some i) = Some i
 
 -- the first two operands have a kind and a value of an operand, where they are there
 pub record FirstFit (count : ℕ) (a b : Parts) : Type 0 where

@@ -9,7 +9,6 @@ ghost use Rattle.tracker.specs.Entries.{entries_of, place_of};
 ghost use Rattle.tracker.specs.Hints.{is_marked, marks_for, slot_of, guess_for, is_own, marked_for, guessed_for, noted, Alone, Hinted};
 
 use crate::TypeTracker;
-use spec::Found;
 
 // An id without a slot of its own shares one of so many.
 const SHARED: usize = 2048;
@@ -85,7 +84,7 @@ fn is_own(types: &[u32], count: usize, guess: usize, id: u32) -> bool
 
 // Where an id's entry stands, by a look at each, the first and the last before those between: types come first, and values are used
 // soon.
-fn scan(types: &[u32], count: usize, id: u32) -> Found
+fn scan(types: &[u32], count: usize, id: u32) -> Option<usize>
     requires { (3 * count ≤ length types.now) × Alone count types.now }
     ensures { result ≡ place_of id (entries_of count types.now) }
 {
@@ -93,40 +92,40 @@ fn scan(types: &[u32], count: usize, id: u32) -> Found
     let mut end = count;
     while i < end {
         if types[3 * i] == id {
-            return Found::At(i);
+            return Some(i);
         }
         end -= 1;
         if types[3 * end] == id {
-            return Found::At(end);
+            return Some(end);
         }
         i += 1;
     }
-    Found::Nothing
+    None
 }
 
 // Where an id's entry stands: an id above the greatest has none, nor has one whose mark is not set or whose slot is empty.
-pub fn find(t: TypeTracker, types: &[u32], hints: &[u16], id: u32) -> Found
+pub fn find(t: TypeTracker, types: &[u32], hints: &[u16], id: u32) -> Option<usize>
     requires count_in_bounds { 3 * t.count ≤ length types.now }
     requires hinted { Hinted t types.now hints.now }
     ensures { result ≡ place_of id (entries_of t.count types.now) }
 {
     if t.greatest < id {
-        return Found::Nothing;
+        return None;
     }
     let at = id as usize;
     let marks = t.marks;
     if at / 16 < marks {
         if !is_marked(hints, at) {
-            return Found::Nothing;
+            return None;
         }
     }
     let slot = slot_of(hints.len(), marks, at);
     let guess = hints[slot] as usize;
     if guess == 0 {
-        return Found::Nothing;
+        return None;
     }
     if is_own(types, t.count, guess, id) {
-        return Found::At(guess - 1);
+        return Some(guess - 1);
     }
     scan(types, t.count, id)
 }

@@ -14,14 +14,7 @@ mod index;
 
 use index::{find, marks_for, note};
 use operand::{Operand, Parts, operand_of};
-use spec::{Found, opcodes};
-
-// An id that is there or not: a result type or a result id.
-#[derive(Clone, Copy)]
-pub enum Id {
-    Absent,
-    Is(u32),
-}
+use spec::{opcodes};
 
 // What is known of an id: its width, and its sort: 1 unsigned, 2 signed, 3 float.
 #[derive(Clone, Copy)]
@@ -34,8 +27,8 @@ pub enum Resolved {
 #[derive(Clone, Copy)]
 pub struct Told {
     pub opcode: u16,
-    pub rtype: Id,
-    pub rid: Id,
+    pub rtype: Option<u32>,
+    pub rid: Option<u32>,
     pub operands: usize,
     pub first: Parts,
     pub second: Parts,
@@ -158,16 +151,16 @@ impl TypeTracker {
     }
 
     // The type of an id, where it is there and known.
-    pub fn resolve(self, types: &[u32], hints: &[u16], id: Id) -> Resolved
+    pub fn resolve(self, types: &[u32], hints: &[u16], id: Option<u32>) -> Resolved
         requires count_in_bounds { 3 * self.count ≤ length types.now }
         requires hinted { Hinted self types.now hints.now }
         ensures { result ≡ known_of (id_is id) (entries_of self.count types.now) }
     {
-        let Id::Is(i) = id else {
+        let Some(i) = id else {
             return Resolved::Unknown;
         };
         let found = find(self, types, hints, i);
-        let Found::At(k) = found else {
+        let Some(k) = found else {
             return Resolved::Unknown;
         };
         type_at(types, k)
@@ -182,7 +175,7 @@ impl TypeTracker {
     {
         let entries = self.count;
         let rid = told.rid;
-        let Id::Is(id) = rid else {
+        let Some(id) = rid else {
             return entries;
         };
         let rtype = told.rtype;
@@ -192,7 +185,7 @@ impl TypeTracker {
             return entries;
         };
         let found = find(self, types, hints, id);
-        let Found::At(_) = found else {
+        let Some(_) = found else {
             return entries + 1;
         };
         entries
@@ -213,7 +206,7 @@ impl TypeTracker {
         ensures { Tracked self types.old hints.old types.new hints.new (define id width sort (entries_of self.count types.old)) result }
     {
         let found = find(self, types, hints, id);
-        let Found::At(i) = found else {
+        let Some(i) = found else {
             put_entry(types, self.count, id, width, sort);
             note(hints, self.marks, id, self.count);
             self.greatest = greater(self.greatest, id);
@@ -232,7 +225,7 @@ impl TypeTracker {
         ensures { Tracked self types.old hints.old types.new hints.new (told_of told (entries_of self.count types.old)) result }
     {
         let rid = told.rid;
-        let Id::Is(id) = rid else {
+        let Some(id) = rid else {
             return self;
         };
         let rtype = told.rtype;

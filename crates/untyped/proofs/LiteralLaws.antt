@@ -12,11 +12,11 @@ use Rattle.spec.specs.Reader.{Reader, Read, got, refused, after, give, refusal, 
 use Rattle.spec.specs.Grammar.{Grammar}
 use Rattle.spec.specs.Match.{read_one, read_each, read_literal_as}
 use Rattle.decoder.specs.declared.Decoder.{Decoder}
-use Rattle.decoder.specs.declared.LongRead.TheVariants.{Got as Long, Refused as NoLong}
 use Rattle.decoder.specs.Answer.{reader_of, long_from}
 use Rattle.decoder.proofs.Laws.{long_got, long_refused}
 use Rattle.used.specs.Parse.{prefix, is_word, kind_is, literal_alone, pair_alone}
 use Rattle.untyped.proofs.KindLaws.{not_kind, word_short, word_no_enum, word_no_text}
+use Rattle.std.specs.Prelude.{Err, Ok}
 
 -- THE READ
 
@@ -39,11 +39,11 @@ module _ (s : List ℕ) (d : Decoder) (k : ℕ) where
         simp (ne_eqb k 0 (not_kind is_long k 0 l refl), l) (ap (λ (m : Read ℕ). after (after m (λ v. give (wide k v))) (λ x. give (x ∷ []))) h)
 
     -- two words
-    pub long_good : (w : ℕ) (e : Decoder) → Long w e ≡ long_from s d → literal_alone (kind_is k) (reader_of s d) ≡ got (wide k w ∷ []) (reader_of s e)
+    pub long_good : (w : ℕ) (e : Decoder) → Ok (w, e) ≡ long_from s d → literal_alone (kind_is k) (reader_of s d) ≡ got (wide k w ∷ []) (reader_of s e)
     long_good w e h = literal_long _ (long_got s d e w h).reads
 
     -- no two words
-    pub long_bad : (x : Refusal) (e : Decoder) → NoLong x e ≡ long_from s d → literal_alone (kind_is k) (reader_of s d) ≡ refused x (reader_of s e)
+    pub long_bad : (x : Refusal) (e : Decoder) → Err (x, e) ≡ long_from s d → literal_alone (kind_is k) (reader_of s d) ≡ refused x (reader_of s e)
     long_bad x e h = literal_long _ (long_refused s d e x h)
 
 -- PAIRS

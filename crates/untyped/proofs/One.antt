@@ -10,13 +10,10 @@ use borrow.Author.Tests.{ne_eqb, ltb-false, not-true}
 use lib.Dec.{ltb, eqb}
 use lib.ListN.{length, drop, length-drop}
 use lib.Seq.{slice, length-slice, get_or-drop}
-use Rattle.spec.specs.declared.Limit.TheVariants.{Words}
 use Rattle.spec.specs.declared.Refusal.{Refusal}
 use Rattle.std.specs.Prelude.{if◌then◌else◌}
 use Rattle.spec.specs.Words.{bytes_of, four_at}
 use Rattle.spec.specs.Text.{text_words, text_break}
-use Rattle.spec.specs.declared.Found.{Found}
-use Rattle.spec.specs.declared.Found.TheVariants.{At, Nothing}
 use Rattle.spec.specs.Kinds.{is_enum, is_mask, is_logged, is_long}
 use Rattle.spec.specs.Records.{narrow, wide, text, operand_size, operand_log, operands_log, operand_string, operands_strings, long_bytes}
 use Rattle.spec.specs.Reader.{Reader, Read, got, refused, after, give, refusal, reached, read_word, read_text, limit_past, reader_at}
@@ -30,26 +27,22 @@ use Rattle.operand.specs.Log.{record_by, record_of, length_by, record_length, La
 use Rattle.operand.proofs.LogLaws.{length_range, laid_nil}
 use Rattle.decoder.specs.declared.Decoder.{Decoder}
 use Rattle.decoder.specs.declared.Text.{Text}
-use Rattle.decoder.specs.declared.WordRead.TheVariants.{Got as Word, Refused as NoWord}
-use Rattle.decoder.specs.declared.LongRead.TheVariants.{Got as Long}
-use Rattle.decoder.specs.declared.TextRead.TheVariants.{Got as GotText, Refused as NoText}
 use Rattle.decoder.specs.Answer.{reader_of, limit_reached, word_from, long_from, text_from}
 use Rattle.decoder.proofs.Laws.{word_got, word_refused, long_got, text_got, text_refused, text_within}
 use Rattle.grammar.specs.Find.{place_found, parameters_found, is_listed}
 use Rattle.tracker.specs.Track.{literal_of}
 use Rattle.used.specs.declared.used.Used.{Used}
-use Rattle.untyped.specs.declared.EnumRead.{EnumRead}
-use Rattle.untyped.specs.declared.EnumRead.TheVariants.{Got as Value, Refused as NoValue}
-use Rattle.used.specs.declared.used.Parsed.TheVariants.{Got}
 use Rattle.used.specs.Parse.{id_ref_of, notes_of, note_as, note, notes, Pushed, Copied, Step, Went, Few, Held, Spotted, Parses, is_word, or_none, parameters_at}
 use Rattle.untyped.specs.Enums.{KnownAs, EnumIs}
 use Rattle.untyped.proofs.KindLaws.{is_narrow, not_kind, word_no_enum, word_no_text, word_narrow, word_other, enum_narrow}
 use Rattle.untyped.proofs.Walk.{accept, step_few, step_went, spotted_one, laid_as}
+use Rattle.decoder.specs.Answer.{Answered}
+use Rattle.std.specs.Prelude.{Err, Ok}
 
 -- HOW FAR
 
 -- a word
-pub step_word : (s : List ℕ) (d e : Decoder) (w : ℕ) → Word w e ≡ word_from s d → Step s d e 1
+pub step_word : (s : List ℕ) (d e : Decoder) (w : ℕ) → Ok (w, e) ≡ word_from s d → Step s d e 1
 step_word s d e w h =
     let g = word_got s d e w h in
     record { next = g.took.next; inside = omega (arith, g.inside, g.took.next); counted = g.took.counted }
@@ -62,7 +55,7 @@ module _ (s g : List ℕ) (k : ℕ) (d : Decoder) (b : Bool) (p : b ≡ limit_re
   told t q = sym p ∙ q
 
   -- on a spent limit the number is 9
-  pub enum_spent : (v : EnumRead) → b ≡ true → v ≡ NoValue (refusal 9 d.offset 0) d → EnumIs s g k d v
+  pub enum_spent : (v : Answered (ℕ × ℕ)) → b ≡ true → v ≡ Err (refusal 9 d.offset 0, d) → EnumIs s g k d v
   unfolding EnumIs read_enumerant reader_of reader_at
   enum_spent v q e = rw e (simp (told true q))
 
@@ -72,11 +65,11 @@ module _ (s g : List ℕ) (k : ℕ) (d : Decoder) (b : Bool) (p : b ≡ limit_re
 
   module _ (q : b ≡ false) where
     -- no word
-    pub enum_unread : (x : Refusal) (e : Decoder) → NoWord x e ≡ word_from s d → EnumIs s g k d (NoValue x e)
+    pub enum_unread : (x : Refusal) (e : Decoder) → Err (x, e) ≡ word_from s d → EnumIs s g k d (Err (x, e))
     unfolding EnumIs
     enum_unread x e h = enum_on q ∙ ap (λ (y : Read ℕ). after y (λ v. known_or d.offset v (parameters_for k v (grammar_of g)))) (word_refused s d e x h)
 
-    module _ (w : ℕ) (e : Decoder) (h : Word w e ≡ word_from s d) where
+    module _ (w : ℕ) (e : Decoder) (h : Ok (w, e) ≡ word_from s d) where
       looked : (o : Option (List ℕ)) → parameters_for k w (grammar_of g) ≡ o → read_enumerant (grammar_of g) k (reader_of s d) ≡ known_or d.offset w o (reader_of s e)
       looked o l =
           enum_on q ∙ ap (λ (y : Read ℕ). after y (λ v. known_or d.offset v (parameters_for k v (grammar_of g)))) (word_got s d e w h).reads
@@ -84,7 +77,7 @@ module _ (s g : List ℕ) (k : ℕ) (d : Decoder) (b : Bool) (p : b ≡ limit_re
 
       -- the value is known, and its parameters start at a place unless it is a mask
       enum_known : (o : Option (List ℕ)) → parameters_for k w (grammar_of g) ≡ o → is_listed o ≡ true → (n : ℕ) → n ≤ length g
-          → (is_mask k ≡ false → parameters_found g (At n) ≡ o) → EnumIs s g k d (Value w n e)
+          → (is_mask k ≡ false → parameters_found g (Some n) ≡ o) → EnumIs s g k d (Ok ((w, n), e))
       unfolding EnumIs is_listed parameters_found parameters_at or_none
       enum_known None l t n i f = let z : ◌≡◌ {A = ℕ} 0 1 = cc in absurd (omega arith)
       enum_known (Some ps) l t n i f = record {
@@ -97,15 +90,15 @@ module _ (s g : List ℕ) (k : ℕ) (d : Decoder) (b : Bool) (p : b ≡ limit_re
       }
 
       -- it is not
-      pub enum_unknown : (o : Option (List ℕ)) → parameters_for k w (grammar_of g) ≡ o → is_listed o ≡ false → (v : EnumRead)
-          → v ≡ NoValue (refusal 10 d.offset w) e → EnumIs s g k d v
+      pub enum_unknown : (o : Option (List ℕ)) → parameters_for k w (grammar_of g) ≡ o → is_listed o ≡ false → (v : Answered (ℕ × ℕ))
+          → v ≡ Err (refusal 10 d.offset w, e) → EnumIs s g k d v
       unfolding EnumIs is_listed
       enum_unknown None l t v r = rw r (looked None l)
       enum_unknown (Some ps) l t v r = let z : ◌≡◌ {A = ℕ} 0 1 = cc in absurd (omega arith)
 
       -- a mask that is known
       pub mask_known : (m t : Bool) → m ≡ is_mask k → m ≡ true → t ≡ is_listed (parameters_for k w (grammar_of g)) → t ≡ true
-          → EnumIs s g k d (Value w (length g) e)
+          → EnumIs s g k d (Ok ((w, length g), e))
       mask_known m t a c f i =
           enum_known (parameters_for k w (grammar_of g)) refl (sym f ∙ i) (length g) (omega arith) (λ n.
           let y : true ≡ false = sym c ∙ a ∙ n in
@@ -113,27 +106,27 @@ module _ (s g : List ℕ) (k : ℕ) (d : Decoder) (b : Bool) (p : b ≡ limit_re
           absurd (omega arith))
 
       -- another value, as it was looked up
-      module _ (m : Bool) (a : m ≡ is_mask k) (c : m ≡ false) (f : Found) (i : parameters_found g f ≡ listed k w (grammar_of g).enumerants) where
-        listed_found : (x : Found) → f ≡ x → parameters_for k w (grammar_of g) ≡ parameters_found g x
+      module _ (m : Bool) (a : m ≡ is_mask k) (c : m ≡ false) (f : Option ℕ) (i : parameters_found g f ≡ listed k w (grammar_of g).enumerants) where
+        listed_found : (x : Option ℕ) → f ≡ x → parameters_for k w (grammar_of g) ≡ parameters_found g x
         unfolding parameters_for
         listed_found x r = simp (sym a ∙ c) (sym i ∙ ap (parameters_found g) r)
 
         -- it is known
-        pub value_known : (n : ℕ) → f ≡ At n → place_found f ≤ length g → EnumIs s g k d (Value w n e)
+        pub value_known : (n : ℕ) → f ≡ Some n → place_found f ≤ length g → EnumIs s g k d (Ok ((w, n), e))
         unfolding parameters_found place_found is_listed
-        value_known n r l = enum_known (parameters_found g (At n)) (listed_found (At n) r) refl n (rw r at l) (λ x. refl)
+        value_known n r l = enum_known (parameters_found g (Some n)) (listed_found (Some n) r) refl n (rw r at l) (λ x. refl)
 
         -- it is not
-        pub value_unknown : f ≡ Nothing → (v : EnumRead) → v ≡ NoValue (refusal 10 d.offset w) e → EnumIs s g k d v
+        pub value_unknown : f ≡ None → (v : Answered (ℕ × ℕ)) → v ≡ Err (refusal 10 d.offset w, e) → EnumIs s g k d v
         unfolding parameters_found is_listed
-        value_unknown r = enum_unknown (parameters_found g Nothing) (listed_found Nothing r) refl
+        value_unknown r = enum_unknown (parameters_found g None) (listed_found None r) refl
 
 -- an enumerant's answer, taken apart
-pub known_told : (s g : List ℕ) (k : ℕ) (d : Decoder) (v : EnumRead) (w p : ℕ) (e : Decoder) → EnumIs s g k d v → v ≡ Value w p e → KnownAs s g k d w p e
+pub known_told : (s g : List ℕ) (k : ℕ) (d : Decoder) (v : Answered (ℕ × ℕ)) (w p : ℕ) (e : Decoder) → EnumIs s g k d v → v ≡ Ok ((w, p), e) → KnownAs s g k d w p e
 unfolding EnumIs
 known_told s g k d v w p e h q = rw q at h
 
-pub unread_told : (s g : List ℕ) (k : ℕ) (d : Decoder) (v : EnumRead) (x : Refusal) (e : Decoder) → EnumIs s g k d v → v ≡ NoValue x e
+pub unread_told : (s g : List ℕ) (k : ℕ) (d : Decoder) (v : Answered (ℕ × ℕ)) (x : Refusal) (e : Decoder) → EnumIs s g k d v → v ≡ Err (x, e)
     → read_enumerant (grammar_of g) k (reader_of s d) ≡ refused x (reader_of s e)
 unfolding EnumIs
 unread_told s g k d v x e h q = rw q at h
@@ -149,11 +142,11 @@ module _ (s : List ℕ) (g : Grammar) (k : ℕ) (d : Decoder) where
         simp (word_no_enum k z, word_no_text k z) (ap (λ (m : Read ℕ). after (after m (λ a. give (narrow k a))) (λ o. give (o ∷ []))) h)
 
     -- a word
-    word_good : (w : ℕ) (e : Decoder) → Word w e ≡ word_from s d → read_each g (k ∷ []) (reader_of s d) ≡ got (narrow k w ∷ []) (reader_of s e)
+    word_good : (w : ℕ) (e : Decoder) → Ok (w, e) ≡ word_from s d → read_each g (k ∷ []) (reader_of s d) ≡ got (narrow k w ∷ []) (reader_of s e)
     word_good w e h = each_word (got w (reader_of s e)) (word_got s d e w h).reads
 
     -- no word
-    pub word_bad : (x : Refusal) (e : Decoder) → NoWord x e ≡ word_from s d → read_each g (k ∷ []) (reader_of s d) ≡ refused x (reader_of s e)
+    pub word_bad : (x : Refusal) (e : Decoder) → Err (x, e) ≡ word_from s d → read_each g (k ∷ []) (reader_of s d) ≡ refused x (reader_of s e)
     word_bad x e h = each_word (refused x (reader_of s e)) (word_refused s d e x h)
 
   module _ (z : k ≡ 40) (i : d.offset ≤ length s) where
@@ -163,12 +156,12 @@ module _ (s : List ℕ) (g : Grammar) (k : ℕ) (d : Decoder) where
     each_text y h = rw z (ap (λ (m : Read (List ℕ)). after (after m (λ a. give (text a))) (λ o. give (o ∷ []))) h)
 
     -- a string
-    text_good_lem : (x : Text) → GotText x ≡ text_from s d
+    text_good_lem : (x : Text) → Ok x ≡ text_from s d
         → read_each g (k ∷ []) (reader_of s d) ≡ got (text (slice x.start (x.start + x.length) s) ∷ []) (reader_of s x.next)
     text_good_lem x h = each_text _ (sym (text_within s d i) ∙ (text_got s d x h).reads)
 
     -- no string
-    pub text_bad : (x : Refusal) (e : Decoder) → NoText x e ≡ text_from s d → read_each g (k ∷ []) (reader_of s d) ≡ refused x (reader_of s e)
+    pub text_bad : (x : Refusal) (e : Decoder) → Err (x, e) ≡ text_from s d → read_each g (k ∷ []) (reader_of s d) ≡ refused x (reader_of s e)
     text_bad x e h = each_text _ (sym (text_within s d i) ∙ text_refused s d e x h)
 
 module _ (s g : List ℕ) (k : ℕ) (d : Decoder) (t : Bool) (b : t ≡ is_enum k) (q : t ≡ true) where
@@ -273,7 +266,7 @@ four_at_lem : (s : List ℕ) (at : ℕ) → four_at at s ≡ four_at 0 (drop at 
 four_at_lem s at = simp (get_or-drop, add-zero)
 
 -- an embedded opcode
-pub spotted_opcode : (s : List ℕ) (d e : Decoder) (u n : Used) (w : ℕ) → Word w e ≡ word_from s d
+pub spotted_opcode : (s : List ℕ) (d e : Decoder) (u n : Used) (w : ℕ) → Ok (w, e) ≡ word_from s d
     → n.breaks ≡ first_break u.breaks (if ltb 65535 w then d.offset else 0) → Spotted s d e u n (narrow 39 (w % 65536) ∷ [])
 unfolding operand_size operand_break
 spotted_opcode s d e u n w h b =
@@ -282,9 +275,9 @@ spotted_opcode s d e u n w h b =
     (b ∙ ap (λ (i : ℕ). first_break u.breaks (if ltb 65535 i then d.offset else 0)) is)
 
 -- a record of a word was read
-pub word_parsed : (s l t l₁ : List ℕ) (d e : Decoder) (u n : Used) (k w : ℕ) (g : Grammar) → Few s d u → is_word k ≡ true → Word w e ≡ word_from s d
+pub word_parsed : (s l t l₁ : List ℕ) (d e : Decoder) (u n : Used) (k w : ℕ) (g : Grammar) → Few s d u → is_word k ≡ true → Ok (w, e) ≡ word_from s d
     → Pushed k w u n → Laid l u.log (record_of (parts k w)) l₁ → n.breaks ≡ u.breaks
-    → Parses s d 4 (read_each g (k ∷ []) (reader_of s d)) l t l₁ t u (Got e n)
+    → Parses s d 4 (read_each g (k ∷ []) (reader_of s d)) l t l₁ t u (Ok (n, e))
 word_parsed s l t l₁ d e u n k w g f i h p q b =
     let x = step_word s d e w h in
     accept s d 4 _ l t l₁ t u n e _ (word_good s g k d i w e h) (held_narrow l t l₁ u n k w (word_narrow k i) p q)
@@ -294,7 +287,7 @@ word_parsed s l t l₁ d e u n k w g f i h p q b =
 -- a record of an enumerant was read
 pub enum_parsed : (s l t l₁ g : List ℕ) (d e : Decoder) (u n : Used) (k w p : ℕ) → Few s d u → is_enum k ≡ true → KnownAs s g k d w p e
     → Pushed k w u n → Laid l u.log (record_of (parts k w)) l₁ → n.breaks ≡ u.breaks
-    → Parses s d 4 (read_each (grammar_of g) (k ∷ []) (reader_of s d)) l t l₁ t u (Got e n)
+    → Parses s d 4 (read_each (grammar_of g) (k ∷ []) (reader_of s d)) l t l₁ t u (Ok (n, e))
 enum_parsed s l t l₁ g d e u n k w p f i h a q b =
     accept s d 4 _ l t l₁ t u n e _ (enum_good s g k d (is_enum k) refl i w p e h) (held_narrow l t l₁ u n k w (enum_narrow k i) a q)
     (few_pushed s d e u n 1 k w f h.step (omega arith) a) (step_went s d e 1 h.step f.left f.limited)
@@ -306,7 +299,7 @@ past_by : (t : Bool) (x : Refusal) (r : Reader) (z : Read (List ℕ)) (bs : List
 past_by true x r z bs q h = let y : ◌≡◌ {A = ℕ} 0 1 = cc in absurd (omega arith)
 past_by false x r z bs q h = refl
 
-text_limit : (s : List ℕ) (d : Decoder) (m : ℕ) (bs : List ℕ) (q : Reader) → d.limit ≡ Words m → read_text (reader_of s d) ≡ got bs q
+text_limit : (s : List ℕ) (d : Decoder) (m : ℕ) (bs : List ℕ) (q : Reader) → d.limit ≡ Some m → read_text (reader_of s d) ≡ got bs q
     → 4 * m ≤ length (drop d.offset s)
 unfolding read_text reader_of reader_at
 text_limit s d m bs q e h =
@@ -314,7 +307,7 @@ text_limit s d m bs q e h =
     ltb-false (length (drop d.offset s)) (4 * m) (rw e at y)
 
 -- a string, within a limit
-step_text : (s : List ℕ) (d : Decoder) (u : Used) (x : Text) → GotText x ≡ text_from s d → Few s d u → Step s d x.next (text_words x.length)
+step_text : (s : List ℕ) (d : Decoder) (u : Used) (x : Text) → Ok x ≡ text_from s d → Few s d u → Step s d x.next (text_words x.length)
 step_text s d u x h f =
     let g = text_got s d x h in
     let b = text_limit s d f.left _ _ f.limited (sym (text_within s d f.inside) ∙ g.reads) in
@@ -326,7 +319,7 @@ step_text s d u x h f =
     }
 
 -- where it stands
-text_inside : (s : List ℕ) (d : Decoder) (x : Text) → GotText x ≡ text_from s d → x.start + x.length < length s
+text_inside : (s : List ℕ) (d : Decoder) (x : Text) → Ok x ≡ text_from s d → x.start + x.length < length s
 text_inside s d x h = (text_got s d x h).inside
 
 -- its record: start, length
@@ -366,13 +359,13 @@ few_copied s d e u r size b f t p =
     step_few s d e u r (text_words size) f t (omega arith) (one_more u r _ _ p.noted) (omega (arith, p.log)) (omega (arith, p.strings)) p.base (p.fits f.fits)
 
 -- a string takes a word or more
-text_went : (s : List ℕ) (d e : Decoder) (size m : ℕ) → Step s d e (text_words size) → d.limit ≡ Words m → Went d e 4
+text_went : (s : List ℕ) (d e : Decoder) (size m : ℕ) → Step s d e (text_words size) → d.limit ≡ Some m → Went d e 4
 text_went s d e size m t q =
     let w = step_went s d e (text_words size) t m q in
     record { pace = w.pace; forth = omega (arith, w.forth) }
 
 -- what breaks a string is what breaks its padding
-spotted_text : (s : List ℕ) (d : Decoder) (u n : Used) (x : Text) → GotText x ≡ text_from s d → Step s d x.next (text_words x.length)
+spotted_text : (s : List ℕ) (d : Decoder) (u n : Used) (x : Text) → Ok x ≡ text_from s d → Step s d x.next (text_words x.length)
     → n.breaks ≡ first_break u.breaks x.breaks → Spotted s d x.next u n (text (slice x.start (x.start + x.length) s) ∷ [])
 unfolding operand_size operand_break
 spotted_text s d u n x h t b =
@@ -385,7 +378,7 @@ spotted_text s d u n x h t b =
     ∙ ap (λ (i : ℕ). text_break d.offset i (drop d.offset s)) (sym size)))
 
 -- a string may be added
-pub may_copy : {s : List ℕ} {d : Decoder} {u : Used} {x : Text} → Few s d u → GotText x ≡ text_from s d
+pub may_copy : {s : List ℕ} {d : Decoder} {u : Used} {x : Text} → Few s d u → Ok x ≡ text_from s d
     → ((u.log ≤ 1000000000) × (u.operands ≤ 1000000000) × (u.strings ≤ 1000000000) × (x.length ≤ 1000000000) × (u.base ≤ 1000000000))
     × (x.start + x.length ≤ length s)
 may_copy {s} {d} {u} {x} f h =
@@ -394,10 +387,10 @@ may_copy {s} {d} {u} {x} f h =
     ((b.0, b.1, omega (arith, b.2), omega (arith, i, f.short), omega (arith, b.2)), omega (arith, i))
 
 -- a string was read
-pub text_parsed : (s l t l₁ t₁ : List ℕ) (d : Decoder) (u n : Used) (k : ℕ) (g : Grammar) (x : Text) → Few s d u → k ≡ 40 → GotText x ≡ text_from s d
+pub text_parsed : (s l t l₁ t₁ : List ℕ) (d : Decoder) (u n : Used) (k : ℕ) (g : Grammar) (x : Text) → Few s d u → k ≡ 40 → Ok x ≡ text_from s d
     → Copied x.length x.breaks u n → Laid l u.log (record_of (parts 40 (u.base + u.strings + 4294967296 * x.length))) l₁
     → Laid t u.strings (slice x.start (x.start + x.length) s) t₁
-    → Parses s d 4 (read_each g (k ∷ []) (reader_of s d)) l t l₁ t₁ u (Got x.next n)
+    → Parses s d 4 (read_each g (k ∷ []) (reader_of s d)) l t l₁ t₁ u (Ok (n, x.next))
 text_parsed s l t l₁ t₁ d u n k g x f z h p q r =
     let y = step_text s d u x h f in
     accept s d 4 _ l t l₁ t₁ u n x.next _ (text_good_lem s g k d z f.inside x h)
@@ -408,13 +401,13 @@ text_parsed s l t l₁ t₁ d u n k g x f z h p q r =
 -- LITERALS OF TWO WORDS
 
 -- two words
-pub step_long : (s : List ℕ) (d e : Decoder) (w : ℕ) → Long w e ≡ long_from s d → Step s d e 2
+pub step_long : (s : List ℕ) (d e : Decoder) (w : ℕ) → Ok (w, e) ≡ long_from s d → Step s d e 2
 step_long s d e w h =
     let g = long_got s d e w h in
     record { next = g.took.next; inside = omega (arith, g.inside, g.took.next); counted = g.took.counted }
 
 -- two words are one or more
-pub long_went : (s : List ℕ) (d e : Decoder) (m : ℕ) → Step s d e 2 → d.limit ≡ Words m → Went d e 4
+pub long_went : (s : List ℕ) (d e : Decoder) (m : ℕ) → Step s d e 2 → d.limit ≡ Some m → Went d e 4
 long_went s d e m t q = let w = step_went s d e 2 t m q in record { pace = w.pace; forth = omega (arith, w.forth) }
 
 -- a record of two words

@@ -7,8 +7,6 @@ use native.Mathlib.Omega.{arith}
 use borrow.Author.Tests.{eq-eqb, ne_eqb, eqb-true, eqb-false}
 use lib.Dec.{eqb}
 use lib.ListN.{length, drop, length-drop}
-use Rattle.spec.specs.declared.Limit.{Limit}
-use Rattle.spec.specs.declared.Limit.TheVariants.{Words}
 use Rattle.spec.specs.declared.Refusal.{Refusal}
 use Rattle.std.specs.Prelude.{if◌then◌else◌}
 use Rattle.spec.specs.Base.{has}
@@ -23,19 +21,17 @@ use Rattle.demands.proofs.Rows.{as_operands, Free, free_none, row_after}
 use Rattle.operand.proofs.LogLaws.{laid_nil}
 use Rattle.decoder.specs.declared.Decoder.{Decoder}
 use Rattle.decoder.specs.Answer.{reader_of, limit_reached}
-use Rattle.grammar.specs.declared.find.SlotAt.{SlotAt}
-use Rattle.grammar.specs.declared.find.SlotAt.TheVariants.{Slot as ASlot, End as NoSlot}
 use Rattle.grammar.specs.Find.{slots_then, slot_bytes}
 use Rattle.tracker.specs.Track.{literal_of}
 use Rattle.used.specs.declared.used.Used.{Used}
-use Rattle.used.specs.declared.used.Parsed.{Parsed}
-use Rattle.used.specs.declared.used.Parsed.TheVariants.{Got, Refused}
 use Rattle.used.specs.declared.used.Frame.{Frame}
 use Rattle.used.specs.Parse.{selector_of, notes_of, notes, no_notes, word_is, left_of, Went, Few, Spotted, slots_at, Walked, Walks, ResultFree, SlotRead, SlotWalk, SlotWalks}
 use Rattle.used.specs.Fresh.{unused, Fresh}
 use Rattle.untyped.specs.Body.{Framed, start_of, row_read}
 use Rattle.untyped.proofs.Carried.{row_leads}
 use Rattle.untyped.proofs.Walk.{went_nowhere, went_then, spotted_nothing, spotted_then}
+use Rattle.decoder.specs.Answer.{Answered}
+use Rattle.std.specs.Prelude.{Err, None, Ok, Option, Some}
 
 -- THE NEXT OPERAND
 
@@ -62,7 +58,7 @@ module _ (s : List ℕ) (g : Grammar) (types : List Entry) (d : Decoder) (x : Se
     next_read (suc n) h e = let i : suc n - 1 ≡ n = omega arith in rw i (simp e)
 
 -- a limit that is not reached has a word left
-pub left_some : (l : Limit) (n : ℕ) → l ≡ Words n → reached l ≡ false → 1 ≤ left_of l
+pub left_some : (l : Option ℕ) (n : ℕ) → l ≡ Some n → reached l ≡ false → 1 ≤ left_of l
 unfolding left_of
 left_some l n e h =
     let z : eqb n 0 ≡ false = rw e at h in
@@ -143,7 +139,7 @@ row_starts s g types log strs f u h q = record {
 }
 
 -- an answer of an operand, taken apart
-answer_told : (s : List ℕ) (d : Decoder) (k : ℕ) (f : Seen → Read Seen) (log₀ strs₀ log strs log₁ strs₁ : List ℕ) (u₀ u : Used) (x : Seen) (v z : Parsed)
+answer_told : (s : List ℕ) (d : Decoder) (k : ℕ) (f : Seen → Read Seen) (log₀ strs₀ log strs log₁ strs₁ : List ℕ) (u₀ u : Used) (x : Seen) (v z : Answered Used)
     → Walked log₀ strs₀ log strs u₀ u x → SlotWalks s d k f log strs log₁ strs₁ u v → v ≡ z → SlotWalk s d k x (f x) log₀ strs₀ log₁ strs₁ u₀ u z
 unfolding SlotWalks
 answer_told s d k f log₀ strs₀ log strs log₁ strs₁ u₀ u x v z w h q = rw q at (h log₀ strs₀ u₀ x w)
@@ -159,12 +155,12 @@ module _ {s : List ℕ} {g : Grammar} {types : List Entry} {x : Read Seen} {log�
   row_strings = r.walked.strings_laid.same
 
   -- a walk that ends here
-  row_good_lem : x ≡ got r.seen (reader_of s d) → Walks s d₀ 0 x log₀ strs₀ log strs u₀ (Got d u)
+  row_good_lem : x ≡ got r.seen (reader_of s d) → Walks s d₀ 0 x log₀ strs₀ log strs u₀ (Ok (u, d))
   unfolding Walks
   row_good_lem e = record { seen = r.seen; read = e; walked = r.walked; few = r.few; went = r.went; spotted = r.spotted }
 
   -- no operand is left
-  pub row_ends : ss ≡ [] → Walks s d₀ 0 x log₀ strs₀ log strs u₀ (Got d u)
+  pub row_ends : ss ≡ [] → Walks s d₀ 0 x log₀ strs₀ log strs u₀ (Ok (u, d))
   row_ends e = row_good_lem (r.whole ∙ end_read s g types d r.seen r.fuel ss e)
 
   module _ (j q : ℕ) (more : List Slot) (e : ss ≡ slot j q ∷ more) where
@@ -191,14 +187,14 @@ module _ {s : List ℕ} {g : Grammar} {types : List Entry} {x : Read Seen} {log�
       limit_is z h = sym p ∙ h
 
       -- with no word left, One is 6
-      pub row_missing : t ≡ true → q ≡ 0 → (v : Parsed) → v ≡ Refused (refusal 6 d.offset 0) d
+      pub row_missing : t ≡ true → q ≡ 0 → (v : Answered Used) → v ≡ Err (refusal 6 d.offset 0, d)
           → Walks s d₀ 0 x log₀ strs₀ log strs u₀ v
       unfolding Walks reader_of reader_at
       row_missing h z v w =
           rw w (row_is _ (spent_read s g types d r.seen j q more r.fuel (limit_is true h) ∙ simp (eq-eqb q 0 z)))
 
       -- and the others end the walk
-      pub row_spent : t ≡ true → (q ≡ 0 → ⊥) → Walks s d₀ 0 x log₀ strs₀ log strs u₀ (Got d u)
+      pub row_spent : t ≡ true → (q ≡ 0 → ⊥) → Walks s d₀ 0 x log₀ strs₀ log strs u₀ (Ok (u, d))
       row_spent h z = row_good_lem (row_is _ (spent_read s g types d r.seen j q more r.fuel (limit_is true h) ∙ simp (ne_eqb q 0 z)))
 
       module _ (h : t ≡ false) where
@@ -212,18 +208,18 @@ module _ {s : List ℕ} {g : Grammar} {types : List Entry} {x : Read Seen} {log�
             row_is _ (next_read s g types d r.seen j q more r.fuel fuel_some (limit_is false h)
             ∙ ap (λ (z : Read Seen). after z (λ o. read_row g types (r.fuel - 1) (slots_after j q more) o)) i)
 
-        module _ (log₁ strs₁ : List ℕ) (v : Parsed) (i : SlotWalks s d j (λ y. read_slot g types y j (reader_of s d)) log strs log₁ strs₁ u v) where
+        module _ (log₁ strs₁ : List ℕ) (v : Answered Used) (i : SlotWalks s d j (λ y. read_slot g types y j (reader_of s d)) log strs log₁ strs₁ u v) where
           -- it is refused
-          pub row_stops : (y : Refusal) (f : Decoder) → v ≡ Refused y f → Walks s d₀ 0 x log₀ strs₀ log₁ strs₁ u₀ v
+          pub row_stops : (y : Refusal) (f : Decoder) → v ≡ Err (y, f) → Walks s d₀ 0 x log₀ strs₀ log₁ strs₁ u₀ v
           unfolding Walks SlotWalk
           row_stops y f z =
-              rw z (then_is _ (answer_told s d j _ log₀ strs₀ log strs log₁ strs₁ u₀ u r.seen v (Refused y f) r.walked i z))
+              rw z (then_is _ (answer_told s d j _ log₀ strs₀ log strs log₁ strs₁ u₀ u r.seen v (Err (y, f)) r.walked i z))
 
-          module _ (f : Decoder) (n : Used) (z : v ≡ Got f n) where
+          module _ (f : Decoder) (n : Used) (z : v ≡ Ok (n, f)) where
             -- the next operand's read
             slot_is : SlotRead s d j r.seen (read_slot g types r.seen j (reader_of s d)) log₀ strs₀ log₁ strs₁ u₀ u f n
             unfolding SlotWalk
-            slot_is = answer_told s d j _ log₀ strs₀ log strs log₁ strs₁ u₀ u r.seen v (Got f n) r.walked i z
+            slot_is = answer_told s d j _ log₀ strs₀ log strs log₁ strs₁ u₀ u r.seen v (Ok (n, f)) r.walked i z
 
             -- it took a word or more
             pub row_less : left_of f.limit < left_of d.limit
@@ -270,19 +266,19 @@ pub slots_next : (g : List ℕ) (p j q n : ℕ) → slots_at g p ≡ slot j q �
     → slots_after j q (slots_at g (p + 3)) ≡ slots_at g n
 slots_next g p j q n e h = next_by g p j q e (eqb q 2) ∙ ap (slots_at g) (sym h)
 
-module _ (g : List ℕ) (p : ℕ) (v : SlotAt) (h : slots_of (items (drop p g)) ≡ slots_then v (slots_of (items (drop (p + 3) g)))) where
+module _ (g : List ℕ) (p : ℕ) (v : Option (ℕ × ℕ)) (h : slots_of (items (drop p g)) ≡ slots_then v (slots_of (items (drop (p + 3) g)))) where
   -- an operand stands there
-  pub slot_told : (k q : ℕ) → v ≡ ASlot k q → slots_at g p ≡ slot k q ∷ slots_at g (p + 3)
+  pub slot_told : (k q : ℕ) → v ≡ Some (k, q) → slots_at g p ≡ slot k q ∷ slots_at g (p + 3)
   unfolding slots_at slots_then
   slot_told k q e = rw e at h
 
   -- none does
-  pub end_told : v ≡ NoSlot → slots_at g p ≡ []
+  pub end_told : v ≡ None → slots_at g p ≡ []
   unfolding slots_at slots_then
   end_told e = rw e at h
 
 -- it has three bytes
-pub three_told : (n : ℕ) (v : SlotAt) (k q : ℕ) → slot_bytes v ≤ n → v ≡ ASlot k q → 3 ≤ n
+pub three_told : (n : ℕ) (v : Option (ℕ × ℕ)) (k q : ℕ) → slot_bytes v ≤ n → v ≡ Some (k, q) → 3 ≤ n
 unfolding slot_bytes
 three_told n v k q h e = rw e at h
 

@@ -17,18 +17,17 @@ use Rattle.spec.specs.Reader.{Reader, Read, refused, after, give, read_word}
 use Rattle.spec.specs.Grammar.{Grammar}
 use Rattle.spec.specs.Match.{Seen, selector, with_type, with_id, with_operands, read_each, literal_kind_of, type_of, read_literal_as, read_literal, read_embedded, read_operand, read_pair, read_kind, read_slot}
 use Rattle.decoder.specs.declared.Decoder.{Decoder}
-use Rattle.decoder.specs.declared.WordRead.TheVariants.{Got as Word, Refused as NoWord}
 use Rattle.decoder.specs.Answer.{reader_of, word_from}
 use Rattle.decoder.proofs.Laws.{word_got, word_refused}
 use Rattle.tracker.specs.Track.{literal_of}
 use Rattle.used.specs.declared.used.Used.{Used}
-use Rattle.used.specs.declared.used.Parsed.{Parsed}
-use Rattle.used.specs.declared.used.Parsed.TheVariants.{Got, Refused}
 use Rattle.used.specs.Parse.{Notes, selector_of, notes_of, note_as, note, notes, no_notes, Step, Few, Held, Parses, word_is, is_word, is_untyped, kind_is, literal_for, literal_alone, pair_alone, kind_alone, Walked, SlotRead, SlotWalk, SlotWalks}
 use Rattle.used.specs.Fresh.{unused, with_results, with_result}
 use Rattle.untyped.proofs.KindLaws.{not_kind, word_no_enum, number_word, number_untyped, result_else}
 use Rattle.untyped.proofs.One.{step_word, spotted_id}
 use Rattle.untyped.proofs.Walk.{held_then, step_went, same_read}
+use Rattle.decoder.specs.Answer.{Answered}
+use Rattle.std.specs.Prelude.{Err, Ok}
 
 -- KINDS
 
@@ -199,10 +198,10 @@ module _ {log₀ strs₀ log strs : List ℕ} {u₀ u : Used} {x : Seen} (w : Wa
           (kind_by_lem g types j l (reader_of s d) f (eqb j 48) (eqb j 49) refl refl ∙ e))
 
       -- an operand that is no result
-      slot_more : (log₁ strs₁ : List ℕ) (v : Parsed) → Parses s d 4 (kind_alone g (kind_is l) j (reader_of s d)) log strs log₁ strs₁ u v
+      slot_more : (log₁ strs₁ : List ℕ) (v : Answered Used) → Parses s d 4 (kind_alone g (kind_is l) j (reader_of s d)) log strs log₁ strs₁ u v
           → SlotWalk s d j x (read_slot g types x j (reader_of s d)) log₀ strs₀ log₁ strs₁ u₀ u v
       unfolding Parses SlotWalk
-      slot_more log₁ strs₁ (Got e n) p = record {
+      slot_more log₁ strs₁ (Ok (n, e)) p = record {
         seen = with_operands x p.operands;
         read = more_by _ p.read;
         walked = walked_more p.held;
@@ -213,7 +212,7 @@ module _ {log₀ strs₀ log strs : List ℕ} {u₀ u : Used} {x : Seen} (w : Wa
         adds = λ free. sym (append_assoc (as_ids x.result_type ++ as_ids x.result_id) x.operands p.operands);
         others = λ e. absurd (not_kind (λ i. not (is_result i)) j 46 (ap not h) refl (eqb-true j 46 e));
       }
-      slot_more log₁ strs₁ (Refused y e) p = more_by _ p
+      slot_more log₁ strs₁ (Err (y, e)) p = more_by _ p
 
     module _ (h : is_result j ≡ true) where
       -- a result is a word
@@ -226,7 +225,7 @@ module _ {log₀ strs₀ log strs : List ℕ} {u₀ u : Used} {x : Seen} (w : Wa
           (ap (λ (m : Read ℕ). after m (λ v. give (with_id x v))) e)
 
       -- a result
-      slot_result : (v n : ℕ) → word_is n ≡ Some v → (e : Decoder) → Word v e ≡ word_from s d → Few s d u → (t : Bool) → eqb j 46 ≡ t
+      slot_result : (v n : ℕ) → word_is n ≡ Some v → (e : Decoder) → Ok (v, e) ≡ word_from s d → Few s d u → (t : Bool) → eqb j 46 ≡ t
           → SlotRead s d j x (read_slot g types x j (reader_of s d)) log₀ strs₀ log strs u₀ u e (if t then with_results n u.rid u else with_results u.rtype n u)
       unfolding with_results
       slot_result v n i e p f true q = record {
@@ -253,24 +252,24 @@ module _ {log₀ strs₀ log strs : List ℕ} {u₀ u : Used} {x : Seen} (w : Wa
       }
 
       -- no result
-      slot_none : (y : Refusal) (e : Decoder) → NoWord y e ≡ word_from s d → read_slot g types x j (reader_of s d) ≡ refused y (reader_of s e)
+      slot_none : (y : Refusal) (e : Decoder) → Err (y, e) ≡ word_from s d → read_slot g types x j (reader_of s d) ≡ refused y (reader_of s e)
       slot_none y e p = result_by _ (word_refused s d e y p) (eqb j 46) refl
 
 module _ (s : List ℕ) (g : Grammar) (j l : ℕ) (d : Decoder) (log strs : List ℕ) (u : Used) (t : Bool) (p : t ≡ is_result j) (types : List Entry)
     (f : kind_is l ≡ literal_for types u j) where
   -- the walk goes on with a result
-  pub walks_result : t ≡ true → Few s d u → (v : ℕ) (e : Decoder) → Word v e ≡ word_from s d → (i : ℕ) → word_is i ≡ Some v → (n : Used) → n ≡ with_result j i u
-      → SlotWalks s d j (λ x. read_slot g types x j (reader_of s d)) log strs log strs u (Got e n)
+  pub walks_result : t ≡ true → Few s d u → (v : ℕ) (e : Decoder) → Ok (v, e) ≡ word_from s d → (i : ℕ) → word_is i ≡ Some v → (n : Used) → n ≡ with_result j i u
+      → SlotWalks s d j (λ x. read_slot g types x j (reader_of s d)) log strs log strs u (Ok (n, e))
   unfolding SlotWalks SlotWalk with_result
   walks_result q m v e h i o n z log₀ strs₀ u₀ x w = rw z (slot_result w s g types j d (sym p ∙ q) v i o e h m (eqb j 46) refl)
 
   -- it ends without the word of a result
-  pub walks_none : t ≡ true → (y : Refusal) (e : Decoder) → NoWord y e ≡ word_from s d
-      → SlotWalks s d j (λ x. read_slot g types x j (reader_of s d)) log strs log strs u (Refused y e)
+  pub walks_none : t ≡ true → (y : Refusal) (e : Decoder) → Err (y, e) ≡ word_from s d
+      → SlotWalks s d j (λ x. read_slot g types x j (reader_of s d)) log strs log strs u (Err (y, e))
   unfolding SlotWalks SlotWalk
   walks_none q y e h log₀ strs₀ u₀ x w = slot_none w s g types j d (sym p ∙ q) y e h
 
-  module _ (q : t ≡ false) (log₁ strs₁ : List ℕ) (v : Parsed) where
+  module _ (q : t ≡ false) (log₁ strs₁ : List ℕ) (v : Answered Used) where
     -- it goes on with operands, or ends where they are refused
     pub walks_more : Parses s d 4 (kind_alone g (kind_is l) j (reader_of s d)) log strs log₁ strs₁ u v
         → SlotWalks s d j (λ x. read_slot g types x j (reader_of s d)) log strs log₁ strs₁ u v

@@ -8,8 +8,6 @@ use native.Mathlib.Omega.{arith}
 use borrow.Author.Tests.{eq-eqb, ne_eqb}
 use lib.Dec.{eqb}
 use lib.ListN.{length, drop, drop_of_length-le}
-use Rattle.spec.specs.declared.Found.{Found}
-use Rattle.spec.specs.declared.Found.TheVariants.{At, Nothing}
 use Rattle.spec.specs.declared.Refusal.{Refusal}
 use Rattle.std.specs.Prelude.{if◌then◌else◌}
 use Rattle.spec.specs.Base.{every}
@@ -21,15 +19,13 @@ use Rattle.spec.specs.Grammar.{Grammar, Enumerant, grammar_of, items, items_from
 use Rattle.spec.specs.Match.{Known, with_parameters, parts_of, read_enumerant, read_each, read_operand}
 use Rattle.decoder.specs.declared.Decoder.{Decoder}
 use Rattle.decoder.specs.Answer.{reader_of}
-use Rattle.grammar.specs.declared.find.ParameterAt.{ParameterAt}
-use Rattle.grammar.specs.declared.find.ParameterAt.TheVariants.{Parameter as AParameter, End as NoParameter}
 use Rattle.grammar.specs.Find.{place_found, parameters_found, parameters_then, parameter_bytes}
 use Rattle.used.specs.declared.used.Used.{Used}
-use Rattle.used.specs.declared.used.Parsed.{Parsed}
-use Rattle.used.specs.declared.used.Parsed.TheVariants.{Got, Refused}
 use Rattle.used.specs.Parse.{Went, Few, Held, Spotted, Accepted, Parses, prefix, is_single, or_none, bit_parameters, parameters_are, if_set, parameters_at}
 use Rattle.untyped.specs.Enums.{KnownAs}
 use Rattle.untyped.proofs.Walk.{prefix_prefix, prefix_nil, cons_prefix, each_cons, went_nowhere, went_then, held_then, held_nothing, spotted_nothing, spotted_then, seq, first_done, first_bad}
+use Rattle.decoder.specs.Answer.{Answered}
+use Rattle.std.specs.Prelude.{Err, Ok}
 
 -- SOME KINDS, THEN OTHERS
 
@@ -88,7 +84,7 @@ begins s log strs d c rest f = record {
 module _ {s : List ℕ} {x : Read (List Operand)} {log₀ strs₀ log strs : List ℕ} {c₀ : Used} {d₀ d : Decoder} {c : Used} {rest : Parse (List Operand)}
     (r : Running s x log₀ strs₀ log strs c₀ d₀ d c rest) where
   -- nothing left
-  pub ends : rest (reader_of s d) ≡ got [] (reader_of s d) → Parses s d₀ 0 x log₀ strs₀ log strs c₀ (Got d c)
+  pub ends : rest (reader_of s d) ≡ got [] (reader_of s d) → Parses s d₀ 0 x log₀ strs₀ log strs c₀ (Ok (c, d))
   unfolding Parses prefix
   ends e = record {
     operands = r.acc;
@@ -113,8 +109,8 @@ module _ {s : List ℕ} {x : Read (List Operand)} {log₀ strs₀ log strs : Lis
     }
 
     -- they are refused
-    pub stops : (log₁ strs₁ : List ℕ) (m : ℕ) (v : Parsed) (z : Refusal) (f : Decoder)
-        → Parses s d m y log strs log₁ strs₁ c v → v ≡ Refused z f → Parses s d₀ 0 x log₀ strs₀ log₁ strs₁ c₀ v
+    pub stops : (log₁ strs₁ : List ℕ) (m : ℕ) (v : Answered Used) (z : Refusal) (f : Decoder)
+        → Parses s d m y log strs log₁ strs₁ c v → v ≡ Err (z, f) → Parses s d₀ 0 x log₀ strs₀ log₁ strs₁ c₀ v
     stops log₁ strs₁ m v z f h q =
         seq r.held s m log₁ strs₁ x _ r.went r.spotted r.whole v (first_bad _ y b e s d m log strs log₁ strs₁ c v z f h q)
 
@@ -129,25 +125,25 @@ each_next g ks a b r e = same_each g ks (a ++ b) r e ∙ each_append g a b r
 
 -- no kinds at all
 pub nothing : (s : List ℕ) (g : Grammar) (log strs : List ℕ) (d : Decoder) (c : Used) (rest : List ℕ) → Few s d c → rest ≡ []
-    → Parses s d 0 (read_each g rest (reader_of s d)) log strs log strs c (Got d c)
+    → Parses s d 0 (read_each g rest (reader_of s d)) log strs log strs c (Ok (c, d))
 nothing s g log strs d c rest f e = ends (begins s log strs d c (read_each g rest) f) (each_none g rest (reader_of s d) e)
 
 -- PARAMETERS
 
 -- a parameter stands there
-pub kind_told : (g : List ℕ) (p : ℕ) (v : ParameterAt) (j : ℕ) → parameters_of (items (drop p g)) ≡ parameters_then v (parameters_of (items (drop (p + 2) g)))
-    → v ≡ AParameter j → parameters_at g p ≡ (j ∷ []) ++ parameters_at g (p + 2)
+pub kind_told : (g : List ℕ) (p : ℕ) (v : Option ℕ) (j : ℕ) → parameters_of (items (drop p g)) ≡ parameters_then v (parameters_of (items (drop (p + 2) g)))
+    → v ≡ Some j → parameters_at g p ≡ (j ∷ []) ++ parameters_at g (p + 2)
 unfolding parameters_at parameters_then
 kind_told g p v j h e = rw e at h
 
 -- none does
-pub none_told : (g : List ℕ) (p : ℕ) (v : ParameterAt) → parameters_of (items (drop p g)) ≡ parameters_then v (parameters_of (items (drop (p + 2) g)))
-    → v ≡ NoParameter → parameters_at g p ≡ []
+pub none_told : (g : List ℕ) (p : ℕ) (v : Option ℕ) → parameters_of (items (drop p g)) ≡ parameters_then v (parameters_of (items (drop (p + 2) g)))
+    → v ≡ None → parameters_at g p ≡ []
 unfolding parameters_at parameters_then
 none_told g p v h e = rw e at h
 
 -- it has two bytes
-pub bytes_told : (n : ℕ) (v : ParameterAt) (j : ℕ) → parameter_bytes v ≤ n → v ≡ AParameter j → 2 ≤ n
+pub bytes_told : (n : ℕ) (v : Option ℕ) (j : ℕ) → parameter_bytes v ≤ n → v ≡ Some j → 2 ≤ n
 unfolding parameter_bytes
 bytes_told n v j h e = rw e at h
 
@@ -161,17 +157,17 @@ pub single_first : (ks js : List ℕ) (j : ℕ) → every is_single ks ≡ true 
 single_first ks js j h e = (and-eq-true_iff (is_single j) (every is_single js)).0 (rw e at h)
 
 -- the parameters of an enumerant that was found
-pub found_at : (g : List ℕ) (f : Found) (p : ℕ) (o : Option (List ℕ)) → parameters_found g f ≡ o → f ≡ At p → or_none o ≡ parameters_at g p
+pub found_at : (g : List ℕ) (f : Option ℕ) (p : ℕ) (o : Option (List ℕ)) → parameters_found g f ≡ o → f ≡ Some p → or_none o ≡ parameters_at g p
 unfolding parameters_found or_none parameters_at
 found_at g f p o h e = rw e at (ap or_none (sym h))
 
 -- of one that was not
-pub found_none : (g : List ℕ) (f : Found) (o : Option (List ℕ)) → parameters_found g f ≡ o → f ≡ Nothing → or_none o ≡ []
+pub found_none : (g : List ℕ) (f : Option ℕ) (o : Option (List ℕ)) → parameters_found g f ≡ o → f ≡ None → or_none o ≡ []
 unfolding parameters_found or_none
 found_none g f o h e = rw e at (ap or_none (sym h))
 
 -- where it was found
-pub place_told : (f : Found) (p n : ℕ) → place_found f ≤ n → f ≡ At p → p ≤ n
+pub place_told : (f : Option ℕ) (p n : ℕ) → place_found f ≤ n → f ≡ Some p → p ≤ n
 unfolding place_found
 place_told f p n h e = rw e at h
 
@@ -286,8 +282,8 @@ module _ {s : List ℕ} {x : Read (List Operand)} {log₀ strs₀ log strs : Lis
   }
 
   -- they are refused
-  pub bit_stops : (log₁ strs₁ : List ℕ) (m : ℕ) (p : Parsed) (z : Refusal) (f : Decoder)
-      → Parses s d m (read_each g (if_set k b v g.enumerants) (reader_of s d)) log strs log₁ strs₁ c p → p ≡ Refused z f
+  pub bit_stops : (log₁ strs₁ : List ℕ) (m : ℕ) (p : Answered Used) (z : Refusal) (f : Decoder)
+      → Parses s d m (read_each g (if_set k b v g.enumerants) (reader_of s d)) log strs log₁ strs₁ c p → p ≡ Err (z, f)
       → Parses s d₀ 0 x log₀ strs₀ log₁ strs₁ c₀ p
   bit_stops = stops r.running _ _ bit_first
 

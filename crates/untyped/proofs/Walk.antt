@@ -6,7 +6,6 @@ use native.Mathlib.Omega.{arith}
 use native.Mathlib.Nat.{add-zero}
 use lib.ListN.{length, drop, length-append}
 use lib.Seq.{drop-drop}
-use Rattle.spec.specs.declared.Limit.TheVariants.{Words}
 use Rattle.spec.specs.declared.Refusal.{Refusal}
 use Rattle.spec.specs.Records.{Operand, operand_size, operands_size, operand_log, operands_log, operand_string, operands_strings}
 use Rattle.spec.specs.Plain.{first_break, operand_break, operands_break}
@@ -19,9 +18,9 @@ use Rattle.operand.proofs.LogLaws.{laid_append, laid_nil}
 use Rattle.decoder.specs.declared.Decoder.{Decoder}
 use Rattle.decoder.specs.Answer.{reader_of}
 use Rattle.used.specs.declared.used.Used.{Used}
-use Rattle.used.specs.declared.used.Parsed.{Parsed}
-use Rattle.used.specs.declared.used.Parsed.TheVariants.{Got, Refused}
 use Rattle.used.specs.Parse.{Notes, notes_of, notes, note, FirstFits, Step, left_of, Went, Few, Held, Spotted, Accepted, Parses, prefix}
+use Rattle.decoder.specs.Answer.{Answered}
+use Rattle.std.specs.Prelude.{Err, Ok, Some}
 
 -- RUNS OF OPERANDS
 
@@ -99,7 +98,7 @@ pub went_less : {d e : Decoder} {m : ℕ} → Went d e m → Went d e 0
 went_less w = record { pace = w.pace; forth = omega (arith, w.forth) }
 
 -- words that a limit had
-pub step_went : (s : List ℕ) (d e : Decoder) (n : ℕ) → Step s d e n → (m : ℕ) → d.limit ≡ Words m → Went d e (4 * n)
+pub step_went : (s : List ℕ) (d e : Decoder) (n : ℕ) → Step s d e n → (m : ℕ) → d.limit ≡ Some m → Went d e (4 * n)
 unfolding left_of
 step_went s d e n t m q =
     let x = t.counted m q in
@@ -204,9 +203,9 @@ held_nothing log strs c = record {
 module _ {log₀ strs₀ log strs : List ℕ} {c n : Used} {a : List Operand} (h : Held log₀ strs₀ log strs c n a) where
   -- a read after what is held
   pub seq : (s : List ℕ) {d e₁ : Decoder} {i : ℕ} (j : ℕ) (log₁ strs₁ : List ℕ) (x z : Read (List Operand)) → Went d e₁ i
-      → Spotted s d e₁ c n a → x ≡ prefix a z → (v : Parsed) → Parses s e₁ j z log strs log₁ strs₁ n v → Parses s d i x log₀ strs₀ log₁ strs₁ c v
+      → Spotted s d e₁ c n a → x ≡ prefix a z → (v : Answered Used) → Parses s e₁ j z log strs log₁ strs₁ n v → Parses s d i x log₀ strs₀ log₁ strs₁ c v
   unfolding Parses prefix
-  seq s j log₁ strs₁ x z w b e (Got d p) r = record {
+  seq s j log₁ strs₁ x z w b e (Ok (p, d)) r = record {
     operands = a ++ r.operands;
     read = e ∙ ap (prefix a) r.read;
     held = held_then h r.held;
@@ -214,30 +213,30 @@ module _ {log₀ strs₀ log strs : List ℕ} {c n : Used} {a : List Operand} (h
     went = went_then w r.went;
     spotted = spotted_then b r.spotted;
   }
-  seq s j log₁ strs₁ x z w b e (Refused y d) r = e ∙ ap (prefix a) r
+  seq s j log₁ strs₁ x z w b e (Err (y, d)) r = e ∙ ap (prefix a) r
 
 -- ANSWERS
 
 -- an answer that is good
-pub good_told : {s : List ℕ} {d : Decoder} {m : ℕ} {x : Read (List Operand)} {l₀ t₀ l t : List ℕ} {c : Used} (v : Parsed) (e : Decoder) (n : Used)
-    → Parses s d m x l₀ t₀ l t c v → v ≡ Got e n → Accepted s d m x l₀ t₀ l t c e n
+pub good_told : {s : List ℕ} {d : Decoder} {m : ℕ} {x : Read (List Operand)} {l₀ t₀ l t : List ℕ} {c : Used} (v : Answered Used) (e : Decoder) (n : Used)
+    → Parses s d m x l₀ t₀ l t c v → v ≡ Ok (n, e) → Accepted s d m x l₀ t₀ l t c e n
 unfolding Parses
 good_told v e n h q = rw q at h
 
 -- the read that is meant
-pub same_read : (s : List ℕ) (d : Decoder) (m : ℕ) (x z : Read (List Operand)) (l₀ t₀ l t : List ℕ) (c : Used) (v : Parsed)
+pub same_read : (s : List ℕ) (d : Decoder) (m : ℕ) (x z : Read (List Operand)) (l₀ t₀ l t : List ℕ) (c : Used) (v : Answered Used)
     → x ≡ z → Parses s d m z l₀ t₀ l t c v → Parses s d m x l₀ t₀ l t c v
 same_read s d m x z l₀ t₀ l t c v e h = rw e h
 
 -- a refusal
-pub deny : (s : List ℕ) (d : Decoder) (m : ℕ) (x : Read (List Operand)) (l₀ t₀ l t : List ℕ) (c : Used) (v : Parsed) (y : Refusal) (e : Decoder)
-    → v ≡ Refused y e → x ≡ refused y (reader_of s e) → Parses s d m x l₀ t₀ l t c v
+pub deny : (s : List ℕ) (d : Decoder) (m : ℕ) (x : Read (List Operand)) (l₀ t₀ l t : List ℕ) (c : Used) (v : Answered Used) (y : Refusal) (e : Decoder)
+    → v ≡ Err (y, e) → x ≡ refused y (reader_of s e) → Parses s d m x l₀ t₀ l t c v
 unfolding Parses
 deny s d m x l₀ t₀ l t c v y e q h = rw q h
 
 -- operands
 pub accept : (s : List ℕ) (d : Decoder) (m : ℕ) (x : Read (List Operand)) (l t l₁ t₁ : List ℕ) (c n : Used) (e : Decoder) (os : List Operand)
-    → x ≡ got os (reader_of s e) → Held l t l₁ t₁ c n os → Few s e n → Went d e m → Spotted s d e c n os → Parses s d m x l t l₁ t₁ c (Got e n)
+    → x ≡ got os (reader_of s e) → Held l t l₁ t₁ c n os → Few s e n → Went d e m → Spotted s d e c n os → Parses s d m x l t l₁ t₁ c (Ok (n, e))
 unfolding Parses
 accept s d m x l t l₁ t₁ c n e os q h f w b = record { operands = os; read = q; held = h; few = f; went = w; spotted = b }
 
@@ -249,8 +248,8 @@ module _ (x y : Read (List Operand)) (f : Parse (List Operand)) (e : x ≡ after
   first_done os q h = e ∙ ap (λ (z : Read (List Operand)). after z (λ ps u. prefix ps (f u))) h
 
   -- a refusal of the first is that of both
-  pub first_bad : (s : List ℕ) (d : Decoder) (m : ℕ) (l₀ t₀ l t : List ℕ) (c : Used) (v : Parsed) (z : Refusal) (g : Decoder)
-      → Parses s d m y l₀ t₀ l t c v → v ≡ Refused z g → Parses s d m x l₀ t₀ l t c v
+  pub first_bad : (s : List ℕ) (d : Decoder) (m : ℕ) (l₀ t₀ l t : List ℕ) (c : Used) (v : Answered Used) (z : Refusal) (g : Decoder)
+      → Parses s d m y l₀ t₀ l t c v → v ≡ Err (z, g) → Parses s d m x l₀ t₀ l t c v
   unfolding Parses
   first_bad s d m l₀ t₀ l t c v z g h q =
       let b : y ≡ refused z (reader_of s g) = (rw q at h) in

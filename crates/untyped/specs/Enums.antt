@@ -8,8 +8,8 @@ use Rattle.spec.specs.Match.{known, read_enumerant}
 use Rattle.decoder.specs.declared.Decoder.{Decoder}
 use Rattle.decoder.specs.Answer.{reader_of}
 use Rattle.used.specs.Parse.{Step, parameters_at}
-use Rattle.untyped.specs.declared.EnumRead.{EnumRead}
-use Rattle.untyped.specs.declared.EnumRead.TheVariants.{Got as Value, Refused as NoValue}
+use Rattle.decoder.specs.Answer.{Answered}
+use Rattle.std.specs.Prelude.{Err, Ok}
 
 -- a value that is known, with its parameters' kinds, which start at a place of the grammar unless it is a mask
 pub record KnownAs (s g : List ℕ) (k : ℕ) (d : Decoder) (v p : ℕ) (e : Decoder) : Type 0 where
@@ -21,6 +21,6 @@ pub record KnownAs (s g : List ℕ) (k : ℕ) (d : Decoder) (v p : ℕ) (e : Dec
   pub place : is_mask k ≡ false → parameters_at g p ≡ parameters
 
 -- what the read of an enumerant answers
-unfoldable pub EnumIs : List ℕ → List ℕ → ℕ → Decoder → EnumRead → Type 0
-EnumIs s g k d (Value v p e) = KnownAs s g k d v p e
-EnumIs s g k d (NoValue y e) = read_enumerant (grammar_of g) k (reader_of s d) ≡ refused y (reader_of s e)
+unfoldable pub EnumIs : List ℕ → List ℕ → ℕ → Decoder → Answered (ℕ × ℕ) → Type 0
+EnumIs s g k d (Ok ((v, p), e)) = KnownAs s g k d v p e
+EnumIs s g k d (Err (y, e)) = read_enumerant (grammar_of g) k (reader_of s d) ≡ refused y (reader_of s e)

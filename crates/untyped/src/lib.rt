@@ -13,32 +13,24 @@ ghost use Rattle.grammar.specs.Index.{Indexed};
 ghost use Rattle.untyped.specs.Enums.{EnumIs};
 ghost use Rattle.used.specs.Parse.{Few, Parses, is_single, is_word, is_untyped, or_none, if_set, bit_parameters, parameters_are, parameters_at};
 
-use decoder::{Decoder, TextRead, WordRead};
-use grammar::ParameterAt;
-use spec::{Found, Refusal, kinds, refusals};
-use used::{Parsed, Used, push, push_text};
-
-// A value that is known, and where its parameters start unless it is a mask, or a refusal; each with the decoder after it.
-#[derive(Clone, Copy)]
-pub enum EnumRead {
-    Got(u32, usize, Decoder),
-    Refused(Refusal, Decoder),
-}
+use decoder::{Answer, Decoder};
+use spec::{Refusal, kinds, refusals};
+use used::{Used, push, push_text};
 
 // A refusal with a value.
-fn no_enumerant(number: u32, place: usize, value: u32, d: Decoder) -> EnumRead
-    ensures { result ≡ EnumRead.Refused (refusal number place value) d }
+fn no_enumerant(number: u32, place: usize, value: u32, d: Decoder) -> Answer<(u32, usize)>
+    ensures { result ≡ Err (refusal number place value, d) }
 {
     let refusal = Refusal {
         number,
         place,
         value,
     };
-    EnumRead::Refused(refusal, d)
+    Err((refusal, d))
 }
 
 // An enumerant's word: 9 on a spent limit, 10 where the value is not known.
-fn read_enumerant(d: Decoder, s: &[u8], g: &[u8], index: &[u16], kind: u8) -> EnumRead
+fn read_enumerant(d: Decoder, s: &[u8], g: &[u8], index: &[u16], kind: u8) -> Answer<(u32, usize)>
     requires { Indexed g.now index.now }
     ensures { EnumIs s.now g.now kind d result }
 {
@@ -48,32 +40,32 @@ fn read_enumerant(d: Decoder, s: &[u8], g: &[u8], index: &[u16], kind: u8) -> En
     }
     let w = d.word(s);
     match w {
-        WordRead::Refused(x, e) => EnumRead::Refused(x, e),
-        WordRead::Got(v, e) => {
+        Err((x, e)) => Err((x, e)),
+        Ok((v, e)) => {
             if grammar::is_mask(kind) {
                 if grammar::is_known(g, index, kind, v) {
-                    return EnumRead::Got(v, g.len(), e);
+                    return Ok(((v, g.len()), e));
                 }
                 return no_enumerant(refusals::ENUMERANT_UNKNOWN, at, v, e);
             }
             let found = grammar::find_enumerant(g, index, kind, v);
-            let Found::At(place) = found else {
+            let Some(place) = found else {
                 return no_enumerant(refusals::ENUMERANT_UNKNOWN, at, v, e);
             };
-            EnumRead::Got(v, place, e)
+            Ok(((v, place), e))
         }
     }
 }
 
 // One record of a word.
-pub fn read_word(d: Decoder, s: &[u8], kind: u8, log: &mut [u8], u: Used) -> Parsed
+pub fn read_word(d: Decoder, s: &[u8], kind: u8, log: &mut [u8], u: Used) -> Answer<Used>
     requires { Few s.now d u × (is_word kind ≡ true) }
     ensures { (g : Grammar) (t : List ℕ) → Parses s.now d 4 (read_each g (kind ∷ []) (reader_of s.now d)) log.old t log.new t u result }
 {
     let w = d.word(s);
     match w {
-        WordRead::Refused(x, e) => Parsed::Refused(x, e),
-        WordRead::Got(v, e) => Parsed::Got(e, push(log, kind, v as u64, u)),
+        Err((x, e)) => Err((x, e)),
+        Ok((v, e)) => Ok((push(log, kind, v as u64, u), e)),
     }
 }
 
@@ -87,7 +79,7 @@ pub fn read_one(
     log: &mut [u8],
     strings: &mut [u8],
     u: Used,
-) -> Parsed
+) -> Answer<Used>
     requires indexed { Indexed g.now index.now }
     requires few { Few s.now d u × (is_single kind ≡ true) }
     ensures { Parses s.now d 4 (read_each (grammar_of g.now) (kind ∷ []) (reader_of s.now d)) log.old strings.old log.new strings.new u result }
@@ -95,18 +87,18 @@ pub fn read_one(
     if grammar::is_enum(kind) {
         let r = read_enumerant(d, s, g, index, kind);
         match r {
-            EnumRead::Refused(x, e) => Parsed::Refused(x, e),
-            EnumRead::Got(v, _, e) => Parsed::Got(e, push(log, kind, v as u64, u)),
+            Err((x, e)) => Err((x, e)),
+            Ok(((v, _), e)) => Ok((push(log, kind, v as u64, u), e)),
         }
     } else {
         if kind == kinds::STRING {
             let t = d.string(s);
             match t {
-                TextRead::Refused(x, e) => Parsed::Refused(x, e),
-                TextRead::Got(x) => {
+                Err((x, e)) => Err((x, e)),
+                Ok(x) => {
                     let e = x.next;
                     let n = push_text(log, strings, s, x.start, x.length, x.breaks, u);
-                    Parsed::Got(e, n)
+                    Ok((n, e))
                 }
             }
         } else {
@@ -125,7 +117,7 @@ pub fn parse_parameters(
     log: &mut [u8],
     strings: &mut [u8],
     used: Used,
-) -> Parsed
+) -> Answer<Used>
     requires indexed { Indexed g.now index.now }
     requires few { Few s.now start used × (place ≤ length g.now) × (every is_single (parameters_at g.now place) ≡ true) }
     ensures { Parses s.now start 0 (read_each (grammar_of g.now) (parameters_at g.now place) (reader_of s.now start)) log.old strings.old log.new strings.new used result }
@@ -135,18 +127,18 @@ pub fn parse_parameters(
     let mut p = place;
     while p < g.len() {
         let x = grammar::parameter_at(g, p);
-        let ParameterAt::Parameter(k) = x else {
-            return Parsed::Got(d, u);
+        let Some(k) = x else {
+            return Ok((u, d));
         };
         let r = read_one(d, s, g, index, k, log, strings, u);
-        let Parsed::Got(e, n) = r else {
+        let Ok((n, e)) = r else {
             return r;
         };
         d = e;
         u = n;
         p += 2;
     }
-    Parsed::Got(d, u)
+    Ok((u, d))
 }
 
 // The parameters of the enumerant of a kind and a value: none where it is not listed.
@@ -160,14 +152,14 @@ fn parse_listed(
     log: &mut [u8],
     strings: &mut [u8],
     u: Used,
-) -> Parsed
+) -> Answer<Used>
     requires indexed { Indexed g.now index.now }
     requires few { Few s.now d u }
     ensures { Parses s.now d 0 (read_each (grammar_of g.now) (or_none (listed kind value (grammar_of g.now).enumerants)) (reader_of s.now d)) log.old strings.old log.new strings.new u result }
 {
     let found = grammar::find_enumerant(g, index, kind, value);
-    let Found::At(p) = found else {
-        return Parsed::Got(d, u);
+    let Some(p) = found else {
+        return Ok((u, d));
     };
     parse_parameters(d, s, g, index, p, log, strings, u)
 }
@@ -184,13 +176,13 @@ fn parse_bit(
     log: &mut [u8],
     strings: &mut [u8],
     u: Used,
-) -> Parsed
+) -> Answer<Used>
     requires indexed { Indexed g.now index.now }
     requires few { Few s.now d u }
     ensures { Parses s.now d 0 (read_each (grammar_of g.now) (if_set kind bit rest (grammar_of g.now).enumerants) (reader_of s.now d)) log.old strings.old log.new strings.new u result }
 {
     if rest % 2 != 1 {
-        return Parsed::Got(d, u);
+        return Ok((u, d));
     }
     parse_listed(d, s, g, index, kind, bit, log, strings, u)
 }
@@ -206,7 +198,7 @@ fn parse_bits(
     log: &mut [u8],
     strings: &mut [u8],
     used: Used,
-) -> Parsed
+) -> Answer<Used>
     requires indexed { Indexed g.now index.now }
     requires few { Few s.now start used }
     ensures { Parses s.now start 0 (read_each (grammar_of g.now) (bit_parameters kind (grammar_of g.now).enumerants (bits_of value)) (reader_of s.now start)) log.old strings.old log.new strings.new used result }
@@ -217,7 +209,7 @@ fn parse_bits(
     let mut bit: u64 = 1;
     while rest != 0 {
         let r = parse_bit(d, s, g, index, kind, bit as u32, rest, log, strings, u);
-        let Parsed::Got(e, n) = r else {
+        let Ok((n, e)) = r else {
             return r;
         };
         d = e;
@@ -225,7 +217,7 @@ fn parse_bits(
         rest = rest / 2;
         bit = 2 * bit;
     }
-    Parsed::Got(d, u)
+    Ok((u, d))
 }
 
 // The parameters of a value, which start at a place unless it is a mask.
@@ -240,7 +232,7 @@ fn parse_values(
     log: &mut [u8],
     strings: &mut [u8],
     u: Used,
-) -> Parsed
+) -> Answer<Used>
     requires indexed { Indexed g.now index.now }
     requires few { Few s.now d u × (place ≤ length g.now) }
     requires place_value { is_mask kind ≡ false → parameters_at g.now place ≡ or_none (listed kind value (grammar_of g.now).enumerants) }
@@ -262,13 +254,13 @@ fn parse_pair(
     log: &mut [u8],
     strings: &mut [u8],
     u: Used,
-) -> Parsed
+) -> Answer<Used>
     requires indexed { Indexed g.now index.now }
     requires few { Few s.now d u × (is_single second ≡ true) }
     ensures { Parses s.now d 4 (read_each (grammar_of g.now) (33 ∷ second ∷ []) (reader_of s.now d)) log.old strings.old log.new strings.new u result }
 {
     let r = read_one(d, s, g, index, kinds::ID_REF, log, strings, u);
-    let Parsed::Got(e, n) = r else {
+    let Ok((n, e)) = r else {
         return r;
     };
     read_one(e, s, g, index, second, log, strings, n)
@@ -284,7 +276,7 @@ pub fn parse_operand(
     log: &mut [u8],
     strings: &mut [u8],
     u: Used,
-) -> Parsed
+) -> Answer<Used>
     requires indexed { Indexed g.now index.now }
     requires few { Few s.now d u × (is_untyped kind ≡ true) }
     ensures { Parses s.now d 4 (read_operand (grammar_of g.now) kind (reader_of s.now d)) log.old strings.old log.new strings.new u result }
@@ -292,8 +284,8 @@ pub fn parse_operand(
     if grammar::is_enum(kind) {
         let r = read_enumerant(d, s, g, index, kind);
         match r {
-            EnumRead::Refused(x, e) => Parsed::Refused(x, e),
-            EnumRead::Got(v, place, e) => {
+            Err((x, e)) => Err((x, e)),
+            Ok(((v, place), e)) => {
                 let n = push(log, kind, v as u64, u);
                 parse_values(e, s, g, index, kind, v, place, log, strings, n)
             }

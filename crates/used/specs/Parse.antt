@@ -1,8 +1,6 @@
 -- The parser's answers, and the stores after those that are good, as what the reader of `spec` comes to.
 use Rattle.std.specs.Prelude.{ℕ, ◌+◌, ◌*◌, ◌-◌, ◌%◌, ◌≤◌, ◌≡◌, Bool, true, ◌&&◌, ◌||◌, List, [], ◌∷◌, ◌++◌, eqb, ltb, length, drop, if◌then◌else◌}
 use Rattle.std.specs.Prelude.{Option, None, Some}
-use Rattle.spec.specs.declared.Limit.{Limit}
-use Rattle.spec.specs.declared.Limit.TheVariants.{Unlimited, Words}
 use Rattle.spec.specs.Base.{within}
 use Rattle.spec.specs.Words.{bits_of}
 use Rattle.spec.specs.Kinds.{is_mask, is_result, may_be_operand, may_be_parameter, may_embed}
@@ -20,8 +18,8 @@ use Rattle.decoder.specs.declared.Decoder.{Decoder}
 use Rattle.decoder.specs.Answer.{reader_of}
 use Rattle.tracker.specs.Track.{FirstFit, literal_of}
 use Rattle.used.specs.declared.used.Used.{Used}
-use Rattle.used.specs.declared.used.Parsed.{Parsed}
-use Rattle.used.specs.declared.used.Parsed.TheVariants.{Got, Refused}
+use Rattle.decoder.specs.Answer.{Answered}
+use Rattle.std.specs.Prelude.{Err, Ok}
 
 -- WHAT IS NOTED OF OPERANDS
 
@@ -108,12 +106,12 @@ pub record Copied (size b : ℕ) (u r : Used) : Type 0 where
 pub record Step (s : List ℕ) (d e : Decoder) (n : ℕ) : Type 0 where
   pub next : e.offset ≡ d.offset + 4 * n
   pub inside : e.offset ≤ length s
-  pub counted : (m : ℕ) → d.limit ≡ Words m → (n ≤ m) × (e.limit ≡ Words (m - n))
+  pub counted : (m : ℕ) → d.limit ≡ Some m → (n ≤ m) × (e.limit ≡ Some (m - n))
 
 -- the words that a limit has left
-unfoldable pub left_of : Limit → ℕ
-left_of Unlimited = 0
-left_of (Words n) = n
+unfoldable pub left_of : Option ℕ → ℕ
+left_of None = 0
+left_of (Some n) = n
 
 -- from a decoder to a later one, so many bytes on or more: the limit ends where it did
 pub record Went (d e : Decoder) (m : ℕ) : Type 0 where
@@ -126,7 +124,7 @@ pub record Few (s : List ℕ) (d : Decoder) (u : Used) : Type 0 where
   pub short : length s ≤ 67108864
   pub inside : d.offset ≤ length s
   pub left : ℕ
-  pub limited : d.limit ≡ Words left
+  pub limited : d.limit ≡ Some left
   pub operands : 4 * u.operands ≤ d.offset
   pub strings : u.base + u.strings ≤ d.offset
   pub log : 4 * u.log ≤ 9 * d.offset
@@ -158,9 +156,9 @@ pub record Accepted (s : List ℕ) (d : Decoder) (m : ℕ) (x : Read (List recor
   pub spotted : Spotted s d e u n operands
 
 -- the answer to a read that comes to x, so many bytes on or more, and the stores after it where it is good
-unfoldable pub Parses : List ℕ → Decoder → ℕ → Read (List records.Operand) → List ℕ → List ℕ → List ℕ → List ℕ → Used → Parsed → Type 0
-Parses s d m x log₀ strs₀ log strs u (Got e n) = Accepted s d m x log₀ strs₀ log strs u e n
-Parses s d m x log₀ strs₀ log strs u (Refused y e) = x ≡ refused y (reader_of s e)
+unfoldable pub Parses : List ℕ → Decoder → ℕ → Read (List records.Operand) → List ℕ → List ℕ → List ℕ → List ℕ → Used → Answered Used → Type 0
+Parses s d m x log₀ strs₀ log strs u (Ok (n, e)) = Accepted s d m x log₀ strs₀ log strs u e n
+Parses s d m x log₀ strs₀ log strs u (Err (y, e)) = x ≡ refused y (reader_of s e)
 
 -- operands before those of the rest
 unfoldable pub prefix : List records.Operand → Read (List records.Operand) → Read (List records.Operand)
@@ -286,9 +284,9 @@ pub record RowRead (s : List ℕ) (d : Decoder) (m : ℕ) (x : Read Seen) (log�
   pub spotted : Spotted s d e u n (in_order seen.result_type seen.result_id seen.operands)
 
 -- the answer to a walk over a row that comes to x, and the stores after it where it is good
-unfoldable pub Walks : List ℕ → Decoder → ℕ → Read Seen → List ℕ → List ℕ → List ℕ → List ℕ → Used → Parsed → Type 0
-Walks s d m x log₀ strs₀ log strs u (Got e n) = RowRead s d m x log₀ strs₀ log strs u e n
-Walks s d m x log₀ strs₀ log strs u (Refused y e) = x ≡ refused y (reader_of s e)
+unfoldable pub Walks : List ℕ → Decoder → ℕ → Read Seen → List ℕ → List ℕ → List ℕ → List ℕ → Used → Answered Used → Type 0
+Walks s d m x log₀ strs₀ log strs u (Ok (n, e)) = RowRead s d m x log₀ strs₀ log strs u e n
+Walks s d m x log₀ strs₀ log strs u (Err (y, e)) = x ≡ refused y (reader_of s e)
 
 -- where the kind is a result's, that result is free: nothing was seen before a result type, and no result id or operand before a result id
 abbrev pub ResultFree : ℕ → Seen → Type 0
@@ -309,11 +307,11 @@ pub record SlotRead (s : List ℕ) (d : Decoder) (k : ℕ) (y : Seen) (x : Read 
   pub others : eqb k 46 ≡ true → (seen.result_id ≡ y.result_id) × (seen.operands ≡ y.operands)
 
 -- the answer to the read of one operand of a row, after what was seen
-unfoldable pub SlotWalk : List ℕ → Decoder → ℕ → Seen → Read Seen → List ℕ → List ℕ → List ℕ → List ℕ → Used → Used → Parsed → Type 0
-SlotWalk s d k y x log₀ strs₀ log strs u₀ u (Got e n) = SlotRead s d k y x log₀ strs₀ log strs u₀ u e n
-SlotWalk s d k y x log₀ strs₀ log strs u₀ u (Refused z e) = x ≡ refused z (reader_of s e)
+unfoldable pub SlotWalk : List ℕ → Decoder → ℕ → Seen → Read Seen → List ℕ → List ℕ → List ℕ → List ℕ → Used → Used → Answered Used → Type 0
+SlotWalk s d k y x log₀ strs₀ log strs u₀ u (Ok (n, e)) = SlotRead s d k y x log₀ strs₀ log strs u₀ u e n
+SlotWalk s d k y x log₀ strs₀ log strs u₀ u (Err (z, e)) = x ≡ refused z (reader_of s e)
 
 -- the same, whatever the walk has seen so far
-unfoldable pub SlotWalks : List ℕ → Decoder → ℕ → (Seen → Read Seen) → List ℕ → List ℕ → List ℕ → List ℕ → Used → Parsed → Type 0
+unfoldable pub SlotWalks : List ℕ → Decoder → ℕ → (Seen → Read Seen) → List ℕ → List ℕ → List ℕ → List ℕ → Used → Answered Used → Type 0
 SlotWalks s d k f log strs log₁ strs₁ u v =
     (log₀ strs₀ : List ℕ) (u₀ : Used) (x : Seen) → Walked log₀ strs₀ log strs u₀ u x → SlotWalk s d k x (f x) log₀ strs₀ log₁ strs₁ u₀ u v

@@ -12,7 +12,6 @@ ghost use Rattle.used.specs.Fresh.{unused, with_result};
 use decoder::Decoder;
 use operand::Parts;
 use spec::{Refusal, kinds};
-use tracker::Id;
 
 // An instruction: where it begins, its words, its opcode, and where its row's operands start in the grammar.
 #[derive(Clone, Copy)]
@@ -40,13 +39,6 @@ pub struct Used {
     pub strings: usize,
     pub base: usize,
     pub breaks: usize,
-}
-
-// Operands that were read, or a refusal; each with the decoder after it.
-#[derive(Clone, Copy)]
-pub enum Parsed {
-    Got(Decoder, Used),
-    Refused(Refusal, Decoder),
 }
 
 // What is in use where an instruction begins, from these places of log and strings on, with so many string bytes before those of the
@@ -80,15 +72,15 @@ pub fn first_break(a: usize, b: usize) -> usize
 }
 
 // A refusal without a value.
-pub fn refused(number: u32, place: usize, d: Decoder) -> Parsed
-    ensures { result ≡ Parsed.Refused (refusal number place 0) d }
+pub fn refused(number: u32, place: usize, d: Decoder) -> Answer<Used>
+    ensures { result ≡ Err (refusal number place 0, d) }
 {
     let refusal = Refusal {
         number,
         place,
         value: 0,
     };
-    Parsed::Refused(refusal, d)
+    Err((refusal, d))
 }
 
 // A word that is there.
@@ -144,27 +136,27 @@ pub fn with_result(u: Used, kind: u8, id: u64) -> Used
 }
 
 // The id that a word is, where it is there.
-pub fn id_of(x: u64) -> Id
+pub fn id_of(x: u64) -> Option<u32>
     ensures { id_is result ≡ word_is x }
 {
     if x < 4294967296 {
-        return Id::Absent;
+        return None;
     }
-    Id::Is((x % 4294967296) as u32)
+    Some((x % 4294967296) as u32)
 }
 
 // The id that the first operand is, where it is one.
-pub fn selector_of(u: Used) -> Id
+pub fn selector_of(u: Used) -> Option<u32>
     requires { FirstFits u }
     ensures { id_is result ≡ selector_of u }
 {
     if u.operands == 0 {
-        return Id::Absent;
+        return None;
     }
     if u.kind1 == kinds::ID_REF {
-        return Id::Is(u.value1 as u32);
+        return Some(u.value1 as u32);
     }
-    Id::Absent
+    None
 }
 
 // One operand more, whose record ends there in the log.

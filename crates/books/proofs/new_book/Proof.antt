@@ -7,12 +7,12 @@ use Rattle.books.proofs.Calls.{book_held, book_few, checked_good, room_told, new
 use Rattle.books.proofs.new_book.Statement.{statement}
 use Rattle.books.proofs.new_book.Tie as tie
 
-returns : tie.Need-returns-in-Bad
-returns c = new_bad _ _ c.before.before.check_of-checked.ensures c.before.in-Bad.is c.refused.ensures
+returns : tie.Need-returns-in-Some
+returns c = new_bad _ _ c.before.before.check_of-checked.ensures c.before.in-Some.is c.refused.ensures
 
-returns-2 : tie.Need-returns-in-Bad-room
+returns-2 : tie.Need-returns-in-Some-room
 returns-2 c =
-    new_short _ _ c.before.before.before.before.check_of-checked.ensures c.before.before.before.in_default.is c.before.before.check_room-room.ensures c.before.in-Bad-room.is c.refused-in-Bad-room.ensures
+    new_short _ _ c.before.before.before.before.check_of-checked.ensures c.before.before.before.in_default.is c.before.before.check_room-room.ensures c.before.in-Some-room.is c.refused-in-Some-room.ensures
 
 put-new-requires : tie.Need-put_new-requires
 put-new-requires c κs =

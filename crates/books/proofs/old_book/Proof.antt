@@ -7,8 +7,8 @@ use Rattle.books.proofs.Calls.{book_held, book_few, checked_good, room_told, old
 use Rattle.books.proofs.old_book.Statement.{statement}
 use Rattle.books.proofs.old_book.Tie as tie
 
-returns : tie.Need-returns-in-Bad
-returns c = old_bad _ _ c.before.before.check_of-checked.ensures c.before.in-Bad.is c.refused.ensures
+returns : tie.Need-returns-in-Some
+returns c = old_bad _ _ c.before.before.check_of-checked.ensures c.before.in-Some.is c.refused.ensures
 
 check-numbers-requires : tie.Need-check_numbers-numbers-requires
 check-numbers-requires c κs =
@@ -16,14 +16,14 @@ check-numbers-requires c κs =
     let good = c.in_default.is in
     (book_held record_size _ checked good, book_few record_size _ checked good (λ i. (c.before.before.before.before.before.shared_slice_known-1.given i).fits))
 
-returns-2 : tie.Need-returns-in-Bad-numbers
+returns-2 : tie.Need-returns-in-Some-numbers
 returns-2 c =
-    old_wrong _ _ c.before.before.before.before.before.check_of-checked.ensures c.before.before.before.before.in_default.is c.before.before.before.check_numbers-numbers.ensures c.before.in-Bad-numbers.is c.refused-in-Bad-numbers.ensures
+    old_wrong _ _ c.before.before.before.before.before.check_of-checked.ensures c.before.before.before.before.in_default.is c.before.before.before.check_numbers-numbers.ensures c.before.in-Some-numbers.is c.refused-in-Some-numbers.ensures
 
-returns-3 : tie.Need-returns-in-Bad-room
+returns-3 : tie.Need-returns-in-Some-room
 returns-3 c =
     old_short _ _ c.before.before.before.before.before.before.check_of-checked.ensures c.before.before.before.before.before.in_default.is c.before.before.before.before.check_numbers-numbers.ensures c.before.before.in_default-numbers.is
-    c.before.before.before.check_room-room.ensures c.before.in-Bad-room.is c.refused-in-Bad-room.ensures
+    c.before.before.before.check_room-room.ensures c.before.in-Some-room.is c.refused-in-Some-room.ensures
 
 put-old-requires : tie.Need-put_old-requires
 put-old-requires c κs = (

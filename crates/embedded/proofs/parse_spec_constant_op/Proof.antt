@@ -23,7 +23,7 @@ parse-once-requires c κs =
     let at-w2 = at-find-row.before in
     let at-word = at-w2.before in
     let at-start = at-word.before.before.before.before.before.before in
-    let h = (sym at-w2.in-Got.is ∙ at-word.word-w.ensures) in let t = row_told _ _ _ _ at-find-row.find_row-found.ensures.0 at-found.in-At.is in (at-start.requires.0, (few_pushed _ _ _ _ _ _ _ _ at-start.requires.1 (step_word _ _ _ _ h) (omega arith) at_push.push_opcode-n.ensures.0, place_told _ _ _ at-find-row.find_row-found.ensures.1 at-found.in-At.is, row_operands _ _ at-start.requires.0 _ _ t, sym at-may-embed.may_embed.ensures ∙ not-false _ (not_from_true _ at-if1.if-not-may_embed.false)))
+    let h = (sym at-w2.in-Ok.is ∙ at-word.word-w.ensures) in let t = row_told _ _ _ _ at-find-row.find_row-found.ensures.0 at-found.in-Some.is in (at-start.requires.0, (few_pushed _ _ _ _ _ _ _ _ at-start.requires.1 (step_word _ _ _ _ h) (omega arith) at_push.push_opcode-n.ensures.0, place_told _ _ _ at-find-row.find_row-found.ensures.1 at-found.in-Some.is, row_operands _ _ at-start.requires.0 _ _ t, sym at-may-embed.may_embed.ensures ∙ not-false _ (not_from_true _ at-if1.if-not-may_embed.false)))
 
 returns-4 : tie.Need-returns-else-not-may_embed
 returns-4 c =
@@ -36,7 +36,7 @@ returns-4 c =
     let at-w2 = at-find-row.before in
     let at-word = at-w2.before in
     let at-start = at-word.before.before.before.before.before.before in
-    let h = (sym at-w2.in-Got.is ∙ at-word.word-w.ensures) in seq (held_narrow _ _ _ _ _ _ _ embedded_narrow at_push.push_opcode-n.ensures.0 at_push.push_opcode-n.ensures.1.0) _ _ _ _ _ _ (step_went _ _ _ _ (step_word _ _ _ _ h) _ at-start.requires.1.limited) (spotted_opcode _ _ _ _ _ _ h at_push.push_opcode-n.ensures.1.1) (embedded_row _ _ _ _ _ h _ at-find-row.find_row-found.ensures.0 _ at-found.in-At.is _ at-may-embed.may_embed.ensures (not_from_true _ at-if1.if-not-may_embed.false)) _ at-parse-once.parse_once.ensures
+    let h = (sym at-w2.in-Ok.is ∙ at-word.word-w.ensures) in seq (held_narrow _ _ _ _ _ _ _ embedded_narrow at_push.push_opcode-n.ensures.0 at_push.push_opcode-n.ensures.1.0) _ _ _ _ _ _ (step_went _ _ _ _ (step_word _ _ _ _ h) _ at-start.requires.1.limited) (spotted_opcode _ _ _ _ _ _ h at_push.push_opcode-n.ensures.1.1) (embedded_row _ _ _ _ _ h _ at-find-row.find_row-found.ensures.0 _ at-found.in-Some.is _ at-may-embed.may_embed.ensures (not_from_true _ at-if1.if-not-may_embed.false)) _ at-parse-once.parse_once.ensures
 
 pub parse_spec_constant_op_spec : {M : Type 1} → statement M
 parse_spec_constant_op_spec =
@@ -50,13 +50,13 @@ parse_spec_constant_op_spec =
     (λ c. search rules)
     (λ c. search rules)
     (λ c κs. search rules)
-    (λ c. let at-find-row = c.before.before in let at-w2 = at-find-row.before in let at-word = at-w2.before in deny _ _ _ _ _ _ _ _ _ _ _ _ c.refused.ensures (embedded_none _ _ _ _ _ (sym at-w2.in-Got.is ∙ at-word.word-w.ensures) _ at-find-row.find_row-found.ensures.0 c.before.in_default.is))
-    (λ c κs. let at-find-row = c.before in let at-start = at-find-row.before.before.before.before.before.before.before.before in (indexed_short _ _ at-start.requires.0, place_told _ _ _ at-find-row.find_row-found.ensures.1 c.in-At.is))
+    (λ c. let at-find-row = c.before.before in let at-w2 = at-find-row.before in let at-word = at-w2.before in deny _ _ _ _ _ _ _ _ _ _ _ _ c.refused.ensures (embedded_none _ _ _ _ _ (sym at-w2.in-Ok.is ∙ at-word.word-w.ensures) _ at-find-row.find_row-found.ensures.0 c.before.in_default.is))
+    (λ c κs. let at-find-row = c.before in let at-start = at-find-row.before.before.before.before.before.before.before.before in (indexed_short _ _ at-start.requires.0, place_told _ _ _ at-find-row.find_row-found.ensures.1 c.in-Some.is))
     (λ c κs. search rules)
-    (λ c. let at-may-embed = c.before.before in let at-found = at-may-embed.before in let at-find-row = at-found.before in let at-w2 = at-find-row.before in let at-word = at-w2.before in deny _ _ _ _ _ _ _ _ _ _ _ _ c.refused-then-not-may_embed.ensures (embedded_barred _ _ _ _ _ (sym at-w2.in-Got.is ∙ at-word.word-w.ensures) _ at-find-row.find_row-found.ensures.0 _ at-found.in-At.is _ at-may-embed.may_embed.ensures (not_from_false _ c.before.if-not-may_embed.true)))
+    (λ c. let at-may-embed = c.before.before in let at-found = at-may-embed.before in let at-find-row = at-found.before in let at-w2 = at-find-row.before in let at-word = at-w2.before in deny _ _ _ _ _ _ _ _ _ _ _ _ c.refused-then-not-may_embed.ensures (embedded_barred _ _ _ _ _ (sym at-w2.in-Ok.is ∙ at-word.word-w.ensures) _ at-find-row.find_row-found.ensures.0 _ at-found.in-Some.is _ at-may-embed.may_embed.ensures (not_from_false _ c.before.if-not-may_embed.true)))
     (λ c κs. let at-start = c.before.before.before.before.before.before.before.before.before.before.before.before in may_count at-start.requires.1)
     parse-once-requires
-    (λ c. let at-word = c.before in deny _ _ _ _ _ _ _ _ _ _ _ _ refl (embedded_bad _ _ _ _ _ (sym c.in-Refused.is ∙ at-word.word-w.ensures)))
+    (λ c. let at-word = c.before in deny _ _ _ _ _ _ _ _ _ _ _ _ refl (embedded_bad _ _ _ _ _ (sym c.in-Err.is ∙ at-word.word-w.ensures)))
     (λ c. search rules)
     (λ c. search rules)
     returns-4)

@@ -43,7 +43,7 @@ returns-4 c =
     let at-limit-reached = at-if2.before in
     let at-if1 = at-limit-reached.before.before in
     let at-prepare = at-if1.before.before in
-    read_known _ _ _ _ (sym at-prepare.prepare.ensures.0 ∙ not-false _ (not_from_true _ at-if1.if-not-prepare.false)) (sym at-limit-reached.limit_reached.ensures ∙ at-if2.if-limit_reached.false) _ _ (sym at-word2.in-Got.is ∙ at-word.word-word.ensures) (sym c.before.is_known.ensures ∙ c.if-is_known.true)
+    read_known _ _ _ _ (sym at-prepare.prepare.ensures.0 ∙ not-false _ (not_from_true _ at-if1.if-not-prepare.false)) (sym at-limit-reached.limit_reached.ensures ∙ at-if2.if-limit_reached.false) _ _ (sym at-word2.in-Ok.is ∙ at-word.word-word.ensures) (sym c.before.is_known.ensures ∙ c.if-is_known.true)
 
 returns-5 : tie.Need-returns
 returns-5 c =
@@ -55,7 +55,7 @@ returns-5 c =
     let at_offset = at-limit-reached.before in
     let at-if1 = at_offset.before in
     let at-prepare = at-if1.before.before in
-    c.refused-2.ensures ∙ rw at_offset.offset-at.ensures (read_unknown _ _ _ _ (sym at-prepare.prepare.ensures.0 ∙ not-false _ (not_from_true _ at-if1.if-not-prepare.false)) (sym at-limit-reached.limit_reached.ensures ∙ at-if2.if-limit_reached.false) _ _ (sym at-word2.in-Got.is ∙ at-word.word-word.ensures) (sym at-is-known.is_known.ensures ∙ c.before.if-is_known.false))
+    c.refused-2.ensures ∙ rw at_offset.offset-at.ensures (read_unknown _ _ _ _ (sym at-prepare.prepare.ensures.0 ∙ not-false _ (not_from_true _ at-if1.if-not-prepare.false)) (sym at-limit-reached.limit_reached.ensures ∙ at-if2.if-limit_reached.false) _ _ (sym at-word2.in-Ok.is ∙ at-word.word-word.ensures) (sym at-is-known.is_known.ensures ∙ c.before.if-is_known.false))
 
 pub enumerant_spec : {M : Type 1} → statement M
 enumerant_spec =

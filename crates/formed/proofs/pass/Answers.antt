@@ -33,13 +33,13 @@ overflow_add-count c =
 pub loop-at-smaller : goal.loop-at-smaller
 unfolding Entered
 loop-at-smaller c =
-    let entered = rw c.in-At.is at c.enter-end.ensures in
+    let entered = rw c.in-Some.is at c.enter-end.ensures in
     omega (arith, entered.0)
 
 pub loop-at-preserved : goal.loop-at-preserved
 unfolding Entered
 loop-at-preserved c =
-    let entered = rw c.in-At.is at c.enter-end.ensures in
+    let entered = rw c.in-Some.is at c.enter-end.ensures in
     (rw c.mark_of-last.ensures entered.1, c.enter-end.auto.index ∙ c.loop-at.invariant.1)
 
 pub overflow_cast-index : goal.overflow_cast-index

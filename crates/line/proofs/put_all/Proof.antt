@@ -48,14 +48,14 @@ add_third c =
     let at-ext-name = c.before in
     let at_name = c in
     let at-start = c.before.before.before.before.before.before.before.before.before.before in
-    omega (arith, two_inside _ _ _ _ (named_third _ _ _ _ _ _ _ _ at-ext-name.ext_name-name.ensures.0 at_name.in-At.is).two at-start.requires.1.1.1.0)
+    omega (arith, two_inside _ _ _ _ (named_third _ _ _ _ _ _ _ _ at-ext-name.ext_name-name.ensures.0 at_name.in-Some.is).two at-start.requires.1.1.1.0)
 
 put_operands_requires_2 : tie.Need-put_operands-first-requires
 put_operands_requires_2 c κs =
     let at-start = c.before.before.before.before.before.before.before.before.before.before.before in
     let at-ext-name = c.before.before in
     let at_name = c.before in
-    (at-start.requires.0, (named_first _ _ _ _ _ _ _ _ at-ext-name.ext_name-name.ensures.0 at_name.in-At.is at-start.requires.1.1.1.0, room_first _ _ (room_as _ _ (named_pieces _ _ _ _ _ _ _ _ at-ext-name.ext_name-name.ensures.0 at_name.in-At.is) at-start.requires.1.1.1.1)))
+    (at-start.requires.0, (named_first _ _ _ _ _ _ _ _ at-ext-name.ext_name-name.ensures.0 at_name.in-Some.is at-start.requires.1.1.1.0, room_first _ _ (room_as _ _ (named_pieces _ _ _ _ _ _ _ _ at-ext-name.ext_name-name.ensures.0 at_name.in-Some.is) at-start.requires.1.1.1.1)))
 
 put-byte-requires : tie.Need-put_byte-blank-requires
 put-byte-requires c κs =
@@ -63,25 +63,25 @@ put-byte-requires c κs =
     let at_name = c.before.before.before.before.before in
     let at-start = c.before.before.before.before.before.before.before.before.before.before.before.before.before.before.before in
     let at-put-operands2 = c.before.before.before in
-    room_first _ _ (room_next _ _ (room_as _ _ (named_pieces _ _ _ _ _ _ _ _ at-ext-name.ext_name-name.ensures.0 at_name.in-At.is) at-start.requires.1.1.1.1) at-put-operands2.put_operands-first.ensures)
+    room_first _ _ (room_next _ _ (room_as _ _ (named_pieces _ _ _ _ _ _ _ _ at-ext-name.ext_name-name.ensures.0 at_name.in-Some.is) at-start.requires.1.1.1.1) at-put-operands2.put_operands-first.ensures)
 
 sub_put_bytes : tie.Need-slice_bounds-put_bytes-count
 sub_put_bytes c =
     let at-ext-name = c.before.before.before.before.before.before.before.before.before.before in
     let at_name = c.before.before.before.before.before.before.before.before.before in
-    (name_inside _ _ _ _ at-ext-name.ext_name-name.ensures.1 at_name.in-At.is).0
+    (name_inside _ _ _ _ at-ext-name.ext_name-name.ensures.1 at_name.in-Some.is).0
 
 part_put_bytes_start : tie.Need-slice_bounds-put_bytes-start
 part_put_bytes_start c =
     let at-ext-name = c.before.before.before.before.before.before.before.before.before.before in
     let at_name = c.before.before.before.before.before.before.before.before.before in
-    omega (arith, name_inside _ _ _ _ at-ext-name.ext_name-name.ensures.1 at_name.in-At.is)
+    omega (arith, name_inside _ _ _ _ at-ext-name.ext_name-name.ensures.1 at_name.in-Some.is)
 
 part_put_bytes_end : tie.Need-slice_bounds-put_bytes-end
 part_put_bytes_end c =
     let at-ext-name = c.before.before.before.before.before.before.before.before.before.before in
     let at_name = c.before.before.before.before.before.before.before.before.before in
-    omega (arith, name_inside _ _ _ _ at-ext-name.ext_name-name.ensures.1 at_name.in-At.is)
+    omega (arith, name_inside _ _ _ _ at-ext-name.ext_name-name.ensures.1 at_name.in-Some.is)
 
 put-bytes-requires : tie.Need-put_bytes-second-requires
 put-bytes-requires c κs =
@@ -90,13 +90,13 @@ put-bytes-requires c κs =
     let at-start = c.before.before.before.before.before.before.before.before.before.before.before.before.before.before.before.before.before.before.before.before in
     let at-put-operands2 = c.before.before.before.before.before.before.before.before in
     let at-put-byte = c.before.before.before.before in
-    room_first _ _ (room_next _ _ (room_next _ _ (room_as _ _ (named_pieces _ _ _ _ _ _ _ _ at-ext-name.ext_name-name.ensures.0 at_name.in-At.is) at-start.requires.1.1.1.1) at-put-operands2.put_operands-first.ensures) at-put-byte.put_byte-blank.ensures)
+    room_first _ _ (room_next _ _ (room_next _ _ (room_as _ _ (named_pieces _ _ _ _ _ _ _ _ at-ext-name.ext_name-name.ensures.0 at_name.in-Some.is) at-start.requires.1.1.1.1) at-put-operands2.put_operands-first.ensures) at-put-byte.put_byte-blank.ensures)
 
 sub_put_operands : tie.Need-overflow_sub-n
 sub_put_operands c =
     let at-ext-name = c.before.before.before.before.before.before.before.before.before.before.before.before.before.before in
     let at_name = c.before.before.before.before.before.before.before.before.before.before.before.before.before in
-    omega (arith, (named_third _ _ _ _ _ _ _ _ at-ext-name.ext_name-name.ensures.0 at_name.in-At.is).two)
+    omega (arith, (named_third _ _ _ _ _ _ _ _ at-ext-name.ext_name-name.ensures.0 at_name.in-Some.is).two)
 
 put_operands_requires_3 : tie.Need-put_operands-requires-2
 put_operands_requires_3 c κs =
@@ -106,7 +106,7 @@ put_operands_requires_3 c κs =
     let at-put-operands2 = c.before.before.before.before.before.before.before.before.before.before.before.before in
     let at-put-byte = c.before.before.before.before.before.before.before.before in
     let at-put-bytes = c.before.before.before in
-    (at-start.requires.0, (named_rest _ _ _ _ _ _ _ _ at-ext-name.ext_name-name.ensures.0 at_name.in-At.is at-start.requires.1.1.1.0, room_next _ _ (room_next _ _ (room_next _ _ (room_as _ _ (named_pieces _ _ _ _ _ _ _ _ at-ext-name.ext_name-name.ensures.0 at_name.in-At.is) at-start.requires.1.1.1.1) at-put-operands2.put_operands-first.ensures) at-put-byte.put_byte-blank.ensures) at-put-bytes.put_bytes-second.ensures))
+    (at-start.requires.0, (named_rest _ _ _ _ _ _ _ _ at-ext-name.ext_name-name.ensures.0 at_name.in-Some.is at-start.requires.1.1.1.0, room_next _ _ (room_next _ _ (room_next _ _ (room_as _ _ (named_pieces _ _ _ _ _ _ _ _ at-ext-name.ext_name-name.ensures.0 at_name.in-Some.is) at-start.requires.1.1.1.1) at-put-operands2.put_operands-first.ensures) at-put-byte.put_byte-blank.ensures) at-put-bytes.put_bytes-second.ensures))
 
 same_length_2 : tie.Need-shape_of-out
 same_length_2 c = search rules
@@ -120,7 +120,7 @@ returns-2 c =
     let at-put-byte = c.before.before.before.before.before.before.before.before.before.before.before in
     let at-put-bytes = c.before.before.before.before.before.before in
     let at-put-operands3 = c.before.before in
-    wrote_as _ _ (sym (named_pieces _ _ _ _ _ _ _ _ at-ext-name.ext_name-name.ensures.0 at_name.in-At.is)) (wrote_both _ _ (room_as _ _ (named_pieces _ _ _ _ _ _ _ _ at-ext-name.ext_name-name.ensures.0 at_name.in-At.is) at-start.requires.1.1.1.1) at-put-operands2.put_operands-first.ensures (wrote_both _ _ (room_next _ _ (room_as _ _ (named_pieces _ _ _ _ _ _ _ _ at-ext-name.ext_name-name.ensures.0 at_name.in-At.is) at-start.requires.1.1.1.1) at-put-operands2.put_operands-first.ensures) at-put-byte.put_byte-blank.ensures (wrote_both _ _ (room_next _ _ (room_next _ _ (room_as _ _ (named_pieces _ _ _ _ _ _ _ _ at-ext-name.ext_name-name.ensures.0 at_name.in-At.is) at-start.requires.1.1.1.1) at-put-operands2.put_operands-first.ensures) at-put-byte.put_byte-blank.ensures) at-put-bytes.put_bytes-second.ensures at-put-operands3.put_operands-2.ensures)))
+    wrote_as _ _ (sym (named_pieces _ _ _ _ _ _ _ _ at-ext-name.ext_name-name.ensures.0 at_name.in-Some.is)) (wrote_both _ _ (room_as _ _ (named_pieces _ _ _ _ _ _ _ _ at-ext-name.ext_name-name.ensures.0 at_name.in-Some.is) at-start.requires.1.1.1.1) at-put-operands2.put_operands-first.ensures (wrote_both _ _ (room_next _ _ (room_as _ _ (named_pieces _ _ _ _ _ _ _ _ at-ext-name.ext_name-name.ensures.0 at_name.in-Some.is) at-start.requires.1.1.1.1) at-put-operands2.put_operands-first.ensures) at-put-byte.put_byte-blank.ensures (wrote_both _ _ (room_next _ _ (room_next _ _ (room_as _ _ (named_pieces _ _ _ _ _ _ _ _ at-ext-name.ext_name-name.ensures.0 at_name.in-Some.is) at-start.requires.1.1.1.1) at-put-operands2.put_operands-first.ensures) at-put-byte.put_byte-blank.ensures) at-put-bytes.put_bytes-second.ensures at-put-operands3.put_operands-2.ensures)))
 
 pub put_all_spec : {M : Type 1} → statement M
 put_all_spec = tie.close (tie.spec cast_a cast_n ext-name-requires enum_known_name enum_told put-operands-requires same_length returns add_third put_operands_requires_2 put-byte-requires sub_put_bytes part_put_bytes_start part_put_bytes_end put-bytes-requires sub_put_operands put_operands_requires_3 same_length_2 returns-2)

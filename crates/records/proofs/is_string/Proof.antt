@@ -9,7 +9,7 @@ use Rattle.records.proofs.is_string.Tie as tie
 returns-3 : tie.Need-returns
 returns-3 c =
     let at_zero = c.before.before in
-    string_utf8 _ _ at_zero.zero-found.ensures c.before.in-Nothing.is _ c.utf8-2.ensures
+    string_utf8 _ _ at_zero.zero-found.ensures c.before.in-None.is _ c.utf8-2.ensures
 
 pub is_string_spec : {M : Type 1} → statement M
 is_string_spec =

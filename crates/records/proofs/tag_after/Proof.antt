@@ -9,13 +9,13 @@ returns-2 : tie.Need-returns-then-f-tag
 returns-2 c =
     let at-cell = c.before.before in
     let at_place = at-cell.before in
-    tag_right _ _ _ at_place.place-cell.ensures _ _ at-cell.in-Tagged.is c.if-f-tag.true
+    tag_right _ _ _ at_place.place-cell.ensures _ _ at-cell.in-Ok.is c.if-f-tag.true
 
 returns-3 : tie.Need-returns
 returns-3 c =
     let at-cell = c.before.before in
     let at_place = at-cell.before in
-    tag_other _ _ _ at_place.place-cell.ensures _ _ at-cell.in-Tagged.is c.if-f-tag.false
+    tag_other _ _ _ at_place.place-cell.ensures _ _ at-cell.in-Ok.is c.if-f-tag.false
 
 pub tag_after_spec : {M : Type 1} → statement M
 tag_after_spec =

@@ -29,7 +29,7 @@ returns-4 c =
     let at-is-mask = at-if1.before in
     let at-next-word = at-is-mask.before.before in
     let at-start = at-next-word.before.before.before.before.before.before in
-    let m = sym at-is-mask.is_mask.ensures ∙ at-if1.if-is_mask.false in value_end (known_found _ _ _ _ at-start.requires.1.1 _ _ at-next-word.next_word-w.ensures (sym at-is-mask.is_mask.ensures ∙ at-if1.if-is_mask.false) _ _ at-guess-enumerant.guess_enumerant-found.ensures.0 at-guess-enumerant.guess_enumerant-found.ensures.1 at-found.in-At.is) at-start.requires.1.0.0 at-push2.push-n.ensures.0 _ _ _ at-start.requires.1.0.1 at-push2.push-n.ensures.1.0 at-push2.push-n.ensures.1.1 m (none_told _ _ _ at-parameter-at.parameter_at-x.ensures.0 c.in_default-x.is)
+    let m = sym at-is-mask.is_mask.ensures ∙ at-if1.if-is_mask.false in value_end (known_found _ _ _ _ at-start.requires.1.1 _ _ at-next-word.next_word-w.ensures (sym at-is-mask.is_mask.ensures ∙ at-if1.if-is_mask.false) _ _ at-guess-enumerant.guess_enumerant-found.ensures.0 at-guess-enumerant.guess_enumerant-found.ensures.1 at-found.in-Some.is) at-start.requires.1.0.0 at-push2.push-n.ensures.0 _ _ _ at-start.requires.1.0.1 at-push2.push-n.ensures.1.0 at-push2.push-n.ensures.1.1 m (none_told _ _ _ at-parameter-at.parameter_at-x.ensures.0 c.in_default-x.is)
 
 parse-parameters-requires : tie.Need-parse_parameters-requires
 parse-parameters-requires c κs =
@@ -40,7 +40,7 @@ parse-parameters-requires c κs =
     let at-is-mask = at-if1.before in
     let at-next-word = at-is-mask.before.before in
     let at-start = at-next-word.before.before.before.before.before.before in
-    let k = known_found _ _ _ _ at-start.requires.1.1 _ _ at-next-word.next_word-w.ensures (sym at-is-mask.is_mask.ensures ∙ at-if1.if-is_mask.false) _ _ at-guess-enumerant.guess_enumerant-found.ensures.0 at-guess-enumerant.guess_enumerant-found.ensures.1 at-found.in-At.is in (at-start.requires.0, (known_few k at-start.requires.1.0.0 at-push2.push-n.ensures.0, k.inside, known_single k _ at-start.requires.0 (sym at-is-mask.is_mask.ensures ∙ at-if1.if-is_mask.false)))
+    let k = known_found _ _ _ _ at-start.requires.1.1 _ _ at-next-word.next_word-w.ensures (sym at-is-mask.is_mask.ensures ∙ at-if1.if-is_mask.false) _ _ at-guess-enumerant.guess_enumerant-found.ensures.0 at-guess-enumerant.guess_enumerant-found.ensures.1 at-found.in-Some.is in (at-start.requires.0, (known_few k at-start.requires.1.0.0 at-push2.push-n.ensures.0, k.inside, known_single k _ at-start.requires.0 (sym at-is-mask.is_mask.ensures ∙ at-if1.if-is_mask.false)))
 
 returns-5 : tie.Need-returns
 returns-5 c =
@@ -52,7 +52,7 @@ returns-5 c =
     let at-is-mask = at-if1.before in
     let at-next-word = at-is-mask.before.before in
     let at-start = at-next-word.before.before.before.before.before.before in
-    let m = sym at-is-mask.is_mask.ensures ∙ at-if1.if-is_mask.false in value_parsed (known_found _ _ _ _ at-start.requires.1.1 _ _ at-next-word.next_word-w.ensures (sym at-is-mask.is_mask.ensures ∙ at-if1.if-is_mask.false) _ _ at-guess-enumerant.guess_enumerant-found.ensures.0 at-guess-enumerant.guess_enumerant-found.ensures.1 at-found.in-At.is) at-start.requires.1.0.0 at-push2.push-n.ensures.0 _ _ _ at-start.requires.1.0.1 at-push2.push-n.ensures.1.0 at-push2.push-n.ensures.1.1 m _ _ _ _ at-parse-parameters.parse_parameters.ensures c.taken.ensures
+    let m = sym at-is-mask.is_mask.ensures ∙ at-if1.if-is_mask.false in value_parsed (known_found _ _ _ _ at-start.requires.1.1 _ _ at-next-word.next_word-w.ensures (sym at-is-mask.is_mask.ensures ∙ at-if1.if-is_mask.false) _ _ at-guess-enumerant.guess_enumerant-found.ensures.0 at-guess-enumerant.guess_enumerant-found.ensures.1 at-found.in-Some.is) at-start.requires.1.0.0 at-push2.push-n.ensures.0 _ _ _ at-start.requires.1.0.1 at-push2.push-n.ensures.1.0 at-push2.push-n.ensures.1.1 m _ _ _ _ at-parse-parameters.parse_parameters.ensures c.taken.ensures
 
 pub simple_value_spec : {M : Type 1} → statement M
 simple_value_spec =

@@ -15,4 +15,4 @@ taken_spec =
     (λ c. search rules)
     (λ c. search rules)
     (λ c. pass _)
-    (λ c. let at-r = c.before.before.before in take_good _ _ _ _ at-r.in-Got.is c.in-Words.is))
+    (λ c. let at-r = c.before.before.before in take_good _ _ _ _ at-r.in-Ok.is c.in-Some.is))

@@ -10,5 +10,5 @@ words_left_spec =
     (tie.spec
     (λ c. search rules)
     (λ c. search rules)
-    (λ c. left_none _ c.in-Unlimited.is)
-    (λ c. left_words _ _ c.in-Words.is))
+    (λ c. left_none _ c.in-None.is)
+    (λ c. left_words _ _ c.in-Some.is))

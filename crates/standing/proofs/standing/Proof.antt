@@ -18,8 +18,8 @@ invariant-loop-i instructions log strings instruction-count log-count string-cou
 abbrev decreases-loop-i : tie.decreases-loop-i
 decreases-loop-i instructions log strings instruction-count log-count string-count o₀ i₀ o i = instruction-count - i
 
-returns : tie.Need-returns-in-Bad invariant-loop-i decreases-loop-i
-returns c = let at-check = c.before in stands_bad _ _ _ at-check.check-checked.ensures c.in-Bad.is
+returns : tie.Need-returns-in-Some invariant-loop-i decreases-loop-i
+returns c = let at-check = c.before in stands_bad _ _ _ at-check.check-checked.ensures c.in-Some.is
 
 returns-2 : tie.Need-returns-then-not-may_come invariant-loop-i decreases-loop-i
 returns-2 c =

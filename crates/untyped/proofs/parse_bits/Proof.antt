@@ -34,7 +34,7 @@ parse_bits_spec =
     (λ c. let at-parse-bit = c.before.before.before.before.before in let at-loop-test = at-parse-bit.before.before.before in let at-loop = at-loop-test.before in bit_stops at-loop.loop-rest.invariant at-loop-test.loop-rest-test.true _ _ _ _ _ _ at-parse-bit.parse_bit-r.ensures c.in_default.is)
     (λ c. let at-loop-test = c.before.before.before.before.before.before.before.before in let at-loop = at-loop-test.before in omega (arith, bit_small at-loop.loop-rest.invariant at-loop-test.loop-rest-test.true))
     (λ c. let at-loop-test = c.before.before.before.before.before.before.before.before in omega (arith, at-loop-test.loop-rest-test.true))
-    (λ c. let at-parse-bit = c.before.before.before.before.before in let at-loop-test = at-parse-bit.before.before.before in let at-loop = at-loop-test.before in bit_turn at-loop.loop-rest.invariant at-loop-test.loop-rest-test.true (good_told _ _ _ at-parse-bit.parse_bit-r.ensures c.in-Got.is))
+    (λ c. let at-parse-bit = c.before.before.before.before.before in let at-loop-test = at-parse-bit.before.before.before in let at-loop = at-loop-test.before in bit_turn at-loop.loop-rest.invariant at-loop-test.loop-rest-test.true (good_told _ _ _ at-parse-bit.parse_bit-r.ensures c.in-Ok.is))
     (λ c. c.before.loop-rest.invariant.running.held.log_laid.same)
     (λ c. c.before.loop-rest.invariant.running.held.strings_laid.same)
     (λ c. ends c.before.loop-rest.invariant.running (each_none _ _ _ (bits_none _ _ _ _ _ c.loop-rest-test.false))))

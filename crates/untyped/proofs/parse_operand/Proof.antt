@@ -15,9 +15,9 @@ parse-values-requires c κs =
     let at-r2 = at_push.before.before in
     let at-read-enumerant = at-r2.before in
     let at-start = at-read-enumerant.before.before.before.before.before.before.before.before in
-    let k = known_told _ _ _ _ _ _ _ _ at-read-enumerant.read_enumerant-r.ensures at-r2.in-Got.is in (at-start.requires.0, ((few_pushed _ _ _ _ _ _ _ _ at-start.requires.1.0 k.step (omega arith) at_push.push-n.ensures.0, k.inside), place_listed _ _ _ _ _ _ _ k))
+    let k = known_told _ _ _ _ _ _ _ _ at-read-enumerant.read_enumerant-r.ensures at-r2.in-Ok.is in (at-start.requires.0, ((few_pushed _ _ _ _ _ _ _ _ at-start.requires.1.0 k.step (omega arith) at_push.push-n.ensures.0, k.inside), place_listed _ _ _ _ _ _ _ k))
 
-returns-4 : tie.Need-returns-in-Got
+returns-4 : tie.Need-returns-in-Ok
 returns-4 c =
     let at-parse-values = c.before.before.before.before in
     let at_push = at-parse-values.before.before.before.before.before in
@@ -26,7 +26,7 @@ returns-4 c =
     let at-if1 = at-read-enumerant.before in
     let at-is-enum = at-if1.before in
     let at-start = at-is-enum.before.before.before.before.before.before in
-    let k = known_told _ _ _ _ _ _ _ _ at-read-enumerant.read_enumerant-r.ensures at-r2.in-Got.is in seq (held_narrow _ _ _ _ _ _ _ (enum_narrow _ (sym at-is-enum.is_enum.ensures ∙ at-if1.if-is_enum.true)) at_push.push-n.ensures.0 at_push.push-n.ensures.1.0) _ _ _ _ _ _ (step_went _ _ _ _ k.step _ at-start.requires.1.0.limited) (spotted_enum _ _ _ _ _ _ _ k.step (sym at-is-enum.is_enum.ensures ∙ at-if1.if-is_enum.true) at_push.push-n.ensures.1.1) (operand_known _ _ _ _ _ at-is-enum.is_enum.ensures at-if1.if-is_enum.true _ _ _ k) _ at-parse-values.parse_values.ensures
+    let k = known_told _ _ _ _ _ _ _ _ at-read-enumerant.read_enumerant-r.ensures at-r2.in-Ok.is in seq (held_narrow _ _ _ _ _ _ _ (enum_narrow _ (sym at-is-enum.is_enum.ensures ∙ at-if1.if-is_enum.true)) at_push.push-n.ensures.0 at_push.push-n.ensures.1.0) _ _ _ _ _ _ (step_went _ _ _ _ k.step _ at-start.requires.1.0.limited) (spotted_enum _ _ _ _ _ _ _ k.step (sym at-is-enum.is_enum.ensures ∙ at-if1.if-is_enum.true) at_push.push-n.ensures.1.1) (operand_known _ _ _ _ _ at-is-enum.is_enum.ensures at-if1.if-is_enum.true _ _ _ k) _ at-parse-values.parse_values.ensures
 
 pub parse_operand_spec : {M : Type 1} → statement M
 parse_operand_spec =
@@ -48,7 +48,7 @@ parse_operand_spec =
     (λ c. search rules)
     (λ c. let at-parse-pair2 = c.before.before.before.before in let at-if3 = at-parse-pair2.before.before.before in let at-if1 = at-if3.before.before in let at-is-enum = at-if1.before in same_read _ _ _ _ _ _ _ _ _ _ _ (pair_ids _ _ _ _ _ at-is-enum.is_enum.ensures at-if1.if-is_enum.false at-if3.if-kind-eq-ID_AND_ID.true) at-parse-pair2.parse_pair-then-kind-eq-ID_AND_ID.ensures)
     (λ c κs. let at-if3 = c.before.before in let at-if2 = at-if3.before in let at-start = at-if2.before.before.before.before.before.before.before.before in (at-start.requires.0, (at-start.requires.1.0, untyped_single _ at-start.requires.1.1 at-if2.if-kind-eq-ID_AND_LITERAL.false at-if3.if-kind-eq-ID_AND_ID.false)))
-    (λ c. let at-read-enumerant = c.before in let at-if1 = at-read-enumerant.before in let at-is-enum = at-if1.before in deny _ _ _ _ _ _ _ _ _ _ _ _ refl (operand_bad _ _ _ _ _ at-is-enum.is_enum.ensures at-if1.if-is_enum.true _ _ (unread_told _ _ _ _ _ _ _ at-read-enumerant.read_enumerant-r.ensures c.in-Refused.is)))
+    (λ c. let at-read-enumerant = c.before in let at-if1 = at-read-enumerant.before in let at-is-enum = at-if1.before in deny _ _ _ _ _ _ _ _ _ _ _ _ refl (operand_bad _ _ _ _ _ at-is-enum.is_enum.ensures at-if1.if-is_enum.true _ _ (unread_told _ _ _ _ _ _ _ at-read-enumerant.read_enumerant-r.ensures c.in-Err.is)))
     (λ c. search rules)
     (λ c. search rules)
     returns-4

@@ -21,4 +21,4 @@ returns-in_default c =
 
 pub returns : goal.returns
 returns c =
-    order_bad _ _ _ _ _ _ _ _ c.check-checked.ensures _ c.in-Bad.is _ _
+    order_bad _ _ _ _ _ _ _ _ c.check-checked.ensures _ c.in-Some.is _ _

@@ -12,5 +12,5 @@ has_limit_spec =
     (tie.spec
     (λ c. search rules)
     (λ c. search rules)
-    (λ c. rw c.in-Unlimited.is)
+    (λ c. rw c.in-None.is)
     (λ c. search rules))

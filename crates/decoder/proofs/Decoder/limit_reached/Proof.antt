@@ -12,5 +12,5 @@ limit_reached_spec =
     (tie.spec
     (λ c. search rules)
     (λ c. search rules)
-    (λ c. rw c.in-Unlimited.is)
-    (λ c. rw c.in-Words.is))
+    (λ c. rw c.in-None.is)
+    (λ c. rw c.in-Some.is))

@@ -12,5 +12,5 @@ take_one_spec =
     (λ c. search rules)
     (λ c. search rules)
     (λ c. none_less _ _ c.in_default.is)
-    (λ c. let at-start = c.before in one_left _ _ _ c.in-Words.is at-start.requires)
-    (λ c. one_less _ _ _ c.in-Words.is))
+    (λ c. let at-start = c.before in one_left _ _ _ c.in-Some.is at-start.requires)
+    (λ c. one_less _ _ _ c.in-Some.is))

@@ -13,18 +13,18 @@ find-requires c κs =
 enum_told : tie.Need-enum_told-1
 enum_told c = search rules
 
-enum_told_2 : tie.Need-enum_told-in-Nothing
+enum_told_2 : tie.Need-enum_told-in-None
 enum_told_2 c = search rules
 
-returns : tie.Need-returns-in-At
+returns : tie.Need-returns-in-Some
 returns c =
     let at-find = c.before in
-    name_there _ _ _ _ _ _ at-find.find-found.ensures.0 c.in-At.is
+    name_there _ _ _ _ _ _ at-find.find-found.ensures.0 c.in-Some.is
 
-returns-2 : tie.Need-returns-in-Nothing
+returns-2 : tie.Need-returns-in-None
 returns-2 c =
     let at-find = c.before in
-    name_lacks _ _ _ _ at-find.find-found.ensures.0 c.in-Nothing.is
+    name_lacks _ _ _ _ at-find.find-found.ensures.0 c.in-None.is
 
 pub has_name_spec : {M : Type 1} → statement M
 has_name_spec = tie.close (tie.spec find-requires enum_told enum_told_2 returns returns-2)

@@ -15,15 +15,15 @@ sub_result : tie.Need-overflow_sub-result
 sub_result c =
     let at-start = c.before in
     let at-checked = c in
-    bad_some _ _ at-start.requires at-checked.in-Bad.is
+    bad_some _ _ at-start.requires at-checked.in-Some.is
 
-returns : tie.Need-returns-in-Good
-returns c = before_good _ _ c.in-Good.is
+returns : tie.Need-returns-in-None
+returns c = before_good _ _ c.in-None.is
 
-returns-2 : tie.Need-returns-in-Bad
+returns-2 : tie.Need-returns-in-Some
 returns-2 c =
     let at-checked = c in
-    before_bad_lem _ _ _ at-checked.in-Bad.is
+    before_bad_lem _ _ _ at-checked.in-Some.is
 
 pub before_bad_spec : {M : Type 1} → statement M
 before_bad_spec = tie.close (tie.spec enum_told enum_known_checked sub_result returns returns-2)

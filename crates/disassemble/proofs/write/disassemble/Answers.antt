@@ -35,4 +35,4 @@ returns-in_default c =
 
 pub returns : goal.returns
 returns c =
-    call_bad _ _ _ _ _ _ _ c.check-checked.ensures _ _ (part_is c.args.log.now _ _ c.at_most-log_end.ensures) (part_is c.args.strings.now _ _ c.at_most-strings_end.ensures) _ c.before_bad-count.ensures _ c.named_count-named.ensures _ _ _ _ c.if-named-count.false c.in-Bad.is c.bad_record-2.ensures
+    call_bad _ _ _ _ _ _ _ c.check-checked.ensures _ _ (part_is c.args.log.now _ _ c.at_most-log_end.ensures) (part_is c.args.strings.now _ _ c.at_most-strings_end.ensures) _ c.before_bad-count.ensures _ c.named_count-named.ensures _ _ _ _ c.if-named-count.false c.in-Some.is c.bad_record-2.ensures

@@ -51,7 +51,7 @@ record-at-requires c κs =
     let at-start = c.before.before.before.before.before.before.before.before.before.before in
     let at-advance = c.before in
     let at-step = c in
-    stores_in _ _ _ _ at-start.requires.1.0 _ (next_told _ _ _ _ _ _ at-advance.advance-step.ensures at-step.in-At.is).0
+    stores_in _ _ _ _ at-start.requires.1.0 _ (next_told _ _ _ _ _ _ at-advance.advance-step.ensures at-step.in-Some.is).0
 
 put-line-requires : tie.Need-put_line-at-requires invariant-loop-asked decreases-loop-asked
 put-line-requires c κs =
@@ -60,7 +60,7 @@ put-line-requires c κs =
     let at-step = c.before.before in
     let at-record-at = c.before in
     let at-loop = c.before.before.before.before.before in
-    (at-start.requires.0, (at-start.requires.1.0, (at-start.requires.1.1.0, ((stores_at _ _ _ _ at-start.requires.1.0 _ (next_told _ _ _ _ _ _ at-advance.advance-step.ensures at-step.in-At.is).0 _ at-record-at.record_at.ensures).sound.operands, going_room at-loop.loop-asked.invariant _ _ (lines_more (stores_at _ _ _ _ at-start.requires.1.0 _ (next_told _ _ _ _ _ _ at-advance.advance-step.ensures at-step.in-At.is).0 _ at-record-at.record_at.ensures) _ _ (next_told _ _ _ _ _ _ at-advance.advance-step.ensures at-step.in-At.is).1)))))
+    (at-start.requires.0, (at-start.requires.1.0, (at-start.requires.1.1.0, ((stores_at _ _ _ _ at-start.requires.1.0 _ (next_told _ _ _ _ _ _ at-advance.advance-step.ensures at-step.in-Some.is).0 _ at-record-at.record_at.ensures).sound.operands, going_room at-loop.loop-asked.invariant _ _ (lines_more (stores_at _ _ _ _ at-start.requires.1.0 _ (next_told _ _ _ _ _ _ at-advance.advance-step.ensures at-step.in-Some.is).0 _ at-record-at.record_at.ensures) _ _ (next_told _ _ _ _ _ _ at-advance.advance-step.ensures at-step.in-Some.is).1)))))
 
 loop-less : tie.Need-loop-asked-smaller invariant-loop-asked decreases-loop-asked
 loop-less c =
@@ -68,7 +68,7 @@ loop-less c =
     let at-advance = c.before.before.before.before.before.before in
     let at-step = c.before.before.before.before.before in
     let at-record-at = c.before.before.before.before in
-    lines_fewer (stores_at _ _ _ _ at-start.requires.1.0 _ (next_told _ _ _ _ _ _ at-advance.advance-step.ensures at-step.in-At.is).0 _ at-record-at.record_at.ensures) _ _ (next_told _ _ _ _ _ _ at-advance.advance-step.ensures at-step.in-At.is).1
+    lines_fewer (stores_at _ _ _ _ at-start.requires.1.0 _ (next_told _ _ _ _ _ _ at-advance.advance-step.ensures at-step.in-Some.is).0 _ at-record-at.record_at.ensures) _ _ (next_told _ _ _ _ _ _ at-advance.advance-step.ensures at-step.in-Some.is).1
 
 loop-again : tie.Need-loop-asked-preserved invariant-loop-asked decreases-loop-asked
 loop-again c =
@@ -78,7 +78,7 @@ loop-again c =
     let at-step = c.before.before.before.before.before in
     let at-record-at = c.before.before.before.before in
     let at-put-line = c.before.before in
-    going_on at-loop.loop-asked.invariant _ _ (lines_more (stores_at _ _ _ _ at-start.requires.1.0 _ (next_told _ _ _ _ _ _ at-advance.advance-step.ensures at-step.in-At.is).0 _ at-record-at.record_at.ensures) _ _ (next_told _ _ _ _ _ _ at-advance.advance-step.ensures at-step.in-At.is).1) at-put-line.put_line-at.ensures
+    going_on at-loop.loop-asked.invariant _ _ (lines_more (stores_at _ _ _ _ at-start.requires.1.0 _ (next_told _ _ _ _ _ _ at-advance.advance-step.ensures at-step.in-Some.is).0 _ at-record-at.record_at.ensures) _ _ (next_told _ _ _ _ _ _ at-advance.advance-step.ensures at-step.in-Some.is).1) at-put-line.put_line-at.ensures
 
 same_length_2 : tie.Need-shape_of-out invariant-loop-asked decreases-loop-asked
 same_length_2 c = never c.loop-asked-test.false

@@ -14,21 +14,21 @@ add_parameters c =
     let at-look = c.before in
     let at-if1 = at-look.before in
     let at-start = at-if1.before.before.before in
-    omega (arith, enumerant_near _ _ _ _ _ at-start.requires at-if1.if-kind-eq0.false (sym c.in-At.is ∙ at-look.look-enumerant.ensures))
+    omega (arith, enumerant_near _ _ _ _ _ at-start.requires at-if1.if-kind-eq0.false (sym c.in-Some.is ∙ at-look.look-enumerant.ensures))
 
-returns-2 : tie.Need-returns-in-At
+returns-2 : tie.Need-returns-in-Some
 returns-2 c =
     let at-look = c.before in
     let at-if1 = at-look.before in
     let at-start = at-if1.before.before.before in
-    enumerant_at _ _ _ _ _ at-start.requires at-if1.if-kind-eq0.false (sym c.in-At.is ∙ at-look.look-enumerant.ensures)
+    enumerant_at _ _ _ _ _ at-start.requires at-if1.if-kind-eq0.false (sym c.in-Some.is ∙ at-look.look-enumerant.ensures)
 
-returns-3 : tie.Need-returns-in-Nothing
+returns-3 : tie.Need-returns-in-None
 returns-3 c =
     let at-look = c.before in
     let at-if1 = at-look.before in
     let at-start = at-if1.before.before.before in
-    enumerant_at _ _ _ _ _ at-start.requires at-if1.if-kind-eq0.false (sym c.in-Nothing.is ∙ at-look.look-enumerant.ensures)
+    enumerant_at _ _ _ _ _ at-start.requires at-if1.if-kind-eq0.false (sym c.in-None.is ∙ at-look.look-enumerant.ensures)
 
 pub find_enumerant_spec : {M : Type 1} → statement M
 find_enumerant_spec =

@@ -10,19 +10,19 @@ add_operands : tie.Need-overflow_add-operands
 add_operands c =
     let at-look = c.before in
     let at-start = at-look.before.before.before in
-    omega (arith, row_near _ _ _ _ at-start.requires (sym c.in-At.is ∙ at-look.look-row.ensures))
+    omega (arith, row_near _ _ _ _ at-start.requires (sym c.in-Some.is ∙ at-look.look-row.ensures))
 
-returns : tie.Need-returns-in-At
+returns : tie.Need-returns-in-Some
 returns c =
     let at-look = c.before in
     let at-start = at-look.before.before.before in
-    row_at _ _ _ _ at-start.requires (sym c.in-At.is ∙ at-look.look-row.ensures)
+    row_at _ _ _ _ at-start.requires (sym c.in-Some.is ∙ at-look.look-row.ensures)
 
-returns-2 : tie.Need-returns-in-Nothing
+returns-2 : tie.Need-returns-in-None
 returns-2 c =
     let at-look = c.before in
     let at-start = at-look.before.before.before in
-    row_at _ _ _ _ at-start.requires (sym c.in-Nothing.is ∙ at-look.look-row.ensures)
+    row_at _ _ _ _ at-start.requires (sym c.in-None.is ∙ at-look.look-row.ensures)
 
 pub find_row_spec : {M : Type 1} → statement M
 find_row_spec =

@@ -13,16 +13,16 @@ add_parameters c =
     let at-guessed = c.before in
     let at-if1 = at-guessed.before in
     let at-start = at-if1.before.before.before in
-    omega (arith, enumerant_near _ _ _ _ _ at-start.requires at-if1.if-kind-eq0.false (guess_right _ _ _ c.in-At.is at-guessed.guessed-enumerant.ensures))
+    omega (arith, enumerant_near _ _ _ _ _ at-start.requires at-if1.if-kind-eq0.false (guess_right _ _ _ c.in-Some.is at-guessed.guessed-enumerant.ensures))
 
-returns-2 : tie.Need-returns-in-At
+returns-2 : tie.Need-returns-in-Some
 returns-2 c =
     let at-guessed = c.before in
     let at-if1 = at-guessed.before in
     let at-start = at-if1.before.before.before in
-    let t = enumerant_at _ _ _ _ _ at-start.requires at-if1.if-kind-eq0.false (guess_right _ _ _ c.in-At.is at-guessed.guessed-enumerant.ensures) in (λ s. t.0, t.1)
+    let t = enumerant_at _ _ _ _ _ at-start.requires at-if1.if-kind-eq0.false (guess_right _ _ _ c.in-Some.is at-guessed.guessed-enumerant.ensures) in (λ s. t.0, t.1)
 
-returns-3 : tie.Need-returns-in-Nothing
+returns-3 : tie.Need-returns-in-None
 returns-3 c = guess_nothing _
 
 pub guess_enumerant_spec : {M : Type 1} → statement M

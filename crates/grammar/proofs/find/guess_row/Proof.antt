@@ -9,15 +9,15 @@ add_operands : tie.Need-overflow_add-operands
 add_operands c =
     let at-guessed = c.before in
     let at-start = at-guessed.before.before.before in
-    omega (arith, row_near _ _ _ _ at-start.requires (guess_right _ _ _ c.in-At.is at-guessed.guessed-row.ensures))
+    omega (arith, row_near _ _ _ _ at-start.requires (guess_right _ _ _ c.in-Some.is at-guessed.guessed-row.ensures))
 
-returns : tie.Need-returns-in-At
+returns : tie.Need-returns-in-Some
 returns c =
     let at-guessed = c.before in
     let at-start = at-guessed.before.before.before in
-    let t = row_at _ _ _ _ at-start.requires (guess_right _ _ _ c.in-At.is at-guessed.guessed-row.ensures) in (λ s. t.0, t.1)
+    let t = row_at _ _ _ _ at-start.requires (guess_right _ _ _ c.in-Some.is at-guessed.guessed-row.ensures) in (λ s. t.0, t.1)
 
-returns-2 : tie.Need-returns-in-Nothing
+returns-2 : tie.Need-returns-in-None
 returns-2 c = guess_nothing _
 
 pub guess_row_spec : {M : Type 1} → statement M

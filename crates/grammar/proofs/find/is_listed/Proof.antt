@@ -5,15 +5,15 @@ use borrow.Author.Rules.{rules}
 use Rattle.grammar.proofs.find.is_listed.Statement.{statement}
 use Rattle.grammar.proofs.find.is_listed.Tie as tie
 
-returns : tie.Need-returns-in-At
+returns : tie.Need-returns-in-Some
 returns c =
     let at-find-enumerant = c.before in
-    ap is_found (sym c.in-At.is) ∙ found_listed _ _ _ at-find-enumerant.find_enumerant-found.ensures.0
+    ap is_found (sym c.in-Some.is) ∙ found_listed _ _ _ at-find-enumerant.find_enumerant-found.ensures.0
 
-returns-2 : tie.Need-returns-in-Nothing
+returns-2 : tie.Need-returns-in-None
 returns-2 c =
     let at-find-enumerant = c.before in
-    ap is_found (sym c.in-Nothing.is) ∙ found_listed _ _ _ at-find-enumerant.find_enumerant-found.ensures.0
+    ap is_found (sym c.in-None.is) ∙ found_listed _ _ _ at-find-enumerant.find_enumerant-found.ensures.0
 
 pub is_listed_spec : {M : Type 1} → statement M
 is_listed_spec =

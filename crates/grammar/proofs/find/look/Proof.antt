@@ -4,10 +4,10 @@ use borrow.Author.Rules.{rules}
 use Rattle.grammar.proofs.find.look.Statement.{statement}
 use Rattle.grammar.proofs.find.look.Tie as tie
 
-returns : tie.Need-returns-in-At
+returns : tie.Need-returns-in-Some
 returns c =
     let at-guessed = c.before in
-    guess_right _ _ _ c.in-At.is at-guessed.guessed-guess.ensures
+    guess_right _ _ _ c.in-Some.is at-guessed.guessed-guess.ensures
 
 pub look_spec : {M : Type 1} → statement M
 look_spec =

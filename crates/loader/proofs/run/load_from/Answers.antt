@@ -27,35 +27,35 @@ pub admit-verdict-requires : goal.admit-verdict-requires
 admit-verdict-requires c = let running = c.loop-p.invariant in
     record { table_value = c.requires.table_value; bounded = (running.bounded, running.typed); fair = fair _ _ _ _ _ _ _ c.decode-read.ensures running.short }
 
-pub shape_of-instructions-in-Refused : goal.shape_of-instructions-in-Refused
-shape_of-instructions-in-Refused c = same_instructions c.loop-p.invariant
+pub shape_of-instructions-in-Err : goal.shape_of-instructions-in-Err
+shape_of-instructions-in-Err c = same_instructions c.loop-p.invariant
 
-pub shape_of-log-in-Refused : goal.shape_of-log-in-Refused
-shape_of-log-in-Refused c = same_log c.loop-p.invariant
+pub shape_of-log-in-Err : goal.shape_of-log-in-Err
+shape_of-log-in-Err c = same_log c.loop-p.invariant
 
-pub shape_of-strings-in-Refused : goal.shape_of-strings-in-Refused
-shape_of-strings-in-Refused c = same_strings c.loop-p.invariant
+pub shape_of-strings-in-Err : goal.shape_of-strings-in-Err
+shape_of-strings-in-Err c = same_strings c.loop-p.invariant
 
-pub shape_of-types-in-Refused : goal.shape_of-types-in-Refused
-shape_of-types-in-Refused c = same_types c.loop-p.invariant
+pub shape_of-types-in-Err : goal.shape_of-types-in-Err
+shape_of-types-in-Err c = same_types c.loop-p.invariant
 
-pub shape_of-hints-in-Refused : goal.shape_of-hints-in-Refused
-shape_of-hints-in-Refused c = c.loop-p.invariant.same_hints
+pub shape_of-hints-in-Err : goal.shape_of-hints-in-Err
+shape_of-hints-in-Err c = c.loop-p.invariant.same_hints
 
-pub returns-in-Refused : goal.returns-in-Refused
-returns-in-Refused c = let running = c.loop-p.invariant in
-    record { loads_from = halts running c.loop-p-test.true _ (verdict _ _ _ _ _ _ _ c.requires.indexed _ c.decode-read.ensures _ c.admit-verdict.ensures _ c.in-Refused.is); instructions_bound = few_kept running }
+pub returns-in-Err : goal.returns-in-Err
+returns-in-Err c = let running = c.loop-p.invariant in
+    record { loads_from = halts running c.loop-p-test.true _ (verdict _ _ _ _ _ _ _ c.requires.indexed _ c.decode-read.ensures _ c.admit-verdict.ensures _ c.in-Err.is); instructions_bound = few_kept running }
 
 pub keep_operands-requires : goal.keep_operands-requires
 keep_operands-requires c = let running = c.loop-p.invariant in
     let word = c.loop-p-test.true in
-    let goes_in = verdict _ _ _ _ _ _ _ c.requires.indexed _ c.decode-read.ensures _ c.admit-verdict.ensures _ c.in-Got.is in
+    let goes_in = verdict _ _ _ _ _ _ _ c.requires.indexed _ c.decode-read.ensures _ c.admit-verdict.ensures _ c.in-Ok.is in
     let stands = here running goes_in in
     record { indexed = c.requires.indexed; s_len_bound = (stands.short, omega (arith, stands.inside, more running goes_in word)); bounded = (stands.bounded, stands.typed); log_in_bounds = operands_fit running goes_in; shown = goes_in.shown }
 
 pub keep_record-p-requires : goal.keep_record-p-requires
 keep_record-p-requires c = let running = c.loop-p.invariant in
-    let goes_in = verdict _ _ _ _ _ _ _ c.requires.indexed _ c.decode-read.ensures _ c.admit-verdict.ensures _ c.in-Got.is in
+    let goes_in = verdict _ _ _ _ _ _ _ c.requires.indexed _ c.decode-read.ensures _ c.admit-verdict.ensures _ c.in-Ok.is in
     let stands = here running goes_in in
     record { bounded = (stands.bounded, stands.typed); moderate = moderate goes_in.shown stands.short; record_size_in_bounds = record_fits running goes_in; types_in_bounds = entries_fit running goes_in }
 
@@ -63,14 +63,14 @@ pub loop-p-smaller : goal.loop-p-smaller
 loop-p-smaller c =
     let running = c.loop-p.invariant in
     let word = c.loop-p-test.true in
-    let goes_in = verdict _ _ _ _ _ _ _ c.requires.indexed _ c.decode-read.ensures _ c.admit-verdict.ensures _ c.in-Got.is in
+    let goes_in = verdict _ _ _ _ _ _ _ c.requires.indexed _ c.decode-read.ensures _ c.admit-verdict.ensures _ c.in-Ok.is in
     fewer running goes_in word c.keep_record-p.ensures
 
 pub loop-p-preserved : goal.loop-p-preserved
 loop-p-preserved c =
     let running = c.loop-p.invariant in
     let word = c.loop-p-test.true in
-    let goes_in = verdict _ _ _ _ _ _ _ c.requires.indexed _ c.decode-read.ensures _ c.admit-verdict.ensures _ c.in-Got.is in
+    let goes_in = verdict _ _ _ _ _ _ _ c.requires.indexed _ c.decode-read.ensures _ c.admit-verdict.ensures _ c.in-Ok.is in
     goes_on_lem running goes_in word c.keep_record-p.ensures _ _ _ c.requires.indexed c.keep_operands.ensures c.hints-1.given
 
 pub shape_of-instructions : goal.shape_of-instructions

@@ -12,5 +12,5 @@ row_of_spec =
     (λ c. search rules)
     (λ c. search rules)
     (λ c κs. search rules)
-    (λ c. let at-guess-row = c.before in row_guessed _ _ _ _ at-guess-row.guess_row-guess.ensures.0 at-guess-row.guess_row-guess.ensures.1 c.in-At.is)
+    (λ c. let at-guess-row = c.before in row_guessed _ _ _ _ at-guess-row.guess_row-guess.ensures.0 at-guess-row.guess_row-guess.ensures.1 c.in-Some.is)
     (λ c. search rules))

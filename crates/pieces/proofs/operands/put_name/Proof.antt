@@ -28,26 +28,26 @@ sub_put_bytes : tie.Need-slice_bounds-put_bytes-count
 sub_put_bytes c =
     let at-find = c.before.before in
     let at-found = c.before in
-    (name_inside _ _ _ _ at-find.find-found.ensures.1 at-found.in-At.is).0
+    (name_inside _ _ _ _ at-find.find-found.ensures.1 at-found.in-Some.is).0
 
 part_put_bytes_start : tie.Need-slice_bounds-put_bytes-start
 part_put_bytes_start c =
     let at-find = c.before.before in
     let at-found = c.before in
-    omega (arith, name_inside _ _ _ _ at-find.find-found.ensures.1 at-found.in-At.is)
+    omega (arith, name_inside _ _ _ _ at-find.find-found.ensures.1 at-found.in-Some.is)
 
 part_put_bytes_end : tie.Need-slice_bounds-put_bytes-end
 part_put_bytes_end c =
     let at-find = c.before.before in
     let at-found = c.before in
-    omega (arith, name_inside _ _ _ _ at-find.find-found.ensures.1 at-found.in-At.is)
+    omega (arith, name_inside _ _ _ _ at-find.find-found.ensures.1 at-found.in-Some.is)
 
 put-bytes-requires : tie.Need-put_bytes-requires
 put-bytes-requires c κs =
     let at-find = c.before.before.before in
     let at-found = c.before.before in
     let at-start = c.before.before.before.before.before.before.before in
-    room_as _ _ (sym (name_found _ _ _ _ _ _ at-find.find-found.ensures.0 at-found.in-At.is)) at-start.requires.1
+    room_as _ _ (sym (name_found _ _ _ _ _ _ at-find.find-found.ensures.0 at-found.in-Some.is)) at-start.requires.1
 
 same_length : tie.Need-shape_of-out
 same_length c = search rules
@@ -57,7 +57,7 @@ returns-2 c =
     let at-find = c.before.before.before.before.before.before in
     let at-found = c.before.before.before.before.before in
     let at-put-bytes = c.before.before in
-    wrote_as _ _ (name_found _ _ _ _ _ _ at-find.find-found.ensures.0 at-found.in-At.is) at-put-bytes.put_bytes.ensures
+    wrote_as _ _ (name_found _ _ _ _ _ _ at-find.find-found.ensures.0 at-found.in-Some.is) at-put-bytes.put_bytes.ensures
 
 pub put_name_spec : {M : Type 1} → statement M
 put_name_spec = tie.close (tie.spec find-requires enum_known_found enum_told returns sub_put_bytes part_put_bytes_start part_put_bytes_end put-bytes-requires same_length returns-2)

@@ -4,12 +4,12 @@ use borrow.Author.Rules.{rules}
 use Rattle.steps.proofs.parts.id_word.Statement.{statement}
 use Rattle.steps.proofs.parts.id_word.Tie as tie
 
-returns : tie.Need-returns-in-Absent
+returns : tie.Need-returns-in-None
 unfolding id_is
 returns c =
     search rules
 
-returns-2 : tie.Need-returns-in-Is
+returns-2 : tie.Need-returns-in-Some
 unfolding id_is
 returns-2 c =
     search rules

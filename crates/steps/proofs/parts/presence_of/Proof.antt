@@ -4,22 +4,22 @@ use borrow.Author.Rules.{rules}
 use Rattle.steps.proofs.parts.presence_of.Statement.{statement}
 use Rattle.steps.proofs.parts.presence_of.Tie as tie
 
-returns : tie.Need-returns-in-Absent-rid
+returns : tie.Need-returns-in-None-rid
 unfolding id_is
 returns c =
     search rules
 
-returns-2 : tie.Need-returns-in-Is-rid
+returns-2 : tie.Need-returns-in-Some-rid
 unfolding id_is
 returns-2 c =
     search rules
 
-returns-3 : tie.Need-returns-in-Absent-rid-2
+returns-3 : tie.Need-returns-in-None-rid-2
 unfolding id_is
 returns-3 c =
     search rules
 
-returns-4 : tie.Need-returns-in-Is-rid-2
+returns-4 : tie.Need-returns-in-Some-rid-2
 unfolding id_is
 returns-4 c =
     search rules

@@ -19,9 +19,9 @@ returns-in_default c =
 
 pub put_entry-requires-2 : goal.put_entry-requires-2
 put_entry-requires-2 c =
-    sits_within (sits c.requires.count_in_bounds _ c.find-found.ensures _ c.in-At.is)
+    sits_within (sits c.requires.count_in_bounds _ c.find-found.ensures _ c.in-Some.is)
 
 pub returns : goal.returns
 returns c =
-    tracked_found _ _ _ _ _ _ c.requires.hinted _ _ (sits c.requires.count_in_bounds _ c.find-found.ensures _ c.in-At.is)
+    tracked_found _ _ _ _ _ _ c.requires.hinted _ _ (sits c.requires.count_in_bounds _ c.find-found.ensures _ c.in-Some.is)
     c.requires.count_in_bounds c.put_entry-2.ensures
