@@ -18,11 +18,7 @@ use rules::{
 fn end_of_row(op: u16, p: Passed, at: usize) -> Option<usize>
     ensures { (before : List Slot) → p ≡ passed_of before → result ≡ ends_where (row_end op before) at }
 {
-    if row_end(op, p) {
-        Some(at)
-    } else {
-        None
-    }
+    if row_end(op, p) { Some(at) } else { None }
 }
 
 // Where the operands of a row end that start at a place; nothing where a rule is broken.

@@ -20,10 +20,10 @@ found_own n l a id k h e = sym (a k h) ∙ ap (λ (i : ℕ). place_of i (entries
 -- an id that no entry has is not found
 pub found_none : (n : ℕ) (l : List ℕ) → 3 * n ≤ length l → (id : ℕ) → ((k : ℕ) → k < n → get_or l (3 * k) 0 ≡ id → ⊥)
     → None ≡ place_of id (entries_of n l)
-found_none n l room id None = by (place_of id (entries_of n l)) refl
+found_none n l room id none = by (place_of id (entries_of n l)) refl
   where
     by : (f : Option ℕ) → f ≡ place_of id (entries_of n l) → None ≡ place_of id (entries_of n l)
-    by (Some k) e = let m = sits room (Some k) e k refl in absurd (None k (sits_below m) (own_word m))
+    by (Some k) e = let m = sits room (Some k) e k refl in absurd (none k (sits_below m) (own_word m))
     by None e = e
 
 -- how far a search has come: no entry before the one index is the id's, and none from the other on

@@ -14,7 +14,7 @@ mod index;
 
 use index::{find, marks_for, note};
 use operand::{Operand, Parts, operand_of};
-use spec::{opcodes};
+use spec::opcodes;
 
 // What is known of an id: its width, and its sort: 1 unsigned, 2 signed, 3 float.
 #[derive(Clone, Copy)]

@@ -9,7 +9,7 @@ ghost use Rattle.tracker.specs.Track.{id_is};
 ghost use Rattle.used.specs.Parse.{word_is, FirstFits, selector_of, Pushed, Copied};
 ghost use Rattle.used.specs.Fresh.{unused, with_result};
 
-use decoder::Decoder;
+use decoder::{Answer, Decoder};
 use operand::Parts;
 use spec::{Refusal, kinds};
 

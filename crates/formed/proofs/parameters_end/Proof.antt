@@ -31,7 +31,7 @@ returns-2 c =
     let at-item-at = at_x.before in
     let at-loop-test = at-item-at.before in
     let at-loop = at-loop-test.before in
-    own_stop at-loop.loop-at.invariant at-loop-test.loop-at-test.true _ _ at-item-at.item_at-x.ensures at_x.in-Some.is _ c.before.parameter_rule.ensures (not-true _ (not_from_false _ c.if-not-parameter_rule.true))
+    own_stop at-loop.loop-at.invariant at-loop-test.loop-at-test.true _ _ at-item-at.item_at-x.ensures at_x.in-Parameter.is _ c.before.parameter_rule.ensures (not-true _ (not_from_false _ c.if-not-parameter_rule.true))
 
 add_at : tie.Need-overflow_add-at invariant-loop-at decreases-loop-at
 add_at c = omega arith
@@ -50,7 +50,7 @@ loop-again c =
     let at-loop-test = at-item-at.before in
     let at-loop = at-loop-test.before in
     let at-start = at-loop.before.before in
-    own_turn at-loop.loop-at.invariant at-loop-test.loop-at-test.true _ _ at-item-at.item_at-x.ensures at_x.in-Some.is _ at-parameter-rule.parameter_rule.ensures (not-false _ (not_from_true _ at-if1.if-not-parameter_rule.false)) at-start.requires.3 at-start.requires.4 (omega arith) (omega (arith, at-known-told.in-Some.known_told-1-own.given)) _ _ at-note.note.ensures c.note-in-loop-at.ensures
+    own_turn at-loop.loop-at.invariant at-loop-test.loop-at-test.true _ _ at-item-at.item_at-x.ensures at_x.in-Parameter.is _ at-parameter-rule.parameter_rule.ensures (not-false _ (not_from_true _ at-if1.if-not-parameter_rule.false)) at-start.requires.3 at-start.requires.4 (omega arith) (omega (arith, at-known-told.in-Parameter.known_told-1-own.given)) _ _ at-note.note.ensures c.note-in-loop-at.ensures
 
 returns-3 : tie.Need-returns invariant-loop-at decreases-loop-at
 returns-3 c =

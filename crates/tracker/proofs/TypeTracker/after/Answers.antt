@@ -22,5 +22,5 @@ returns-in_default-found c =
 pub returns : goal.returns
 returns c =
     let known = c.typed-typed.ensures _ c.resolve-known.ensures in
-    length_found (sits c.requires.count_in_bounds _ c.find-found.ensures _ c.in-Some.is) _ _
+    length_found (sits c.requires.count_in_bounds _ c.find-found.ensures _ c.in-Some-found.is) _ _
     ∙ ap length (result_defined _ _ _ c.in-Some.is _ known _ _ c.in-Type.is)

@@ -17,7 +17,7 @@ type-at-requires c κs =
     let at-found = c in
     let at-find = at-found.before in
     let at-start = at-find.before.before.before.before in
-    sits_within (sits at-start.requires.0 _ at-find.find-found.ensures _ at-found.in-Some.is)
+    sits_within (sits at-start.requires.0 _ at-find.find-found.ensures _ at-found.in-Some-found.is)
 
 returns-3 : tie.Need-returns
 returns-3 c =
@@ -25,7 +25,7 @@ returns-3 c =
     let at-find = at-found.before in
     let at-id = at-find.before in
     let at-start = at-id.before.before.before in
-    known_found _ _ at-id.in-Some.is (sits at-start.requires.0 _ at-find.find-found.ensures _ at-found.in-Some.is) _ c.type_at.ensures
+    known_found _ _ at-id.in-Some.is (sits at-start.requires.0 _ at-find.find-found.ensures _ at-found.in-Some-found.is) _ c.type_at.ensures
 
 pub resolve_spec : {M : Type 1} → statement M
 resolve_spec =
