@@ -107,10 +107,9 @@ fn simple_text(d: Decoder, s: &[u8], log: &mut [u8], strings: &mut [u8], u: Used
     ensures { (g : Grammar) → IfTaken (Parses s.now d 4 (read_each g (40 ∷ []) (reader_of s.now d)) log.old strings.old log.new strings.new u) result }
 {
     let t = d.string(s);
-    let Ok(x) = t else {
+    let Ok((x, e)) = t else {
         return None;
     };
-    let e = x.next;
     let n = push_text(log, strings, s, x.start, x.length, x.breaks, u);
     taken(Ok((n, e)), u.breaks)
 }

@@ -156,9 +156,9 @@ module _ (s : List ℕ) (g : Grammar) (k : ℕ) (d : Decoder) where
     each_text y h = rw z (ap (λ (m : Read (List ℕ)). after (after m (λ a. give (text a))) (λ o. give (o ∷ []))) h)
 
     -- a string
-    text_good_lem : (x : Text) → Ok x ≡ text_from s d
-        → read_each g (k ∷ []) (reader_of s d) ≡ got (text (slice x.start (x.start + x.length) s) ∷ []) (reader_of s x.next)
-    text_good_lem x h = each_text _ (sym (text_within s d i) ∙ (text_got s d x h).reads)
+    text_good_lem : (x : Text) (e : Decoder) → Ok (x, e) ≡ text_from s d
+        → read_each g (k ∷ []) (reader_of s d) ≡ got (text (slice x.start (x.start + x.length) s) ∷ []) (reader_of s e)
+    text_good_lem x e h = each_text _ (sym (text_within s d i) ∙ (text_got s d e x h).reads)
 
     -- no string
     pub text_bad : (x : Refusal) (e : Decoder) → Err (x, e) ≡ text_from s d → read_each g (k ∷ []) (reader_of s d) ≡ refused x (reader_of s e)
@@ -307,9 +307,9 @@ text_limit s d m bs q e h =
     ltb-false (length (drop d.offset s)) (4 * m) (rw e at y)
 
 -- a string, within a limit
-step_text : (s : List ℕ) (d : Decoder) (u : Used) (x : Text) → Ok x ≡ text_from s d → Few s d u → Step s d x.next (text_words x.length)
-step_text s d u x h f =
-    let g = text_got s d x h in
+step_text : (s : List ℕ) (d e : Decoder) (u : Used) (x : Text) → Ok (x, e) ≡ text_from s d → Few s d u → Step s d e (text_words x.length)
+step_text s d e u x h f =
+    let g = text_got s d e x h in
     let b = text_limit s d f.left _ _ f.limited (sym (text_within s d f.inside) ∙ g.reads) in
     let c = g.took.counted f.left f.limited in
     record {
@@ -319,8 +319,8 @@ step_text s d u x h f =
     }
 
 -- where it stands
-text_inside : (s : List ℕ) (d : Decoder) (x : Text) → Ok x ≡ text_from s d → x.start + x.length < length s
-text_inside s d x h = (text_got s d x h).inside
+text_inside : (s : List ℕ) (d e : Decoder) (x : Text) → Ok (x, e) ≡ text_from s d → x.start + x.length < length s
+text_inside s d e x h = (text_got s d e x h).inside
 
 -- its record: start, length
 text_record : (a b : ℕ) → a < 4294967296 → record_of (parts 40 (a + 4294967296 * b)) ≡ 40 ∷ (bytes_of a ++ bytes_of b)
@@ -365,38 +365,38 @@ text_went s d e size m t q =
     record { pace = w.pace; forth = omega (arith, w.forth) }
 
 -- what breaks a string is what breaks its padding
-spotted_text : (s : List ℕ) (d : Decoder) (u n : Used) (x : Text) → Ok x ≡ text_from s d → Step s d x.next (text_words x.length)
-    → n.breaks ≡ first_break u.breaks x.breaks → Spotted s d x.next u n (text (slice x.start (x.start + x.length) s) ∷ [])
+spotted_text : (s : List ℕ) (d e : Decoder) (u n : Used) (x : Text) → Ok (x, e) ≡ text_from s d → Step s d e (text_words x.length)
+    → n.breaks ≡ first_break u.breaks x.breaks → Spotted s d e u n (text (slice x.start (x.start + x.length) s) ∷ [])
 unfolding operand_size operand_break
-spotted_text s d u n x h t b =
-    let g = text_got s d x h in
+spotted_text s d e u n x h t b =
+    let g = text_got s d e x h in
     let size : length (slice x.start (x.start + x.length) s) ≡ x.length = size_is s x.start x.length g.inside in
-    spotted_one s d x.next u n (text (slice x.start (x.start + x.length) s))
+    spotted_one s d e u n (text (slice x.start (x.start + x.length) s))
     (t.next ∙ ap (λ (i : ℕ). d.offset + 4 * text_words i) (sym size))
     (b ∙ ap (first_break u.breaks)
     (g.breaks ∙ ap (λ (i : ℕ). text_break i x.length (drop d.offset s)) g.start
     ∙ ap (λ (i : ℕ). text_break d.offset i (drop d.offset s)) (sym size)))
 
 -- a string may be added
-pub may_copy : {s : List ℕ} {d : Decoder} {u : Used} {x : Text} → Few s d u → Ok x ≡ text_from s d
+pub may_copy : {s : List ℕ} {d e : Decoder} {u : Used} {x : Text} → Few s d u → Ok (x, e) ≡ text_from s d
     → ((u.log ≤ 1000000000) × (u.operands ≤ 1000000000) × (u.strings ≤ 1000000000) × (x.length ≤ 1000000000) × (u.base ≤ 1000000000))
     × (x.start + x.length ≤ length s)
-may_copy {s} {d} {u} {x} f h =
+may_copy {s} {d} {e} {u} {x} f h =
     let b = few_small f in
-    let i = text_inside s d x h in
+    let i = text_inside s d e x h in
     ((b.0, b.1, omega (arith, b.2), omega (arith, i, f.short), omega (arith, b.2)), omega (arith, i))
 
 -- a string was read
-pub text_parsed : (s l t l₁ t₁ : List ℕ) (d : Decoder) (u n : Used) (k : ℕ) (g : Grammar) (x : Text) → Few s d u → k ≡ 40 → Ok x ≡ text_from s d
+pub text_parsed : (s l t l₁ t₁ : List ℕ) (d e : Decoder) (u n : Used) (k : ℕ) (g : Grammar) (x : Text) → Few s d u → k ≡ 40 → Ok (x, e) ≡ text_from s d
     → Copied x.length x.breaks u n → Laid l u.log (record_of (parts 40 (u.base + u.strings + 4294967296 * x.length))) l₁
     → Laid t u.strings (slice x.start (x.start + x.length) s) t₁
-    → Parses s d 4 (read_each g (k ∷ []) (reader_of s d)) l t l₁ t₁ u (Ok (n, x.next))
-text_parsed s l t l₁ t₁ d u n k g x f z h p q r =
-    let y = step_text s d u x h f in
-    accept s d 4 _ l t l₁ t₁ u n x.next _ (text_good_lem s g k d z f.inside x h)
-    (held_text s x.start x.length (text_inside s d x h) l t l₁ t₁ u n (omega (arith, (few_small f).2)) p q r)
-    (few_copied s d x.next u n x.length x.breaks f y p) (text_went s d x.next x.length f.left y f.limited)
-    (spotted_text s d u n x h y p.breaks)
+    → Parses s d 4 (read_each g (k ∷ []) (reader_of s d)) l t l₁ t₁ u (Ok (n, e))
+text_parsed s l t l₁ t₁ d e u n k g x f z h p q r =
+    let y = step_text s d e u x h f in
+    accept s d 4 _ l t l₁ t₁ u n e _ (text_good_lem s g k d z f.inside x e h)
+    (held_text s x.start x.length (text_inside s d e x h) l t l₁ t₁ u n (omega (arith, (few_small f).2)) p q r)
+    (few_copied s d e u n x.length x.breaks f y p) (text_went s d e x.length f.left y f.limited)
+    (spotted_text s d e u n x h y p.breaks)
 
 -- LITERALS OF TWO WORDS
 

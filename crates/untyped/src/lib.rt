@@ -38,22 +38,16 @@ fn read_enumerant(d: Decoder, s: &[u8], g: &[u8], index: &[u16], kind: u8) -> An
     if d.limit_reached() {
         return no_enumerant(refusals::STREAM_ENDED, at, 0, d);
     }
-    let w = d.word(s);
-    match w {
-        Err((x, e)) => Err((x, e)),
-        Ok((v, e)) => {
-            if grammar::is_mask(kind) {
-                if grammar::is_known(g, index, kind, v) {
-                    return Ok(((v, g.len()), e));
-                }
-                return no_enumerant(refusals::ENUMERANT_UNKNOWN, at, v, e);
-            }
-            let found = grammar::find_enumerant(g, index, kind, v);
-            let Some(place) = found else {
-                return no_enumerant(refusals::ENUMERANT_UNKNOWN, at, v, e);
-            };
-            Ok(((v, place), e))
+    let (v, e) = d.word(s)?;
+    if grammar::is_mask(kind) {
+        if grammar::is_known(g, index, kind, v) {
+            return Ok(((v, g.len()), e));
         }
+        return no_enumerant(refusals::ENUMERANT_UNKNOWN, at, v, e);
+    }
+    match grammar::find_enumerant(g, index, kind, v) {
+        Some(place) => Ok(((v, place), e)),
+        None => no_enumerant(refusals::ENUMERANT_UNKNOWN, at, v, e),
     }
 }
 
@@ -62,11 +56,8 @@ pub fn read_word(d: Decoder, s: &[u8], kind: u8, log: &mut [u8], u: Used) -> Ans
     requires { Few s.now d u × (is_word kind ≡ true) }
     ensures { (g : Grammar) (t : List ℕ) → Parses s.now d 4 (read_each g (kind ∷ []) (reader_of s.now d)) log.old t log.new t u result }
 {
-    let w = d.word(s);
-    match w {
-        Err((x, e)) => Err((x, e)),
-        Ok((v, e)) => Ok((push(log, kind, v as u64, u), e)),
-    }
+    let (v, e) = d.word(s)?;
+    Ok((push(log, kind, v as u64, u), e))
 }
 
 // One record of a kind: an enumerant, a string, or one word.
@@ -85,26 +76,15 @@ pub fn read_one(
     ensures { Parses s.now d 4 (read_each (grammar_of g.now) (kind ∷ []) (reader_of s.now d)) log.old strings.old log.new strings.new u result }
 {
     if grammar::is_enum(kind) {
-        let r = read_enumerant(d, s, g, index, kind);
-        match r {
-            Err((x, e)) => Err((x, e)),
-            Ok(((v, _), e)) => Ok((push(log, kind, v as u64, u), e)),
-        }
-    } else {
-        if kind == kinds::STRING {
-            let t = d.string(s);
-            match t {
-                Err((x, e)) => Err((x, e)),
-                Ok(x) => {
-                    let e = x.next;
-                    let n = push_text(log, strings, s, x.start, x.length, x.breaks, u);
-                    Ok((n, e))
-                }
-            }
-        } else {
-            read_word(d, s, kind, log, u)
-        }
+        let ((v, _), e) = read_enumerant(d, s, g, index, kind)?;
+        return Ok((push(log, kind, v as u64, u), e));
     }
+    if kind == kinds::STRING {
+        let (x, e) = d.string(s)?;
+        let n = push_text(log, strings, s, x.start, x.length, x.breaks, u);
+        return Ok((n, e));
+    }
+    read_word(d, s, kind, log, u)
 }
 
 // The parameters that start at a place of the grammar, each as one record.
@@ -125,15 +105,8 @@ pub fn parse_parameters(
     let mut d = start;
     let mut u = used;
     let mut p = place;
-    while p < g.len() {
-        let x = grammar::parameter_at(g, p);
-        let Some(k) = x else {
-            return Ok((u, d));
-        };
-        let r = read_one(d, s, g, index, k, log, strings, u);
-        let Ok((n, e)) = r else {
-            return r;
-        };
+    while let Some(k) = grammar::parameter_at(g, p) {
+        let (n, e) = read_one(d, s, g, index, k, log, strings, u)?;
         d = e;
         u = n;
         p += 2;
@@ -157,11 +130,10 @@ fn parse_listed(
     requires few { Few s.now d u }
     ensures { Parses s.now d 0 (read_each (grammar_of g.now) (or_none (listed kind value (grammar_of g.now).enumerants)) (reader_of s.now d)) log.old strings.old log.new strings.new u result }
 {
-    let found = grammar::find_enumerant(g, index, kind, value);
-    let Some(p) = found else {
-        return Ok((u, d));
-    };
-    parse_parameters(d, s, g, index, p, log, strings, u)
+    match grammar::find_enumerant(g, index, kind, value) {
+        Some(p) => parse_parameters(d, s, g, index, p, log, strings, u),
+        None => Ok((u, d)),
+    }
 }
 
 // The parameters of a bit, where it is set: the lowest of what is left of a mask.
@@ -208,10 +180,7 @@ fn parse_bits(
     let mut rest = value;
     let mut bit: u64 = 1;
     while rest != 0 {
-        let r = parse_bit(d, s, g, index, kind, bit as u32, rest, log, strings, u);
-        let Ok((n, e)) = r else {
-            return r;
-        };
+        let (n, e) = parse_bit(d, s, g, index, kind, bit as u32, rest, log, strings, u)?;
         d = e;
         u = n;
         rest = rest / 2;
@@ -259,10 +228,7 @@ fn parse_pair(
     requires few { Few s.now d u × (is_single second ≡ true) }
     ensures { Parses s.now d 4 (read_each (grammar_of g.now) (33 ∷ second ∷ []) (reader_of s.now d)) log.old strings.old log.new strings.new u result }
 {
-    let r = read_one(d, s, g, index, kinds::ID_REF, log, strings, u);
-    let Ok((n, e)) = r else {
-        return r;
-    };
+    let (n, e) = read_one(d, s, g, index, kinds::ID_REF, log, strings, u)?;
     read_one(e, s, g, index, second, log, strings, n)
 }
 
@@ -282,23 +248,17 @@ pub fn parse_operand(
     ensures { Parses s.now d 4 (read_operand (grammar_of g.now) kind (reader_of s.now d)) log.old strings.old log.new strings.new u result }
 {
     if grammar::is_enum(kind) {
-        let r = read_enumerant(d, s, g, index, kind);
-        match r {
-            Err((x, e)) => Err((x, e)),
-            Ok(((v, place), e)) => {
-                let n = push(log, kind, v as u64, u);
-                parse_values(e, s, g, index, kind, v, place, log, strings, n)
-            }
-        }
-    } else {
-        if kind == kinds::ID_AND_LITERAL {
-            return parse_pair(d, s, g, index, kinds::INT32, log, strings, u);
-        }
-        if kind == kinds::ID_AND_ID {
-            return parse_pair(d, s, g, index, kinds::ID_REF, log, strings, u);
-        }
-        read_one(d, s, g, index, kind, log, strings, u)
+        let ((v, place), e) = read_enumerant(d, s, g, index, kind)?;
+        let n = push(log, kind, v as u64, u);
+        return parse_values(e, s, g, index, kind, v, place, log, strings, n);
     }
+    if kind == kinds::ID_AND_LITERAL {
+        return parse_pair(d, s, g, index, kinds::INT32, log, strings, u);
+    }
+    if kind == kinds::ID_AND_ID {
+        return parse_pair(d, s, g, index, kinds::ID_REF, log, strings, u);
+    }
+    read_one(d, s, g, index, kind, log, strings, u)
 }
 
 // The place of the operand that comes next: ZeroOrMore stays.

@@ -1,0 +1,33 @@
+-- `untyped::parse_operand` meets its contract: an enumerant with its parameters, two pairs, one record.
+use native.Mathlib.Omega.{arith}
+use mathlib.Core.Path.{refl, sym, ◌∙◌}
+use Rattle.spec.proofs.Answered.{passed_on}
+use Rattle.untyped.proofs.One.{may_push, known_told, unread_told, held_narrow, few_pushed, spotted_enum}
+use Rattle.untyped.proofs.Walk.{same_read, seq, deny, step_went}
+use Rattle.untyped.proofs.KindLaws.{enum_narrow, narrow_fits, untyped_single, id_single, number_single}
+use Rattle.untyped.proofs.Values.{place_listed, operand_known, operand_bad, pair_number, pair_ids, single}
+use Rattle.untyped.proofs.parse_operand.Goals as goal
+
+pub push-n-requires : goal.push-n-requires
+push-n-requires c = may_push c.requires.few.0 (narrow_fits _ _ (enum_narrow _ (sym c.is_enum.ensures ∙ c.if-is_enum.true)) (omega arith))
+
+pub returns-in_err-v : goal.returns-in_err-v
+returns-in_err-v c =
+    deny _ _ _ _ _ _ _ _ _ _ _ _ (passed_on _ c.from_residual.ensures)
+    (operand_bad _ _ _ _ _ c.is_enum.ensures c.if-is_enum.true _ _ (unread_told _ _ _ _ _ _ _ c.in_err-v.ensures refl))
+
+pub parse_values-requires-clause-few : goal.parse_values-requires-clause-few
+parse_values-requires-clause-few c =
+    let k = known_told _ _ _ _ _ _ _ _ c.in_ok-v.ensures refl in
+    (few_pushed _ _ _ _ _ _ _ _ c.requires.few.0 k.step (omega arith) c.push-n.ensures.pushed, k.inside)
+
+pub parse_values-requires-clause-place_value : goal.parse_values-requires-clause-place_value
+parse_values-requires-clause-place_value c = place_listed _ _ _ _ _ _ _ (known_told _ _ _ _ _ _ _ _ c.in_ok-v.ensures refl)
+
+pub returns-then-is_enum : goal.returns-then-is_enum
+returns-then-is_enum c =
+    let k = known_told _ _ _ _ _ _ _ _ c.in_ok-v.ensures refl in
+    let e = sym c.is_enum.ensures ∙ c.if-is_enum.true in
+    seq (held_narrow _ _ _ _ _ _ _ (enum_narrow _ e) c.push-n.ensures.pushed c.push-n.ensures.laid) _ _ _ _ _ _
+    (step_went _ _ _ _ k.step _ c.requires.few.0.limited) (spotted_enum _ _ _ _ _ _ _ k.step e c.push-n.ensures.breaks_value)
+    (operand_known _ _ _ _ _ c.is_enum.ensures c.if-is_enum.true _ _ _ k) _ c.parse_values.ensures
