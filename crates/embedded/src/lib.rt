@@ -23,11 +23,7 @@ fn may_embed(g: &[u8], place: usize) -> bool
     ensures { result ≡ every embeds (slots_at g.now place) }
 {
     let mut p = place;
-    while p < g.len() {
-        let x = grammar::slot_at(g, p);
-        let Some((k, _)) = x else {
-            return true;
-        };
+    while let Some((k, _)) = grammar::slot_at(g, p) {
         if (k == kinds::EMBEDDED) | (k == kinds::TYPED_LITERAL) | (k == kinds::LITERAL_AND_ID) {
             return false;
         }
@@ -75,15 +71,8 @@ fn parse_once(
     let mut d = start;
     let mut u = used;
     let mut p = place;
-    while p < g.len() {
-        let x = grammar::slot_at(g, p);
-        let Some((kind, _)) = x else {
-            return Ok((u, d));
-        };
-        let r = parse_inner(d, s, g, index, kind, log, strings, u);
-        let Ok((n, e)) = r else {
-            return r;
-        };
+    while let Some((kind, _)) = grammar::slot_at(g, p) {
+        let (n, e) = parse_inner(d, s, g, index, kind, log, strings, u)?;
         d = e;
         u = n;
         p += 3;
@@ -129,20 +118,14 @@ pub fn parse_spec_constant_op(
     ensures { Parses s.now d 4 (read_embedded (grammar_of g.now) (reader_of s.now d)) log.old strings.old log.new strings.new u result }
 {
     let at = d.offset;
-    let w = d.word(s);
-    match w {
-        Err((x, e)) => Err((x, e)),
-        Ok((v, e)) => {
-            let opcode = (v % 65536) as u16;
-            let found = grammar::find_row(g, index, opcode);
-            let Some(p) = found else {
-                return refused(refusals::EMBEDDED_OPCODE, e.offset, e);
-            };
-            if !may_embed(g, p) {
-                return refused(refusals::EMBEDDED_ROW, e.offset, e);
-            }
-            let n = push_opcode(log, v, at, u);
-            parse_once(e, s, g, index, p, log, strings, n)
-        }
+    let (v, e) = d.word(s)?;
+    let opcode = (v % 65536) as u16;
+    let Some(p) = grammar::find_row(g, index, opcode) else {
+        return refused(refusals::EMBEDDED_OPCODE, e.offset, e);
+    };
+    if !may_embed(g, p) {
+        return refused(refusals::EMBEDDED_ROW, e.offset, e);
     }
+    let n = push_opcode(log, v, at, u);
+    parse_once(e, s, g, index, p, log, strings, n)
 }

@@ -1,6 +1,5 @@
 // One instruction.
 ghost use Rattle.std.specs.Prelude.{◌≡◌, ◌*◌, ◌≤◌, length};
-ghost use Rattle.spec.specs.declared.Limit.TheVariants.{Unlimited};
 ghost use Rattle.spec.specs.Reader.{refusal, reader_at};
 ghost use Rattle.spec.specs.Grammar.{grammar_of, row_of};
 ghost use Rattle.spec.specs.Match.{read_instr};
@@ -15,7 +14,7 @@ ghost use Rattle.untyped.specs.Body.{Framed, body_read};
 use crate::rows::parse_operands;
 use decoder::Decoder;
 use operand::Parts;
-use simple::{simple_operands};
+use simple::simple_operands;
 use spec::{Refusal, refusals};
 use tracker::TypeTracker;
 use used::{Frame, Used};
@@ -53,36 +52,25 @@ fn no_inst(number: u32, place: usize, value: u32) -> Result<Decoded, Refusal>
 fn finished(frame: Frame, e: Decoder, u: Used) -> Result<Decoded, Refusal>
     ensures { Ended frame e u result }
 {
-    let opcode = frame.opcode;
-    let words = frame.words;
-    let place = frame.place;
-    let rtype = u.rtype;
-    let rid = u.rid;
-    let operands = u.operands;
-    let first = Parts {
-        kind: u.kind1,
-        value: u.value1,
-    };
-    let second = Parts {
-        kind: u.kind2,
-        value: u.value2,
-    };
-    let log = u.log;
-    let strings = u.strings;
-    let breaks = u.breaks;
     if e.limit_reached() {
         return Ok(Decoded {
-            opcode,
-            words,
-            place,
-            rtype,
-            rid,
-            operands,
-            first,
-            second,
-            log,
-            strings,
-            breaks,
+            opcode: frame.opcode,
+            words: frame.words,
+            place: frame.place,
+            rtype: u.rtype,
+            rid: u.rid,
+            operands: u.operands,
+            first: Parts {
+                kind: u.kind1,
+                value: u.value1,
+            },
+            second: Parts {
+                kind: u.kind2,
+                value: u.value2,
+            },
+            log: u.log,
+            strings: u.strings,
+            breaks: u.breaks,
         });
     }
     no_inst(refusals::OPERAND_EXCEEDED, e.offset, 0)
@@ -112,8 +100,8 @@ pub fn parse_body(
         s, g, index, types, hints, tracker, frame, log, strings, used,
     );
     match parsed {
-        Err((x, _)) => Err(x),
         Ok((u, e)) => finished(frame, e, u),
+        Err((x, _)) => Err(x),
     }
 }
 
@@ -123,8 +111,7 @@ fn row_of(g: &[u8], index: &[u16], opcode: u16) -> Option<usize>
     ensures result_value { row_found g.now result ≡ row_of opcode (grammar_of g.now).rows }
     ensures result_in_bounds { place_found result ≤ length g.now }
 {
-    let guess = grammar::guess_row(g, index, opcode);
-    match guess {
+    match grammar::guess_row(g, index, opcode) {
         Some(place) => Some(place),
         None => grammar::find_row(g, index, opcode),
     }
@@ -148,15 +135,14 @@ pub fn parse_inst(
     requires s_len_bound { (length s.now ≤ 67108864) × (at ≤ length s.now) × Fresh at used }
     requires count_in_bounds { 3 * tracker.count ≤ length types.now }
     requires hinted { Hinted tracker types.now hints.now }
-    ensures decodes_over { DecodesOver s.now at (read_instr (grammar_of g.now) (entries_of tracker.count types.now) (reader_at s.now at Unlimited)) log.new strings.new used result }
-    ensures row_is { RowIs g.now (entries_of tracker.count types.now) s.now at (read_instr (grammar_of g.now) (entries_of tracker.count types.now) (reader_at s.now at Unlimited)) result }
+    ensures decodes_over { DecodesOver s.now at (read_instr (grammar_of g.now) (entries_of tracker.count types.now) (reader_at s.now at None)) log.new strings.new used result }
+    ensures row_is { RowIs g.now (entries_of tracker.count types.now) s.now at (read_instr (grammar_of g.now) (entries_of tracker.count types.now) (reader_at s.now at None)) result }
 {
     let start = Decoder {
         offset: at,
         limit: None,
     };
-    let first = start.word(s);
-    match first {
+    match start.word(s) {
         Err((x, _)) => Err(x),
         Ok((w, _)) => {
             let words = (w / 65536) as u16;
@@ -164,8 +150,7 @@ pub fn parse_inst(
             if words == 0 {
                 return no_inst(refusals::NO_WORDS, at, 0);
             }
-            let row = row_of(g, index, opcode);
-            let Some(place) = row else {
+            let Some(place) = row_of(g, index, opcode) else {
                 return no_inst(refusals::OPCODE_UNKNOWN, at, opcode as u32);
             };
             let frame = Frame {

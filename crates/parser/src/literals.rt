@@ -28,14 +28,10 @@ pub fn parse_literal(
         return refused(refusals::WIDTH_UNSUPPORTED, d.offset, d);
     }
     if (literal == kinds::INT64) | (literal == kinds::FLOAT64) {
-        let long = d.int64(s);
-        match long {
-            Err((x, e)) => Err((x, e)),
-            Ok((v, e)) => Ok((push(log, literal, v, u), e)),
-        }
-    } else {
-        read_one(d, s, g, index, literal, log, strings, u)
+        let (v, e) = d.int64(s)?;
+        return Ok((push(log, literal, v, u), e));
     }
+    read_one(d, s, g, index, literal, log, strings, u)
 }
 
 // A literal of a kind, then an id.
@@ -53,9 +49,6 @@ pub fn parse_literal_pair(
     requires few { Few s.now d u × (is_literal literal ≡ true) }
     ensures { Parses s.now d 4 (pair_alone (kind_is literal) (reader_of s.now d)) log.old strings.old log.new strings.new u result }
 {
-    let r = parse_literal(d, s, g, index, literal, log, strings, u);
-    let Ok((n, e)) = r else {
-        return r;
-    };
+    let (n, e) = parse_literal(d, s, g, index, literal, log, strings, u)?;
     read_one(e, s, g, index, kinds::ID_REF, log, strings, n)
 }

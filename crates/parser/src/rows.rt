@@ -65,17 +65,13 @@ fn parse_slot(
     ensures { (types : List Entry) → kind_is literal ≡ literal_for types u kind → SlotWalks s.now d kind (λ x. read_slot (grammar_of g.now) types x kind (reader_of s.now d)) log.old strings.old log.new strings.new u result }
 {
     if grammar::is_result(kind) {
-        let w = d.word(s);
-        match w {
-            Err((x, e)) => Err((x, e)),
-            Ok((id, e)) => Ok((with_result(u, kind, there(id)), e)),
-        }
-    } else {
-        if (31 <= kind) & (kind <= 35) {
-            return read_word(d, s, kind, log, u);
-        }
-        parse_kind(d, s, g, index, kind, literal, log, strings, u)
+        let (id, e) = d.word(s)?;
+        return Ok((with_result(u, kind, there(id)), e));
     }
+    if (31 <= kind) & (kind <= 35) {
+        return read_word(d, s, kind, log, u);
+    }
+    parse_kind(d, s, g, index, kind, literal, log, strings, u)
 }
 
 // The operands of an instruction by its row, up to its end.
@@ -103,11 +99,7 @@ pub fn parse_operands(
     };
     let mut u = used;
     let mut p = frame.place;
-    while p < g.len() {
-        let x = grammar::slot_at(g, p);
-        let Some((k, q)) = x else {
-            return Ok((u, d));
-        };
+    while let Some((k, q)) = grammar::slot_at(g, p) {
         if d.limit_reached() {
             if q == 0 {
                 return refused(refusals::OPERAND_EXPECTED, d.offset, d);
@@ -115,10 +107,7 @@ pub fn parse_operands(
             return Ok((u, d));
         }
         let literal = literal_for(types, hints, tracker, k, u);
-        let r = parse_slot(d, s, g, index, k, literal, log, strings, u);
-        let Ok((n, e)) = r else {
-            return r;
-        };
+        let (n, e) = parse_slot(d, s, g, index, k, literal, log, strings, u)?;
         d = e;
         u = n;
         p = next_place(p, q);

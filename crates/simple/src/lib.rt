@@ -7,7 +7,6 @@ ghost use Rattle.spec.specs.Kinds.{is_enum, is_result};
 ghost use Rattle.spec.specs.Records.{Entry};
 ghost use Rattle.spec.specs.Grammar.{Grammar, grammar_of};
 ghost use Rattle.spec.specs.Match.{read_each, read_operand, read_slot};
-ghost use Rattle.decoder.specs.declared.WordRead.TheVariants.{Got};
 ghost use Rattle.decoder.specs.Answer.{reader_of, word_from};
 ghost use Rattle.grammar.specs.Index.{Indexed};
 ghost use Rattle.tracker.specs.Entries.{entries_of};
@@ -18,8 +17,7 @@ ghost use Rattle.untyped.specs.Body.{Framed, start_of, row_read};
 ghost use Rattle.simple.specs.Simple.{There, IfTaken};
 
 use decoder::{Answer, Decoder};
-
-use spec::{kinds};
+use spec::kinds;
 use tracker::TypeTracker;
 use untyped::{next_place, parse_parameters};
 use used::{Frame, Used, id_of, literal_kind, push, push_text, there, with_result};
@@ -44,7 +42,7 @@ fn words_left(limit: Option<usize>) -> usize
 // The next word, which is there.
 fn next_word(d: Decoder, s: &[u8]) -> Next
     requires { (length s.now ≤ 67108864) × There s.now d }
-    ensures { Got result.word result.after ≡ word_from s.now d }
+    ensures { Ok (result.word, result.after) ≡ word_from s.now d }
 {
     let at = d.offset;
     let limit = d.limit;
@@ -67,8 +65,7 @@ fn taken(r: Answer<Used>, breaks: usize) -> Option<(Used, Decoder)>
     if n.breaks != breaks {
         return None;
     }
-    let limit = e.limit;
-    let Some(left) = limit else {
+    let Some(left) = e.limit else {
         return None;
     };
     let after = Decoder {
@@ -102,7 +99,13 @@ fn simple_word(d: Decoder, s: &[u8], kind: u8, log: &mut [u8], u: Used) -> Optio
 }
 
 // A string.
-fn simple_text(d: Decoder, s: &[u8], log: &mut [u8], strings: &mut [u8], u: Used) -> Option<(Used, Decoder)>
+fn simple_text(
+    d: Decoder,
+    s: &[u8],
+    log: &mut [u8],
+    strings: &mut [u8],
+    u: Used,
+) -> Option<(Used, Decoder)>
     requires { Few s.now d u }
     ensures { (g : Grammar) → IfTaken (Parses s.now d 4 (read_each g (40 ∷ []) (reader_of s.now d)) log.old strings.old log.new strings.new u) result }
 {
@@ -115,7 +118,13 @@ fn simple_text(d: Decoder, s: &[u8], log: &mut [u8], strings: &mut [u8], u: Used
 }
 
 // A literal of a kind, where that is one word.
-fn simple_literal(d: Decoder, s: &[u8], literal: u8, log: &mut [u8], u: Used) -> Option<(Used, Decoder)>
+fn simple_literal(
+    d: Decoder,
+    s: &[u8],
+    literal: u8,
+    log: &mut [u8],
+    u: Used,
+) -> Option<(Used, Decoder)>
     requires few { Few s.now d u }
     requires there { There s.now d }
     ensures { (t : List ℕ) → IfTaken (Parses s.now d 4 (literal_alone (kind_is literal) (reader_of s.now d)) log.old t log.new t u) result }
@@ -151,13 +160,9 @@ fn simple_value(
         }
         return Some((push(log, kind, 0, u), e));
     }
-    let found = grammar::guess_enumerant(g, index, kind, value);
-    let Some(place) = found else {
-        return None;
-    };
+    let place = grammar::guess_enumerant(g, index, kind, value)?;
     let n = push(log, kind, value as u64, u);
-    let x = grammar::parameter_at(g, place);
-    let Some(_) = x else {
+    let Some(_) = grammar::parameter_at(g, place) else {
         return Some((n, e));
     };
     taken(
@@ -239,22 +244,14 @@ pub fn simple_operands(
     }
     let mut u = used;
     let mut p = frame.place;
-    // An operand has three bytes.
-    while p + 3 <= g.len() {
-        let x = grammar::slot_at(g, p);
-        let Some((k, q)) = x else {
-            return Some((u, d));
-        };
+    while let Some((k, q)) = grammar::slot_at(g, p) {
         if d.limit_reached() {
             if q == 0 {
                 return None;
             }
             return Some((u, d));
         }
-        let r = simple_slot(d, s, g, index, types, hints, tracker, k, log, strings, u);
-        let Some((n, e)) = r else {
-            return None;
-        };
+        let (n, e) = simple_slot(d, s, g, index, types, hints, tracker, k, log, strings, u)?;
         d = e;
         u = n;
         p = next_place(p, q);

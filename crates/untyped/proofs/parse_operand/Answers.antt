@@ -31,3 +31,24 @@ returns-then-is_enum c =
     seq (held_narrow _ _ _ _ _ _ _ (enum_narrow _ e) c.push-n.ensures.pushed c.push-n.ensures.laid) _ _ _ _ _ _
     (step_went _ _ _ _ k.step _ c.requires.few.0.limited) (spotted_enum _ _ _ _ _ _ _ k.step e c.push-n.ensures.breaks_value)
     (operand_known _ _ _ _ _ c.is_enum.ensures c.if-is_enum.true _ _ _ k) _ c.parse_values.ensures
+
+pub parse_pair-requires-clause-few : goal.parse_pair-requires-clause-few
+parse_pair-requires-clause-few c = (c.requires.few.0, number_single)
+
+pub returns-then-kind-eq-ID_AND_LITERAL : goal.returns-then-kind-eq-ID_AND_LITERAL
+returns-then-kind-eq-ID_AND_LITERAL c =
+    same_read _ _ _ _ _ _ _ _ _ _ _ (pair_number _ _ _ _ _ c.is_enum.ensures c.if-is_enum.false c.if-kind-eq-ID_AND_LITERAL.true) c.parse_pair.ensures
+
+pub parse_pair-requires-then-kind-eq-ID_AND_ID-clause-few : goal.parse_pair-requires-then-kind-eq-ID_AND_ID-clause-few
+parse_pair-requires-then-kind-eq-ID_AND_ID-clause-few c = (c.requires.few.0, id_single)
+
+pub returns-then-kind-eq-ID_AND_ID : goal.returns-then-kind-eq-ID_AND_ID
+returns-then-kind-eq-ID_AND_ID c =
+    same_read _ _ _ _ _ _ _ _ _ _ _ (pair_ids _ _ _ _ _ c.is_enum.ensures c.if-is_enum.false c.if-kind-eq-ID_AND_ID.true) c.parse_pair-then-kind-eq-ID_AND_ID.ensures
+
+pub read_one-requires-clause-few : goal.read_one-requires-clause-few
+read_one-requires-clause-few c = (c.requires.few.0, untyped_single _ c.requires.few.1 c.if-kind-eq-ID_AND_LITERAL.false c.if-kind-eq-ID_AND_ID.false)
+
+pub returns : goal.returns
+returns c =
+    same_read _ _ _ _ _ _ _ _ _ _ _ (single _ _ _ _ _ c.is_enum.ensures c.if-is_enum.false c.if-kind-eq-ID_AND_LITERAL.false c.if-kind-eq-ID_AND_ID.false) c.read_one.ensures

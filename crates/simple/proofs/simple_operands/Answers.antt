@@ -1,0 +1,45 @@
+-- `simple::simple_operands` meets its contract: one operand more, one that need not be there, one that is passed over; and the end.
+use native.Mathlib.Omega.{arith}
+use Rattle.std.proofs.Common.{refl}
+use Rattle.untyped.proofs.Carried.{indexed_short}
+use Rattle.untyped.proofs.RowLaws.{slot_told, end_told, three_told, row_starts, row_ends, row_spent, row_less, row_turn, slots_next}
+use Rattle.simple.proofs.SimpleLaws.{pass, take, took}
+use Rattle.simple.proofs.SimpleRows.{row_there, row_fits}
+use Rattle.simple.proofs.simple_operands.Goals as goal
+
+pub returns-then-s-d : goal.returns-then-s-d
+returns-then-s-d c = pass _
+
+pub loop-k-init : goal.loop-k-init
+loop-k-init c = row_starts _ _ _ _ _ _ _ c.requires.framed.0 c.requires.framed.1
+
+pub returns-then-q-eq0 : goal.returns-then-q-eq0
+returns-then-q-eq0 c = pass _
+
+pub returns-then-limit_reached : goal.returns-then-limit_reached
+returns-then-limit_reached c =
+    take _ _ _ (row_spent c.loop-k.invariant _ _ _ (slot_told _ _ _ c.slot_at.ensures.g_value _ _ c.in-Some.is) _ c.limit_reached.ensures c.if-limit_reached.true c.if-q-eq0.false)
+
+pub loop-k-smaller : goal.loop-k-smaller
+loop-k-smaller c =
+    row_less c.loop-k.invariant _ _ _ (slot_told _ _ _ c.slot_at.ensures.g_value _ _ c.in-Some.is) _ c.limit_reached.ensures c.if-limit_reached.false _ _ _ (took _ _ _ _ c.in_ok-n.ensures refl) _ _ refl
+
+pub loop-k-preserved : goal.loop-k-preserved
+loop-k-preserved c =
+    let k = slot_told _ _ _ c.slot_at.ensures.g_value _ _ c.in-Some.is in
+    row_turn c.loop-k.invariant _ _ _ k _ c.limit_reached.ensures c.if-limit_reached.false _ _ _ (took _ _ _ _ c.in_ok-n.ensures refl) _ _ refl _
+    (slots_next _ _ _ _ _ k c.next_place-p.ensures)
+
+pub returns : goal.returns
+returns c = take _ _ _ (row_ends c.loop-k.invariant (end_told _ _ _ c.slot_at.ensures.g_value c.in_default.is))
+
+pub simple_slot-requires-clause-there : goal.simple_slot-requires-clause-there
+simple_slot-requires-clause-there c =
+    row_there _ _ _ _ c.loop-k.invariant.few c.loop-k.invariant.went _ c.limit_reached.ensures c.if-limit_reached.false (row_fits _ _ _ c.requires.framed.0 c.if-s-d.false)
+
+pub returns-in_err-n : goal.returns-in_err-n
+returns-in_err-n c = rw c.from_residual.ensures (pass _)
+
+pub next_place-p-requires : goal.next_place-p-requires
+next_place-p-requires c =
+    omega (arith, three_told _ _ _ _ c.slot_at.ensures.result_in_bounds c.in-Some.is, indexed_short _ _ c.requires.indexed)
