@@ -17,8 +17,7 @@ use Rattle.spelled.specs.Placing.{GoodStores, instrs_of, one_at, tagged}
 use Rattle.spelled.proofs.Stores.{At, one_is}
 use Rattle.spelled.proofs.Orders.{all_end, tagged_more, tagged_yes, tagged_no, sections_from, sections_all, sections_more_lem, sections_end, parameters_end, parameters_none, parameters_more, functions_more, part_definition, part_one, part_none, module_is}
 use Rattle.disassemble.specs.declared.walk.Cursor.{Cursor}
-use Rattle.disassemble.specs.declared.walk.Next.{Next}
-use Rattle.disassemble.specs.declared.walk.Next.TheVariants as next
+use Rattle.std.specs.Prelude.{Option, None, Some}
 use Rattle.disassemble.specs.Listed.{last_tagged, section_from, section_after, InSection, sections_left, parameters_left, left_of, Follows}
 
 -- A TAG
@@ -52,18 +51,14 @@ tagged_end t is e = ap (only (has_tag t)) e
 -- none
 pub first_none : (ws log strings : List ℕ) (count : ℕ) → GoodStores ws log strings count → (t from i : ℕ) → count ≤ i
     → tagged t (drop from (instrs_of ws log strings count)) ≡ tagged t (drop i (instrs_of ws log strings count))
-    → FirstTagged (instrs_of ws log strings count) count t from i
+    → FirstTagged (instrs_of ws log strings count) count t from count
 first_none ws log strings count g t from i h e = (λ k. absurd (omega arith), λ k. e ∙ tagged_end t _ (all_end ws log strings count g i h))
 
 -- THE LAST WITH A TAG
 
--- one index back
-pub below : {i count : ℕ} → 0 < i → i ≤ count → i - 1 < count
-below h g = omega arith
-
 -- none behind the last
-pub last_starts : (ws log strings : List ℕ) (count : ℕ) → GoodStores ws log strings count → (t : ℕ) → (count ≤ count) × (tagged t (drop count (instrs_of ws log strings count)) ≡ [])
-last_starts ws log strings count g t = (omega arith, tagged_end t _ (all_end ws log strings count g count (omega arith)))
+pub last_starts : (ws log strings : List ℕ) (count : ℕ) → GoodStores ws log strings count → (t : ℕ) → tagged t (drop count (instrs_of ws log strings count)) ≡ []
+last_starts ws log strings count g t = tagged_end t _ (all_end ws log strings count g count (omega arith))
 
 -- and on again
 pub up : (t : ℕ) (is : List Placed) (i : ℕ) → 0 < i → tagged t (drop i is) ≡ [] → tagged t (drop (i - 1 + 1) is) ≡ []
@@ -110,17 +105,17 @@ pub last_none : (is : List Placed) (count t i : ℕ) → i ≤ 0 → tagged t (d
 unfolding last_tagged
 last_none is count t i h e =
     let z : i ≡ 0 = omega arith in
-    let None : tagged t is ≡ [] = ap (λ (k : ℕ). tagged t (drop k is)) (sym z) ∙ e in
-    (λ g. absurd (omega arith), λ g. ap (λ (l : List Placed). take 1 (reverse l)) None)
+    let nothing : tagged t is ≡ [] = ap (λ (k : ℕ). tagged t (drop k is)) (sym z) ∙ e in
+    (λ g. absurd (omega arith), λ g. ap (λ (l : List Placed). take 1 (reverse l)) nothing)
 
 -- AN ANSWER
 
 -- another name for what is left
-pub follows_as : (is : List Placed) (count : ℕ) (x y : List Placed) (r : Next) → x ≡ y → Follows is count y r → Follows is count x r
+pub follows_as : (is : List Placed) (count : ℕ) (x y : List Placed) (r : Option (ℕ × Cursor)) → x ≡ y → Follows is count y r → Follows is count x r
 follows_as is count x y r e h = subst (λ (z : List Placed). Follows is count z r) (sym e) h
 
 -- the end
-pub follows_end : (is : List Placed) (count : ℕ) (x : List Placed) → x ≡ [] → Follows is count x next.End
+pub follows_end : (is : List Placed) (count : ℕ) (x : List Placed) → x ≡ [] → Follows is count x None
 unfolding Follows
 follows_end is count x e = e
 
@@ -130,7 +125,7 @@ module _ {ws log strings : List ℕ} {count i : ℕ} {f : Fields} (a : At ws log
     (e : functions (drop from (instrs_of ws log strings count)) ≡ functions (drop i (instrs_of ws log strings count))) where
   -- a definition
   pub function_definition : f.tag ≡ 12
-      → Follows (instrs_of ws log strings count) count (functions (drop from (instrs_of ws log strings count))) (next.At i (record { tag = 13; at = i + 1; back = i + 1 }))
+      → Follows (instrs_of ws log strings count) count (functions (drop from (instrs_of ws log strings count))) (Some (i, record { tag = 13; at = i + 1; back = i + 1 }))
   unfolding Follows left_of parameters_left
   function_definition q =
       let is = instrs_of ws log strings count in (
@@ -142,7 +137,7 @@ module _ {ws log strings : List ℕ} {count i : ℕ} {f : Fields} (a : At ws log
   module _ (n : f.tag ≡ 12 → ⊥) where
     -- what comes as it is
     pub function_part_lem : 14 ≤ f.tag
-        → Follows (instrs_of ws log strings count) count (functions (drop from (instrs_of ws log strings count))) (next.At i (record { tag = 12; at = i + 1; back = 0 }))
+        → Follows (instrs_of ws log strings count) count (functions (drop from (instrs_of ws log strings count))) (Some (i, record { tag = 12; at = i + 1; back = 0 }))
     unfolding Follows left_of
     function_part_lem q =
         let is = instrs_of ws log strings count in
@@ -166,7 +161,7 @@ module _ {ws log strings : List ℕ} {count i : ℕ} {f : Fields} (a : At ws log
   module _ (n : f.tag ≡ 16 → ⊥) where
     -- one
     pub parameter_yes : i < count → f.tag ≡ 13
-        → Follows (instrs_of ws log strings count) count (parameters_left from back (instrs_of ws log strings count)) (next.At i (record { tag = 13; at = i + 1; back = back }))
+        → Follows (instrs_of ws log strings count) count (parameters_left from back (instrs_of ws log strings count)) (Some (i, record { tag = 13; at = i + 1; back = back }))
     unfolding Follows left_of parameters_left
     parameter_yes h q =
         let is = instrs_of ws log strings count in (
@@ -255,7 +250,7 @@ or_functions t i is h = rw (le-ltb t 12 h)
 
 module _ {is : List Placed} {count t from r : ℕ} (s : InSection is count t from r) (h : t < 12) (x : List Placed) (e : x ≡ sections_or t from is) where
   -- the section has one
-  pub section_has : (c : Cursor) → ((is : List Placed) → left_of c is ≡ section_after t r is ++ (sections_from (12 - (t + 1)) (t + 1) is ++ functions is)) → r < count → Follows is count x (next.At r c)
+  pub section_has : (c : Cursor) → ((is : List Placed) → left_of c is ≡ section_after t r is ++ (sections_from (12 - (t + 1)) (t + 1) is ++ functions is)) → r < count → Follows is count x (Some (r, c))
   unfolding Follows sections_left
   section_has c l g = (
     g,

@@ -24,6 +24,7 @@ use Rattle.records.specs.Good.{operand_by, operand_at}
 use Rattle.records.proofs.Good.{operand_is}
 use Rattle.spelled.specs.Spelled.{AllReadable, operand_after, operands_from, said_by}
 use Rattle.pieces.specs.Putting.{bit_named, has_bits}
+use Rattle.pieces.proofs.Texts.{readable_more}
 use Rattle.disassemble.specs.Listed.{said_from, Told, named_count}
 use Rattle.pieces.proofs.Texts.{no_bits, half_twice, own_set, bits_in_lem, value_in_lem}
 use Rattle.std.specs.Prelude.{None, Option, Some}
@@ -161,10 +162,6 @@ pub record Passing (log strings : List ℕ) (n start left a : ℕ) : Type 0 wher
   pub readable : AllReadable left log strings a
   pub whole : every operand_named (operands_from n log strings start) ≡ every operand_named (operands_from left log strings a)
 
--- none at first
-pub passing_starts : (log strings : List ℕ) (n start : ℕ) → AllReadable n log strings start → Passing log strings n start n start
-passing_starts log strings n start r = record { readable = r; whole = refl }
-
 -- the first and those after it
 each_named : (n : ℕ) (log strings : List ℕ) (a : ℕ) → 0 < n
     → every operand_named (operands_from n log strings a) ≡ operand_named (operand_at log strings a) && every operand_named (operands_from (n - 1) log strings (operand_after log a))
@@ -191,10 +188,10 @@ module _ {log strings : List ℕ} {n start left a : ℕ} (p : Passing log string
     passing_bad f = sym (p.whole ∙ each_named left log strings a h ∙ rw (← e, not_true t f))
 
     -- it has its names
-    pub passing_on : not t ≡ false → (a' : ℕ) → a' ≡ operand_after log a → AllReadable (left - 1) log strings (operand_after log a) → Passing log strings n start (left - 1) a'
-    passing_on f a' q r =
-        record {
-          readable = subst (AllReadable (left - 1) log strings) (sym q) r;
+    pub passing_on : not t ≡ false → (a' left' : ℕ) → a' ≡ operand_after log a → left' ≡ left - 1 → Passing log strings n start left' a'
+    passing_on f a' left' q d =
+        rw d record {
+          readable = subst (AllReadable (left - 1) log strings) (sym q) (readable_more left log strings a h p.readable).1;
           whole = p.whole ∙ each_named left log strings a h ∙ rw (← e, not_false t f) (ap (λ (k : ℕ). every operand_named (operands_from (left - 1) log strings k)) (sym q));
         }
 
@@ -249,7 +246,7 @@ none_counted (suc n) ws log strings e = absurd (omega arith)
 
 module _ {ws log strings : List ℕ} {count i : ℕ} (c : Counting ws log strings count i) where
   -- all have their names
-  pub count_ends : count ≤ i → i ≡ named_count (said_from count ws log strings)
+  pub count_ends : count ≤ i → count ≡ named_count (said_from count ws log strings)
   count_ends h =
       omega (arith, c.few, c.whole, none_counted c.left (drop (record_size * i) ws) log strings (omega (arith, c.few)))
 

@@ -25,8 +25,7 @@ use Rattle.assemble.specs.Writes.{Writes}
 use Rattle.spelled.proofs.Spell.{joined_append}
 use Rattle.spelled.proofs.Stores.{At, one_is, stores_in}
 use Rattle.disassemble.specs.declared.walk.Cursor.{Cursor}
-use Rattle.disassemble.specs.declared.walk.Next.{Next}
-use Rattle.disassemble.specs.declared.walk.Next.TheVariants as next
+use Rattle.std.specs.Prelude.{Option, None, Some}
 use Rattle.pieces.specs.Putting.{largest, Room, Wrote}
 use Rattle.disassemble.specs.Listed.{left_of, Follows, BadFromOne, before_bad, text_over}
 use Rattle.pieces.proofs.Put.{Going, going_starts}
@@ -63,12 +62,12 @@ lines_start keep out at is l r =
     subst (λ (z : List Placed). Going keep out at (lines_text is (module_order is)) (lines_text is z) at out) (left_all is) (going_starts keep out at (lines_text is (module_order is)) l r)
 
 -- the next that there is
-pub next_told : (is : List Placed) (count : ℕ) (x : List Placed) (r : Next) (i : ℕ) (c : Cursor) → Follows is count x r → r ≡ next.At i c → (i < count) × (x ≡ one_at is i ++ left_of c is)
+pub next_told : (is : List Placed) (count : ℕ) (x : List Placed) (r : Option (ℕ × Cursor)) (i : ℕ) (c : Cursor) → Follows is count x r → r ≡ Some (i, c) → (i < count) × (x ≡ one_at is i ++ left_of c is)
 unfolding Follows
 next_told is count x r i c f q = subst (Follows is count x) q f
 
 -- there is none
-pub lines_end : (is : List Placed) (count : ℕ) (x : List Placed) (r : Next) → Follows is count x r → r ≡ next.End → lines_text is x ≡ []
+pub lines_end : (is : List Placed) (count : ℕ) (x : List Placed) (r : Option (ℕ × Cursor)) → Follows is count x r → r ≡ None → lines_text is x ≡ []
 unfolding Follows lines_text
 lines_end is count x r f q = ap (lines_text is) (subst (Follows is count x) q f)
 
@@ -89,10 +88,6 @@ module _ {ws log strings : List ℕ} {count i : ℕ} {f : Fields} (a : At ws log
   pub lines_fewer : length y < length x
   lines_fewer =
       omega (arith, ap length e ∙ length-append (one_at (instrs_of ws log strings count) i) y, ap length (one_is a))
-
--- a test that never fails
-pub never : {A : Type 0} → ◌≡◌ {A = Bool} true false → A
-never e = let z : ◌≡◌ {A = ℕ} 0 1 = cc in absurd (omega arith)
 
 -- MEASURED AND WRITTEN
 

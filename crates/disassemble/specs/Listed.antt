@@ -1,5 +1,5 @@
 -- Records read by their places, their names and module order, as the code goes through them.
-use Rattle.std.specs.Prelude.{ℕ, zero, suc, ◌+◌, ◌-◌, ◌<◌, ◌≤◌, ◌≡◌, List, [], ◌∷◌, ◌++◌, reverse, ltb, eqb, length, take, drop, if◌then◌else◌}
+use Rattle.std.specs.Prelude.{Option, None, Some, ℕ, zero, suc, ◌+◌, ◌-◌, ◌<◌, ◌≤◌, ◌≡◌, List, [], ◌∷◌, ◌++◌, reverse, ltb, eqb, length, take, drop, if◌then◌else◌}
 use Rattle.spec.specs.Records.{Placed, record_size, fields_at}
 use Rattle.spec.specs.Write.{parameters_in, functions, Writing, put_or}
 use Rattle.spec.specs.Disassembly.{is_named}
@@ -7,9 +7,6 @@ use Rattle.spelled.specs.Spelled.{AllReadable, said_by}
 use Rattle.spelled.specs.Placing.{one_at, tagged}
 use Rattle.spelled.proofs.Orders.{sections_from}
 use Rattle.disassemble.specs.declared.walk.Cursor.{Cursor}
-use Rattle.disassemble.specs.declared.walk.Next.{Next}
-use Rattle.disassemble.specs.declared.walk.Next.TheVariants.{At, End}
-use Rattle.std.specs.Prelude.{None, Option, Some}
 
 -- THE RECORDS BY THEIR PLACES
 
@@ -74,9 +71,9 @@ left_of c is =
     else parameters_left c.at c.back is
 
 -- an answer is the next of what is left, and what is left after it
-unfoldable pub Follows : List Placed → ℕ → List Placed → Next → Type 0
-Follows is count rest End = rest ≡ []
-Follows is count rest (At i c) = (i < count) × (rest ≡ one_at is i ++ left_of c is)
+unfoldable pub Follows : List Placed → ℕ → List Placed → Option (ℕ × Cursor) → Type 0
+Follows is count rest None = rest ≡ []
+Follows is count rest (Some (i, c)) = (i < count) × (rest ≡ one_at is i ++ left_of c is)
 
 -- THE CALL
 

@@ -96,13 +96,11 @@ fn operands_named(
     ensures { result ≡ every operand_named (operands_from count log.now strings.now first) }
 {
     let mut a = first;
-    let mut left = count;
-    while 0 < left {
+    for _ in 0..count {
         if !operand_named(run, index, log, strings, a) {
             return false;
         }
         a = after(log, a);
-        left -= 1;
     }
     true
 }
@@ -132,12 +130,10 @@ pub fn named_count(
     requires told { Told count instructions.now log.now strings.now }
     ensures { result ≡ named_count (said_from count instructions.now log.now strings.now) }
 {
-    let mut i = 0;
-    while i < count {
+    for i in 0..count {
         if !is_named(run, index, log, strings, record_at(instructions, i)) {
             return i;
         }
-        i += 1;
     }
-    i
+    count
 }

@@ -18,14 +18,7 @@ pub struct Cursor {
     pub back: usize,
 }
 
-// The next index in module order, and where it is after it; or the end.
-#[derive(Clone, Copy)]
-pub enum Next {
-    At(usize, Cursor),
-    End,
-}
-
-// The first index from one on whose record has a tag.
+// The first index from one on whose record has a tag, or the count.
 fn first_tagged(
     instructions: &[u32],
     log: &[u8],
@@ -37,15 +30,12 @@ fn first_tagged(
     requires { GoodStores instructions.now log.now strings.now count }
     ensures { (result < count → tagged tag (drop start (instrs_of instructions.now log.now strings.now count)) ≡ one_at (instrs_of instructions.now log.now strings.now count) result ++ tagged tag (drop (result + 1) (instrs_of instructions.now log.now strings.now count))) × (count ≤ result → tagged tag (drop start (instrs_of instructions.now log.now strings.now count)) ≡ []) }
 {
-    let mut i = start;
-    while i < count {
-        let f = record_at(instructions, i);
-        if f.tag == tag {
+    for i in start..count {
+        if record_at(instructions, i).tag == tag {
             return i;
         }
-        i += 1;
     }
-    i
+    count
 }
 
 // The last index whose record has a tag, or the count.
@@ -53,13 +43,10 @@ fn last_tagged(instructions: &[u32], log: &[u8], strings: &[u8], count: usize, t
     requires { GoodStores instructions.now log.now strings.now count }
     ensures { (result < count → last_tagged tag (instrs_of instructions.now log.now strings.now count) ≡ one_at (instrs_of instructions.now log.now strings.now count) result) × (count ≤ result → last_tagged tag (instrs_of instructions.now log.now strings.now count) ≡ []) }
 {
-    let mut i = count;
-    while 0 < i {
-        let f = record_at(instructions, i - 1);
-        if f.tag == tag {
-            return i - 1;
+    for i in (0..count).rev() {
+        if record_at(instructions, i).tag == tag {
+            return i;
         }
-        i -= 1;
     }
     count
 }
@@ -71,36 +58,34 @@ fn next_function(
     strings: &[u8],
     count: usize,
     start: usize,
-) -> Next
+) -> Option<(usize, Cursor)>
     requires { GoodStores instructions.now log.now strings.now count }
     ensures { Follows (instrs_of instructions.now log.now strings.now count) count (functions (drop start (instrs_of instructions.now log.now strings.now count))) result }
 {
-    let mut i = start;
-    while i < count {
+    for i in start..count {
         let f = record_at(instructions, i);
         if f.tag == tags::FUNCTION {
-            return Next::At(
+            return Some((
                 i,
                 Cursor {
                     tag: tags::PARAMETER,
                     at: i + 1,
                     back: i + 1,
                 },
-            );
+            ));
         }
         if tags::LABEL <= f.tag {
-            return Next::At(
+            return Some((
                 i,
                 Cursor {
                     tag: tags::FUNCTION,
                     at: i + 1,
                     back: 0,
                 },
-            );
+            ));
         }
-        i += 1;
     }
-    Next::End
+    None
 }
 
 // The next parameter from an index on, up to the next end of a function; else the next of the functions from another on.
@@ -111,27 +96,25 @@ fn next_parameter(
     count: usize,
     start: usize,
     back: usize,
-) -> Next
+) -> Option<(usize, Cursor)>
     requires { GoodStores instructions.now log.now strings.now count }
     ensures { Follows (instrs_of instructions.now log.now strings.now count) count (parameters_left start back (instrs_of instructions.now log.now strings.now count)) result }
 {
-    let mut i = start;
-    while i < count {
+    for i in start..count {
         let f = record_at(instructions, i);
         if f.tag == tags::FUNCTION_END {
             return next_function(instructions, log, strings, count, back);
         }
         if f.tag == tags::PARAMETER {
-            return Next::At(
+            return Some((
                 i,
                 Cursor {
                     tag: tags::PARAMETER,
                     at: i + 1,
                     back,
                 },
-            );
+            ));
         }
-        i += 1;
     }
     next_function(instructions, log, strings, count, back)
 }
@@ -181,26 +164,30 @@ fn next_section(
     count: usize,
     start: usize,
     first: u32,
-) -> Next
+) -> Option<(usize, Cursor)>
     requires good_stores { GoodStores instructions.now log.now strings.now count }
     requires first_bound { first < 12 }
     ensures { Follows (instrs_of instructions.now log.now strings.now count) count (sections_left first start (instrs_of instructions.now log.now strings.now count)) result }
 {
-    let mut tag = first;
     let mut at = start;
-    while tag < tags::FUNCTION {
+    for tag in first..tags::FUNCTION {
         let i = in_section(instructions, log, strings, count, at, tag);
         if i < count {
-            return Next::At(i, section_after(i, tag));
+            return Some((i, section_after(i, tag)));
         }
-        tag += 1;
         at = 0;
     }
     next_function(instructions, log, strings, count, 0)
 }
 
-// The next index in module order.
-pub fn advance(instructions: &[u32], log: &[u8], strings: &[u8], count: usize, c: Cursor) -> Next
+// The next index in module order, and where it is after it; or nothing at the end.
+pub fn advance(
+    instructions: &[u32],
+    log: &[u8],
+    strings: &[u8],
+    count: usize,
+    c: Cursor,
+) -> Option<(usize, Cursor)>
     requires { GoodStores instructions.now log.now strings.now count }
     ensures { Follows (instrs_of instructions.now log.now strings.now count) count (left_of c (instrs_of instructions.now log.now strings.now count)) result }
 {

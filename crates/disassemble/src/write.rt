@@ -11,7 +11,7 @@ ghost use Rattle.imports.specs.Imports.{ImportsEnd};
 ghost use Rattle.disassemble.specs.Listed.{BadFromOne, before_bad, text_over};
 
 use crate::named::named_count;
-use crate::walk::{Cursor, Next, advance};
+use crate::walk::{Cursor, advance};
 use imports::imports_end;
 use line::{Asked, put_line};
 use pieces::{put_bytes, put_number};
@@ -54,11 +54,7 @@ fn put_lines(
         back: 0,
     };
     let mut at = start;
-    while true {
-        let step = advance(instructions, log, strings, asked.count, c);
-        let Next::At(i, after) = step else {
-            return at;
-        };
+    while let Some((i, after)) = advance(instructions, log, strings, asked.count, c) {
         at = put_line(
             run,
             index,

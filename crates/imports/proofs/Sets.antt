@@ -8,8 +8,8 @@ use Rattle.std.proofs.lemmas.Option.{none-some}
 use native.Mathlib.Omega.{arith}
 use borrow.Author.Tests.{eqb-true, eqb-false, eq-eqb, ne_eqb, le-leb, lt-leb, ltb-true, ltb-false}
 use lib.Dec.{leb, ltb, eqb}
-use lib.ListN.{length, take, drop, get_or, drop_of_length-le}
-use lib.Seq.{drop-cons}
+use lib.ListN.{take, drop, get_or}
+use lib.Pointwise.{pointwise}
 use Rattle.spec.specs.declared.Fields.{Fields}
 use Rattle.std.specs.Prelude.{if◌then◌else◌}
 use Rattle.spec.specs.Base.{or_zero, or_else, same, ascii}
@@ -36,8 +36,8 @@ unfolding ImportsEnd
 imports_none ws count i h g q = omega arith
 
 -- one record less, which is none
-pub imports_less : (ws : List ℕ) (count end : ℕ) (f : Fields) → f ≡ fields_at (drop (record_size * (end - 1)) ws) → (f.tag ≡ 3 → ⊥) → 0 < end
-    → ImportsEnd ws count end → ImportsEnd ws count (end - 1)
+pub imports_less : (ws : List ℕ) (count i : ℕ) (f : Fields) → f ≡ fields_at (drop (record_size * (i - 1)) ws) → (f.tag ≡ 3 → ⊥) → 0 < i
+    → ImportsEnd ws count i → ImportsEnd ws count (i - 1)
 unfolding ImportsEnd
 imports_less ws count end f e n z p i h g q = by (eqb i (end - 1)) refl
   where
@@ -45,64 +45,31 @@ imports_less ws count end f e n z p i h g q = by (eqb i (end - 1)) refl
     by true y = n (ap (λ (x : Fields). x.tag) e ∙ ap (λ (k : ℕ). (fields_at (drop (record_size * k) ws)).tag) (sym (eqb-true i (end - 1) y)) ∙ q)
     by false y = p i (omega (arith, eqb-false i (end - 1) y)) g q
 
--- before the first record
-pub imports_zero : (ws : List ℕ) (count end : ℕ) → end ≤ 0 → ImportsEnd ws count end → ImportsEnd ws count 0
-unfolding ImportsEnd
-imports_zero ws count end h p i g k q = p i (omega arith) k q
-
--- TEXTS THAT AGREE
-
--- of unequal lengths
-pub same_none : (s t : List ℕ) → (length s ≡ length t → ⊥) → false ≡ same s t
-same_none [] [] n = absurd (n refl)
-same_none [] (y ∷ t) n = refl
-same_none (x ∷ s) [] n = refl
-same_none (x ∷ s) (y ∷ t) n = by (eqb x y) (same s t) (same_none s t (λ e. n (ap suc e)))
-  where
-    by : (a b : Bool) → false ≡ b → false ≡ a && b
-    by true b e = e
-    by false b e = refl
-
--- the first byte, and those after it
-pub same_more : (s t : List ℕ) (i : ℕ) → i < length s → i < length t
-    → same (drop i s) (drop i t) ≡ eqb (get_or s i 0) (get_or t i 0) && same (drop (i + 1) s) (drop (i + 1) t)
-same_more s t i h g =
-    let k : suc i ≡ i + 1 = omega arith in
-    ap (λ (z : List ℕ). same z (drop i t)) (drop-cons s i 0 h)
-    ∙ ap (same (get_or s i 0 ∷ drop (suc i) s)) (drop-cons t i 0 g)
-    ∙ ap (λ (j : ℕ). eqb (get_or s i 0) (get_or t i 0) && same (drop j s) (drop j t)) k
-
--- a byte differs
-pub same_bad : (s t : List ℕ) (i : ℕ) → i < length s → length s ≡ length t → same s t ≡ same (drop i s) (drop i t) → (get_or s i 0 ≡ get_or t i 0 → ⊥) → false ≡ same s t
-same_bad s t i h l e n = sym (e ∙ same_more s t i h (omega arith) ∙ rw (ne_eqb (get_or s i 0) (get_or t i 0) n))
-
--- it agrees
-pub same_on : (s t : List ℕ) (i : ℕ) → i < length s → length s ≡ length t → same s t ≡ same (drop i s) (drop i t) → get_or s i 0 ≡ get_or t i 0 → same s t ≡ same (drop (i + 1) s) (drop (i + 1) t)
-same_on s t i h l e q = e ∙ same_more s t i h (omega arith) ∙ rw (eq-eqb (get_or s i 0) (get_or t i 0) q)
-
--- all agree
-pub same_ends : (s t : List ℕ) (i : ℕ) → length s ≤ i → length s ≡ length t → same s t ≡ same (drop i s) (drop i t) → true ≡ same s t
-same_ends s t i h l e =
-    sym (e ∙ ap (λ (z : List ℕ). same z (drop i t)) (drop_of_length-le s {i = i} h) ∙ ap (same []) (drop_of_length-le t {i = i} (omega arith)))
-
 -- THE SET OF A NAME
 
-module _ (s : List ℕ) (a : Bool) (e : a ≡ same s (ascii "GLSL.std.450")) where
+-- `==` is the comparison of the names' definition
+same_is : (s t : List ℕ) → pointwise eqb s t ≡ same s t
+same_is [] [] = refl
+same_is [] (y ∷ t) = refl
+same_is (x ∷ s) [] = refl
+same_is (x ∷ s) (y ∷ t) = ap (λ (b : Bool). eqb x y && b) (same_is s t)
+
+module _ (s : List ℕ) (a : Bool) (e : a ≡ pointwise eqb s (ascii "GLSL.std.450")) where
   -- GLSL.std.450
   pub set_glsl : a ≡ true → 46 ≡ or_zero (set_named s)
   unfolding set_named
-  set_glsl q = rw (← e, q)
+  set_glsl q = rw (← same_is s (ascii "GLSL.std.450"), ← e, q)
 
-  module _ (q : a ≡ false) (b : Bool) (f : b ≡ same s (ascii "OpenCL.std")) where
+  module _ (q : a ≡ false) (b : Bool) (f : b ≡ pointwise eqb s (ascii "OpenCL.std")) where
     -- OpenCL.std
     pub set_opencl : b ≡ true → 47 ≡ or_zero (set_named s)
     unfolding set_named
-    set_opencl r = rw (← e, q, ← f, r)
+    set_opencl r = rw (← same_is s (ascii "GLSL.std.450"), ← same_is s (ascii "OpenCL.std"), ← e, q, ← f, r)
 
     -- neither
     pub set_none : b ≡ false → 0 ≡ or_zero (set_named s)
     unfolding set_named
-    set_none r = rw (← e, q, ← f, r)
+    set_none r = rw (← same_is s (ascii "GLSL.std.450"), ← same_is s (ascii "OpenCL.std"), ← e, q, ← f, r)
 
 -- by the tests of a name
 abbrev set_by : Bool → Bool → Option ℕ
@@ -299,16 +266,6 @@ set_past ws log strings count g end id p (suc n) i h e =
 pub set_start : (ws log strings : List ℕ) (count : ℕ) → GoodStores ws log strings count → (end id : ℕ) → end ≤ count → ImportsEnd ws count end
     → set_of id (drop end (instrs_of ws log strings count)) ≡ None
 set_start ws log strings count g end id h p = set_past ws log strings count g end id p (count - end) end (omega arith) (omega arith)
-
--- one index back
-pub under : {i end count : ℕ} → 0 < i → i ≤ end → end ≤ count → i - 1 < count
-under h g k = omega arith
-
--- none at all
-pub set_nothing : (id i : ℕ) (is : List Placed) → i ≤ 0 → set_of id (drop i is) ≡ None → 0 ≡ or_zero (set_of id is)
-set_nothing id i is h e =
-    let z : i ≡ 0 = omega arith in
-    sym (ap or_zero (ap (λ (k : ℕ). set_of id (drop k is)) (sym z) ∙ e))
 
 -- no set is 0
 pub set_zero : (id : ℕ) (is : List Placed) → or_zero (set_of id is) ≡ 0 → set_of id is ≡ None

@@ -2,7 +2,7 @@
 #![tactic(auto)]
 
 ghost use Rattle.std.specs.Prelude.{◌≡◌, ◌*◌, ◌≤◌, length};
-ghost use Rattle.spec.specs.Base.{or_zero, same as same_as};
+ghost use Rattle.spec.specs.Base.{or_zero};
 ghost use Rattle.spec.specs.Records.{record_size};
 ghost use Rattle.spec.specs.Disassembly.{set_named, import_of, set_of};
 ghost use Rattle.spelled.specs.Spelled.{AllReadable, said_by};
@@ -17,42 +17,22 @@ pub fn imports_end(instructions: &[u32], count: usize) -> usize
     requires { record_size * count ≤ length instructions.now }
     ensures { (result ≤ count) × ImportsEnd instructions.now count result }
 {
-    let mut end = count;
-    while 0 < end {
-        let f = record_at(instructions, end - 1);
-        if f.tag == tags::EXT_INST_IMPORT {
-            return end;
+    for i in (0..count).rev() {
+        if record_at(instructions, i).tag == tags::EXT_INST_IMPORT {
+            return i + 1;
         }
-        end -= 1;
     }
     0
-}
-
-// Whether two texts agree.
-fn same(s: &[u8], t: &[u8]) -> bool
-    ensures { result ≡ same_as s.now t.now }
-{
-    if s.len() != t.len() {
-        return false;
-    }
-    let mut i = 0;
-    while i < s.len() {
-        if s[i] != t[i] {
-            return false;
-        }
-        i += 1;
-    }
-    true
 }
 
 // The set of a name, or 0.
 fn set_named(s: &[u8]) -> u8
     ensures { result ≡ or_zero (set_named s.now) }
 {
-    if same(s, b"GLSL.std.450") {
+    if s == b"GLSL.std.450".as_slice() {
         return lookup::GLSL;
     }
-    if same(s, b"OpenCL.std") {
+    if s == b"OpenCL.std".as_slice() {
         return lookup::OPENCL;
     }
     0
@@ -91,9 +71,7 @@ pub fn set_of(
     requires end_le_count { (end ≤ count) × ImportsEnd instructions.now count end }
     ensures { result ≡ or_zero (set_of id (instrs_of instructions.now log.now strings.now count)) }
 {
-    let mut i = end;
-    while 0 < i {
-        i -= 1;
+    for i in (0..end).rev() {
         let set = import_of(log, strings, record_at(instructions, i), id);
         if set != 0 {
             return set;

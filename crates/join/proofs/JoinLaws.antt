@@ -3,7 +3,7 @@ use Prim.Native.Nat.{ℕ, ◌≤◌, ◌<◌}
 use mathlib.Core.Path.{◌≡◌, sym, ◌∙◌, subst}
 use mathlib.Core.Bool.{Bool, true, false, not, ◌&&◌}
 use mathlib.Core.List.{List}
-use Rattle.std.specs.Prelude.{Option, None, Some}
+use Rattle.std.specs.Prelude.{Result, Ok, Err, Option, None, Some}
 use native.Mathlib.Omega.{arith}
 use borrow.Author.Tests.{le-leb, lt-leb, lt-ltb, le-ltb}
 use lib.Dec.{leb, ltb}
@@ -20,8 +20,6 @@ use Rattle.spec.proofs.Choice.{cases}
 use Rattle.grammar.proofs.IndexLaws.{well_told}
 use Rattle.formed.proofs.FlatLaws.{noted_apart}
 use Rattle.operand.specs.Log.{kept}
-use Rattle.join.specs.declared.Merged.{Merged}
-use Rattle.join.specs.declared.Merged.TheVariants.{Clash, Bytes}
 use Rattle.join.specs.Steps.{Walked, MayKeep, flat_both, Joins}
 use Rattle.join.proofs.UnionLaws.{formed, union_well}
 
@@ -43,7 +41,7 @@ module _ (a b out : List ℕ) (wa : well_formed a ≡ true) (wb : well_formed b 
   join_by = rw (wa, wb)
 
   -- two pieces differ
-  pub clashed : (r : Joined) (n : ℕ) (out' : List ℕ) → Walked a b false out out' (Clash n) → r ≡ (unjoined 34 (kind_in n) (value_in n) out).said
+  pub clashed : (r : Joined) (n : ℕ) (out' : List ℕ) → Walked a b false out out' (Err n) → r ≡ (unjoined 34 (kind_in n) (value_in n) out).said
       → Joins (join a b out) r out'
   unfolding Walked
   clashed r n out' h e =
@@ -86,7 +84,7 @@ module _ (a b out : List ℕ) (wa : well_formed a ≡ true) (wb : well_formed b 
           record { said = e ∙ rw is; output = rw is }
 
       -- it is written
-      pub joined_in : (r : Joined) (m : Merged) (out' : List ℕ) → t ≡ true → n ≤ length out → Walked a b true out out' m
+      pub joined_in : (r : Joined) (m : Result ℕ ℕ) (out' : List ℕ) → t ≡ true → n ≤ length out → Walked a b true out out' m
           → r ≡ record { number = 0; place = 0; value = 0; bytes = n } → Joins (join a b out) r out'
       unfolding laid_over kept Walked
       joined_in r m out' h l w e =
@@ -94,9 +92,9 @@ module _ (a b out : List ℕ) (wa : well_formed a ≡ true) (wb : well_formed b 
           join_union ∙ rw (flat_rules ∙ h, le-ltb (length out) (length (union a b)) (omega (arith, l, long))) in
           record { said = e ∙ rw (is, long); output = stored m w ∙ rw is }
         where
-          stored : (m : Merged) → Walked a b true out out' m → out' ≡ kept true out 0 (union a b)
-          stored (Clash k) w = let z : None ≡ Some k = sym apart ∙ w.0 in let y : ◌≡◌ {A = ℕ} 0 1 = cc z in absurd (omega arith)
-          stored (Bytes k) w = w.2
+          stored : (m : Result ℕ ℕ) → Walked a b true out out' m → out' ≡ kept true out 0 (union a b)
+          stored (Err k) w = let z : None ≡ Some k = sym apart ∙ w.0 in let y : ◌≡◌ {A = ℕ} 0 1 = cc z in absurd (omega arith)
+          stored (Ok k) w = w.2
 
 -- WHAT WAS NOTED
 
@@ -133,16 +131,16 @@ bytes_few a b out =
 -- WHAT THE WALKS SAID
 
 -- what was said of an answer is said of what it is
-pub walked_as : (a b : List ℕ) (keep : Bool) (out out' : List ℕ) (m l : Merged) → Walked a b keep out out' m → m ≡ l → Walked a b keep out out' l
+pub walked_as : (a b : List ℕ) (keep : Bool) (out out' : List ℕ) (m l : Result ℕ ℕ) → Walked a b keep out out' m → m ≡ l → Walked a b keep out out' l
 walked_as a b keep out out' m l h e = subst (Walked a b keep out out') e h
 
 -- the union's length was measured
-pub measured_union : (a b out out' : List ℕ) (n : ℕ) → Walked a b false out out' (Bytes n) → (clash (pieces a) (pieces b) ≡ None) × (n ≡ length (union a b))
+pub measured_union : (a b out out' : List ℕ) (n : ℕ) → Walked a b false out out' (Ok n) → (clash (pieces a) (pieces b) ≡ None) × (n ≡ length (union a b))
 unfolding Walked
 measured_union a b out out' n h = (h.0, h.1)
 
 -- and nothing was written
-pub measured_alone : (a b out out' : List ℕ) (n : ℕ) (r : Joined) (o : List ℕ) → Walked a b false out out' (Bytes n) → Joins (join a b out') r o
+pub measured_alone : (a b out out' : List ℕ) (n : ℕ) (r : Joined) (o : List ℕ) → Walked a b false out out' (Ok n) → Joins (join a b out') r o
     → Joins (join a b out) r o
 unfolding Walked kept
 measured_alone a b out out' n r o h j = subst (λ (z : List ℕ). Joins (join a b z) r o) h.2 j

@@ -5,12 +5,12 @@ use Rattle.std.proofs.lemmas.Slice.Eq.{slice_eq-Decides}
 use mathlib.Core.Bool.{false≢true}
 use Prim.Native.Nat.{ℕ, ◌+◌, ◌-◌, ◌≤◌, ◌<◌}
 use mathlib.Core.Path.{◌≡◌, refl, sym, ap, ◌∙◌, subst}
-use mathlib.Core.Bool.{Bool, true, false, not, ◌||◌}
+use mathlib.Core.Bool.{Bool, true, false, not}
 use mathlib.Core.List.{List, [], ◌∷◌, ◌++◌, append_assoc}
 use Rattle.std.specs.Prelude.{Some}
 use native.Mathlib.Omega.{arith}
-use borrow.Author.Tests.{lt-ltb, le-ltb, ltb-true}
-use lib.Dec.{ltb, eqb}
+use borrow.Author.Tests.{lt-ltb, le-ltb}
+use lib.Dec.{eqb}
 use lib.ListN.{length, take, drop, length-drop, length-append}
 use lib.Seq.{take-append_seam}
 use Rattle.std.specs.Prelude.{if◌then◌else◌}
@@ -268,14 +268,6 @@ module _ {a b : List ℕ} {i j : ℕ} (bya : AllBytes a) (byb : AllBytes b) (sa 
 
 -- BY WHAT THE CODE READ
 
--- one of two places is before its end, and it is not the second
-pub first_left : (i m j n : ℕ) → ltb i m || ltb j n ≡ true → n ≤ j → i < m
-first_left i m j n e h = by (ltb i m) refl
-  where
-    by : (t : Bool) → ltb i m ≡ t → i < m
-    by true q = ltb-true i m q
-    by false q = never e (rw (q, le-ltb j n h))
-
 -- a key, read from the item that stands there
 pub key_read : (g : List ℕ) (at : ℕ) (x : Code.Item) (n : ℕ) → x ≡ item_at g at → n ≡ key_of (item_is x) → n ≡ key_of (item_is (item_at g at))
 key_read g at x n e k = rw (← e) k
@@ -306,10 +298,6 @@ module _ {a b : List ℕ} {i j : ℕ} (bya : AllBytes a) (byb : AllBytes b) (sa 
     -- their bytes are not
     pub differ_step : (between i e a ≡ between j f b → ⊥) → clash (pieces (drop i a)) (pieces (drop j b)) ≡ Some x
     differ_step apart = both_differ bya byb sa sb t u keys_meet apart ∙ ap Some (stretch_key bya sa ha t ∙ sym kx)
-
--- of two keys neither is the lower
-pub same_keys : {x y m n : ℕ} → x ≡ m → y ≡ n → y ≤ x → x ≤ y → (x ≡ m) × (x ≡ n)
-same_keys {x} {y} kx ky l g = let e : x ≡ y = omega arith in (kx, e ∙ ky)
 
 -- what `==` tells of two slices
 pub slices_equal : (a b : List ℕ) (r : Bool) → r ≡ pointwise eqb a b → r ≡ true → a ≡ b

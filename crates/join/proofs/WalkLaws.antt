@@ -3,7 +3,7 @@ use Prim.Native.Nat.{ℕ, zero, suc, ◌+◌, ◌-◌, ◌≤◌, ◌<◌}
 use mathlib.Core.Path.{◌≡◌, refl, sym, ap, ◌∙◌, subst}
 use mathlib.Core.Bool.{Bool, true, false, ◌||◌}
 use mathlib.Core.List.{List, [], ◌∷◌, ◌++◌, append_assoc, append-nil}
-use Rattle.std.specs.Prelude.{None, Some}
+use Rattle.std.specs.Prelude.{Result, Ok, Err, None, Some}
 use native.Mathlib.Omega.{arith}
 use native.Mathlib.Nat.{zero-add}
 use borrow.Author.Tests.{lt-ltb, le-ltb, ltb-false}
@@ -20,9 +20,6 @@ use Rattle.operand.proofs.LogLaws.{kept_nil, length_kept}
 use Rattle.grammar.proofs.ItemLaws.{items_end}
 use Rattle.grammar.proofs.MarkLaws.{never}
 use Rattle.grammar.proofs.IndexLaws.{well_told}
-use Rattle.join.specs.declared.Step.{Step}
-use Rattle.join.specs.declared.Step.TheVariants.{On, Differs}
-use Rattle.join.specs.declared.Merged.TheVariants.{Clash, Bytes}
 use Rattle.join.specs.Steps.{between, taken, Starts, Onward, Stepped, Walked, MayKeep}
 
 -- WHAT A STEP TAKES
@@ -93,12 +90,12 @@ walk_start a b out keep w = record {
 }
 
 -- where a step goes
-pub on_told : {a b : List ℕ} {i j : ℕ} (s : Step) (i' j' : ℕ) → Stepped a i b j s → s ≡ On i' j' → Onward a i i' b j j'
+pub on_told : {a b : List ℕ} {i j : ℕ} (s : Result (ℕ × ℕ) ℕ) (i' j' : ℕ) → Stepped a i b j s → s ≡ Ok (i', j') → Onward a i i' b j j'
 unfolding Stepped
 on_told {a} {b} {i} {j} s i' j' h e = subst (Stepped a i b j) e h
 
 -- where it stops
-pub differ_told : (a : List ℕ) (i : ℕ) (b : List ℕ) (j : ℕ) (s : Step) (n : ℕ) → Stepped a i b j s → s ≡ Differs n → clash (pieces (drop i a)) (pieces (drop j b)) ≡ Some n
+pub differ_told : (a : List ℕ) (i : ℕ) (b : List ℕ) (j : ℕ) (s : Result (ℕ × ℕ) ℕ) (n : ℕ) → Stepped a i b j s → s ≡ Err n → clash (pieces (drop i a)) (pieces (drop j b)) ≡ Some n
 unfolding Stepped
 differ_told a i b j s n h e = subst (Stepped a i b j) e h
 
@@ -174,7 +171,7 @@ module _ {a b out₀ out : List ℕ} {keep : Bool} {i j at : ℕ} (r : Walking a
 
   -- two pieces differ
   pub walk_clash : (n : ℕ) → (keep ≡ true → MayKeep a b out₀) → clash (pieces (drop i a)) (pieces (drop j b)) ≡ Some n
-      → Walked a b keep out₀ out (Clash n)
+      → Walked a b keep out₀ out (Err n)
   unfolding Walked MayKeep kept
   walk_clash n may e = (r.apart ∙ e, r.stored ∙ untouched keep may)
     where
@@ -183,7 +180,7 @@ module _ {a b out₀ out : List ℕ} {keep : Bool} {i j at : ℕ} (r : Walking a
       untouched false may = refl
 
   -- nothing is left
-  pub walk_end : ltb i (length a) || ltb j (length b) ≡ false → Walked a b keep out₀ out (Bytes at)
+  pub walk_end : ltb i (length a) || ltb j (length b) ≡ false → Walked a b keep out₀ out (Ok at)
   unfolding Walked clash
   walk_end e =
       let ends = both_ended i (length a) j (length b) e in

@@ -1,15 +1,11 @@
 -- The walk over two grammars, lowest piece first: what holds where a piece ends, after each step, and at the end.
 use Rattle.std.specs.Prelude.{ℕ, ◌+◌, ◌-◌, ◌≤◌, ◌<◌, ◌≡◌, Bool, true, false, ◌&&◌, List, ◌∷◌, ◌++◌, ltb, length, take, drop, if◌then◌else◌}
-use Rattle.std.specs.Prelude.{None, Some}
+use Rattle.std.specs.Prelude.{None, Some, Result, Ok, Err}
 use Rattle.spec.specs.Grammar.{Item, row, operand, enumerant, parameter, broken, items, start, rules_from, enumerants_of}
 use Rattle.spec.specs.declared.Joined.{Joined}
 use Rattle.spec.specs.Join.{Piece, pieces, piece_bytes, clash, union, Joining}
 use Rattle.formed.specs.Check.{flat_over}
 use Rattle.operand.specs.Log.{kept}
-use Rattle.join.specs.declared.Step.{Step}
-use Rattle.join.specs.declared.Step.TheVariants.{On, Differs}
-use Rattle.join.specs.declared.Merged.{Merged}
-use Rattle.join.specs.declared.Merged.TheVariants.{Clash, Bytes}
 
 -- is it an operand or a parameter
 unfoldable pub is_part : Item → Bool
@@ -49,14 +45,14 @@ pub record Onward (a : List ℕ) (i i' : ℕ) (b : List ℕ) (j j' : ℕ) : Type
   pub whole : union (drop i a) (drop j b) ≡ taken a i i' b j j' ++ union (drop i' a) (drop j' b)
 
 -- what a step says: where it goes, or the key of the pieces that differ
-unfoldable pub Stepped : List ℕ → ℕ → List ℕ → ℕ → Step → Type 0
-Stepped a i b j (On i' j') = Onward a i i' b j j'
-Stepped a i b j (Differs n) = clash (pieces (drop i a)) (pieces (drop j b)) ≡ Some n
+unfoldable pub Stepped : List ℕ → ℕ → List ℕ → ℕ → Result (ℕ × ℕ) ℕ → Type 0
+Stepped a i b j (Ok (i', j')) = Onward a i i' b j j'
+Stepped a i b j (Err n) = clash (pieces (drop i a)) (pieces (drop j b)) ≡ Some n
 
 -- what the walk says, and leaves in the output: the lowest key that clashes, or the length of the union, which is kept where it is to be
-unfoldable pub Walked : List ℕ → List ℕ → Bool → List ℕ → List ℕ → Merged → Type 0
-Walked a b keep before after (Clash n) = (clash (pieces a) (pieces b) ≡ Some n) × (after ≡ before)
-Walked a b keep before after (Bytes n) =
+unfoldable pub Walked : List ℕ → List ℕ → Bool → List ℕ → List ℕ → Result ℕ ℕ → Type 0
+Walked a b keep before after (Err n) = (clash (pieces a) (pieces b) ≡ Some n) × (after ≡ before)
+Walked a b keep before after (Ok n) =
     (clash (pieces a) (pieces b) ≡ None) × (n ≡ length (union a b)) × (after ≡ kept keep before 0 (union a b))
 
 -- the union may be kept: nothing clashes, and there is room for it

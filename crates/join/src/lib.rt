@@ -15,20 +15,6 @@ use spec::{Joined, refusals};
 // What the kind of an enumerant is worth in a key; a row's key is its opcode.
 const KIND: u64 = 4294967296;
 
-// Where a step goes in both grammars, or the key of two pieces that differ.
-#[derive(Clone, Copy)]
-enum Step {
-    On(usize, usize),
-    Differs(u64),
-}
-
-// The lowest key that clashes, or how many bytes the union has.
-#[derive(Clone, Copy)]
-enum Merged {
-    Clash(u64),
-    Bytes(usize),
-}
-
 // Whether an item is an operand or a parameter.
 fn is_part(x: Item) -> bool
     ensures { result ≡ is_part (item_is x) }
@@ -70,8 +56,14 @@ fn piece_end(g: &[u8], at: usize) -> usize
     end
 }
 
-// The step where both grammars have a piece with the same key: over both, where they are equal in every byte.
-fn step_both(first: &[u8], i: usize, second: &[u8], j: usize, key: u64) -> Step
+// The step where both grammars have a piece with the same key: over both, where they are equal in every byte, else their key.
+fn step_both(
+    first: &[u8],
+    i: usize,
+    second: &[u8],
+    j: usize,
+    key: u64,
+) -> Result<(usize, usize), u64>
     requires i_in_bounds { (i < length first.now) × Starts first.now i }
     requires j_in_bounds { (j < length second.now) × Starts second.now j }
     requires key_value { (key ≡ key_of (item_is (item_at first.now i))) × (key ≡ key_of (item_is (item_at second.now j))) }
@@ -80,30 +72,30 @@ fn step_both(first: &[u8], i: usize, second: &[u8], j: usize, key: u64) -> Step
     let i_end = piece_end(first, i);
     let j_end = piece_end(second, j);
     if first[i..i_end] == second[j..j_end] {
-        return Step::On(i_end, j_end);
+        return Ok((i_end, j_end));
     }
-    Step::Differs(key)
+    Err(key)
 }
 
-// The step over the lowest piece of two grammars, from a place in each on.
-fn step_at(first: &[u8], i: usize, second: &[u8], j: usize) -> Step
+// The step over the lowest piece of two grammars, from a place in each on: where it goes in both, or the key of two pieces that differ.
+fn step_at(first: &[u8], i: usize, second: &[u8], j: usize) -> Result<(usize, usize), u64>
     requires starts { Starts first.now i × Starts second.now j }
     requires second_value { (ltb i (length first.now) || ltb j (length second.now)) ≡ true }
     ensures { Stepped first.now i second.now j result }
 {
     if second.len() <= j {
-        return Step::On(piece_end(first, i), j);
+        return Ok((piece_end(first, i), j));
     }
     if first.len() <= i {
-        return Step::On(i, piece_end(second, j));
+        return Ok((i, piece_end(second, j)));
     }
     let x = key_of(grammar::item_at(first, i));
     let y = key_of(grammar::item_at(second, j));
     if x < y {
-        return Step::On(piece_end(first, i), j);
+        return Ok((piece_end(first, i), j));
     }
     if y < x {
-        return Step::On(i, piece_end(second, j));
+        return Ok((i, piece_end(second, j)));
     }
     step_both(first, i, second, j, x)
 }
@@ -146,7 +138,7 @@ fn put_taken(
 }
 
 // Walks over two grammars, lowest piece first: the lowest key that clashes, or the length of the union, which is stored where it is to be kept.
-fn merge(first: &[u8], second: &[u8], out: &mut [u8], keep: bool) -> Merged
+fn merge(first: &[u8], second: &[u8], out: &mut [u8], keep: bool) -> Result<usize, u64>
     requires first_value { (well_formed first.now ≡ true) × (well_formed second.now ≡ true) }
     requires may_keep { keep ≡ true → MayKeep first.now second.now out.old }
     ensures { Walked first.now second.now keep out.old out.new result }
@@ -155,17 +147,12 @@ fn merge(first: &[u8], second: &[u8], out: &mut [u8], keep: bool) -> Merged
     let mut j = 0;
     let mut at = 0;
     while (i < first.len()) | (j < second.len()) {
-        let taken = step_at(first, i, second, j);
-        match taken {
-            Step::On(i2, j2) => {
-                at = put_taken(first, i, i2, second, j, j2, out, at, keep);
-                i = i2;
-                j = j2;
-            }
-            Step::Differs(key) => return Merged::Clash(key),
-        }
+        let (i2, j2) = step_at(first, i, second, j)?;
+        at = put_taken(first, i, i2, second, j, j2, out, at, keep);
+        i = i2;
+        j = j2;
     }
-    Merged::Bytes(at)
+    Ok(at)
 }
 
 // A refusal: nothing is written.
@@ -221,13 +208,12 @@ pub fn join(first: &[u8], second: &[u8], out: &mut [u8]) -> Joined
     }
     let flat = rules::are_apart(&second_owners, &first_used)
         & rules::are_apart(&first_owners, &second_used);
-    let measured = merge(first, second, out, false);
-    match measured {
-        Merged::Clash(key) => refused(
+    match merge(first, second, out, false) {
+        Err(key) => refused(
             refusals::GRAMMARS_CLASH,
             (key / KIND) as u32,
             (key % KIND) as u32,
         ),
-        Merged::Bytes(bytes) => put_union(first, second, flat, bytes, out),
+        Ok(bytes) => put_union(first, second, flat, bytes, out),
     }
 }

@@ -89,12 +89,10 @@ fn record_lines(out: &mut [u8], at: usize, instructions: &[u32], count: usize) -
     requires { (count ≤ 1019) × (at + 105 * count ≤ length out.old) × (record_size * count ≤ length instructions.now) }
     ensures { Wrote out.old out.new at result (lines_of 1 count instructions.now) }
 {
-    let mut i = 0;
     let mut end = at;
-    while i < count {
+    for i in 0..count {
         let f = records::record_at(instructions, i);
         end = record_line(out, end, i + 1, f);
-        i += 1;
     }
     end
 }

@@ -50,10 +50,11 @@ spacing_starts log strings first count keep out at l r h = record { readable = r
 
 -- one operand on
 pub spacing_on : {log strings : List ℕ} {first count : ℕ} {keep : Bool} {out₀ : List ℕ} {at₀ a left at : ℕ} {out : List ℕ}
-    (s : Spacing log strings first count keep out₀ at₀ a left at out) (h : 0 < left) (a' : ℕ) → a' ≡ operand_after log a → {at' : ℕ} {out' : List ℕ}
-    → Wrote keep out at ((32 ∷ []) ++ operand_text (operand_at log strings a)) at' out' → Spacing log strings first count keep out₀ at₀ a' (left - 1) at' out'
-spacing_on {log} {strings} {first} {count} {keep} {out₀} {at₀} {a} {left} s h a' e {at'} {out'} w =
-    record {
+    (s : Spacing log strings first count keep out₀ at₀ a left at out) (h : 0 < left) (a' left' : ℕ) → a' ≡ operand_after log a → left' ≡ left - 1
+    → {at' : ℕ} {out' : List ℕ} → Wrote keep out at ((32 ∷ []) ++ operand_text (operand_at log strings a)) at' out'
+    → Spacing log strings first count keep out₀ at₀ a' left' at' out'
+spacing_on {log} {strings} {first} {count} {keep} {out₀} {at₀} {a} {left} s h a' left' e d {at'} {out'} w =
+    rw d record {
       readable = subst (AllReadable (left - 1) log strings) (sym e) (readable_more left log strings a h s.readable).1;
       going = subst (λ (k : ℕ). Going keep out₀ at₀ (spaced (operands_from count log strings first)) (spaced (operands_from (left - 1) log strings k)) at' out') (sym e) (going_on s.going _ _ (spaced_more left log strings a h) w);
     }

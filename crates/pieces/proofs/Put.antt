@@ -102,19 +102,19 @@ module _ {keep : Bool} {out₀ : List ℕ} {at₀ : ℕ} {all rest : List ℕ} {
   pub going_ends : rest ≡ [] → Wrote keep out₀ at₀ all at out
   going_ends e = wrote_as g.acc all (sym (g.whole ∙ ap (λ (z : List ℕ). g.acc ++ z) e ∙ append-nil g.acc)) g.wrote
 
-  module _ (Some rest' : List ℕ) (e : rest ≡ Some ++ rest') where
+  module _ (part rest' : List ℕ) (e : rest ≡ part ++ rest') where
     -- the next after what went before
-    split : all ≡ (g.acc ++ Some) ++ rest'
-    split = g.whole ∙ ap (λ (z : List ℕ). g.acc ++ z) e ∙ sym (append_assoc g.acc Some rest')
+    split : all ≡ (g.acc ++ part) ++ rest'
+    split = g.whole ∙ ap (λ (z : List ℕ). g.acc ++ z) e ∙ sym (append_assoc g.acc part rest')
 
     -- there is room for what went before and the next
-    more_room : Room keep out₀ at₀ (g.acc ++ Some)
-    more_room = room_first (g.acc ++ Some) rest' (room_as all ((g.acc ++ Some) ++ rest') split g.room)
+    more_room : Room keep out₀ at₀ (g.acc ++ part)
+    more_room = room_first (g.acc ++ part) rest' (room_as all ((g.acc ++ part) ++ rest') split g.room)
 
     -- there is room for the next where it is written
-    pub going_room : Room keep out at Some
-    going_room = room_next g.acc Some more_room g.wrote
+    pub going_room : Room keep out at part
+    going_room = room_next g.acc part more_room g.wrote
 
     -- the next is written
-    pub going_on : {at' : ℕ} {out' : List ℕ} → Wrote keep out at Some at' out' → Going keep out₀ at₀ all rest' at' out'
-    going_on w = record { acc = g.acc ++ Some; whole = split; room = g.room; wrote = wrote_both g.acc Some more_room g.wrote w }
+    pub going_on : {at' : ℕ} {out' : List ℕ} → Wrote keep out at part at' out' → Going keep out₀ at₀ all rest' at' out'
+    going_on w = record { acc = g.acc ++ part; whole = split; room = g.room; wrote = wrote_both g.acc part more_room g.wrote w }

@@ -36,10 +36,8 @@ fn put_string(out: &mut [u8], start: usize, s: &[u8], keep: bool) -> usize
     ensures { Wrote keep out.old start (string_text s.now) result out.new }
 {
     let mut at = put_byte(out, start, 34, keep);
-    let mut i = 0;
-    while i < s.len() {
-        at = put_string_byte(out, at, s[i], keep);
-        i += 1;
+    for b in s {
+        at = put_string_byte(out, at, *b, keep);
     }
     put_byte(out, at, 34, keep)
 }
@@ -267,13 +265,11 @@ pub fn put_operands(
     ensures { Wrote keep out.old start (spaced (operands_from count log.now strings.now first)) result out.new }
 {
     let mut a = first;
-    let mut left = count;
     let mut at = start;
-    while 0 < left {
+    for _ in 0..count {
         let next = put_byte(out, at, b' ', keep);
         at = put_operand(run, index, log, strings, a, out, next, keep);
         a = after(log, a);
-        left -= 1;
     }
     at
 }

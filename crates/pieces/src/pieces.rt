@@ -1,21 +1,9 @@
-// Pieces of text, each kept in the output at a place or only measured: the leaves that test the flag.
+// Pieces of text, each kept in the output at a place or only measured: the leaves that test the flag. A place that is only measured stays
+// at the largest once it is there.
 ghost use Rattle.std.specs.Prelude.{◌≡◌, ◌∷◌, [], ◌+◌, min};
 ghost use Rattle.spec.specs.Digits.{decimal, hex_digits};
 ghost use Rattle.spec.specs.Disassembly.{id_text};
 ghost use Rattle.pieces.specs.Putting.{largest, Room, Wrote};
-
-// The largest place.
-const LARGEST: usize = 18446744073709551615;
-
-// The place so many bytes further; the largest stands for all beyond it.
-fn further(at: usize, n: usize) -> usize
-    ensures { result ≡ min (at + n) largest }
-{
-    if LARGEST - at < n {
-        return LARGEST;
-    }
-    at + n
-}
 
 // A byte.
 pub fn put_byte(out: &mut [u8], at: usize, b: u8, keep: bool) -> usize
@@ -26,7 +14,7 @@ pub fn put_byte(out: &mut [u8], at: usize, b: u8, keep: bool) -> usize
         out[at] = b;
         return at + 1;
     }
-    further(at, 1)
+    at.saturating_add(1)
 }
 
 // Bytes.
@@ -38,7 +26,7 @@ pub fn put_bytes(out: &mut [u8], at: usize, s: &[u8], keep: bool) -> usize
         words::put_bytes(out, at, s);
         return at + s.len();
     }
-    further(at, s.len())
+    at.saturating_add(s.len())
 }
 
 // A number in decimal.
@@ -50,7 +38,7 @@ pub fn put_number(out: &mut [u8], at: usize, v: u64, keep: bool) -> usize
     if keep {
         return texts::digits(out, at, n, v);
     }
-    further(at, n)
+    at.saturating_add(n)
 }
 
 // The last n hexadecimal digits of a number.
@@ -61,7 +49,7 @@ pub fn put_hex(out: &mut [u8], at: usize, n: usize, v: u64, keep: bool) -> usize
     if keep {
         return texts::hex(out, at, n, v);
     }
-    further(at, n)
+    at.saturating_add(n)
 }
 
 // An id.

@@ -39,7 +39,7 @@ finds_nothing_spec =
     (λ c. let at-operands-after = c.before in let at-fields-at = at-operands-after.before.before.before.before.before in let at-loop-test = at-fields-at.before in let at-loop = at-loop-test.before in let at-at-most = at-loop.before in let at-start = at-at-most.before.before.before.before in let below = most_below _ _ _ _ at-at-most.at_most-most.ensures at-loop-test.loop-i-test.true in bad_fault _ _ (check_operands at-start.requires.1.0 at-loop.loop-i.invariant below.0 below.1 _ at-fields-at.fields_at-f.ensures _ at-operands-after.operands_after-passed.ensures c.in_default-passed.is))
     (λ c. let at-loop-test = c.before.before.before.before.before.before.before in let at-at-most = at-loop-test.before.before in let below = most_below _ _ _ _ at-at-most.at_most-most.ensures at-loop-test.loop-i-test.true in omega (arith, below.0))
     (λ c. let at-loop-test = c.before.before.before.before.before.before.before in let at-at-most = at-loop-test.before.before in let below = most_below _ _ _ _ at-at-most.at_most-most.ensures at-loop-test.loop-i-test.true in omega (arith, below.0))
-    (λ c. let at-operands-after = c.before in let at-next-at = at-operands-after.before in let at-offset-after = at-next-at.before in let at-next-s = at-offset-after.before in let at-tag-after = at-next-s.before in let at-fields-at = at-tag-after.before in let at-loop-test = at-fields-at.before in let at-loop = at-loop-test.before in let at-at-most = at-loop.before in let at-start = at-at-most.before.before.before.before in let below = most_below _ _ _ _ at-at-most.at_most-most.ensures at-loop-test.loop-i-test.true in check_goes_on at-start.requires.1.0 at-loop.loop-i.invariant below.0 below.1 _ at-fields-at.fields_at-f.ensures _ _ at-offset-after.offset_after.ensures at-next-at.in-Got-offset_after.is _ _ _ _ at-operands-after.operands_after-passed.ensures c.in-Got-passed.is _ _ at-tag-after.tag_after.ensures at-next-s.in-Got.is)
+    (λ c. let at-operands-after = c.before in let at-next-at = at-operands-after.before in let at-offset-after = at-next-at.before in let at-next-s = at-offset-after.before in let at-tag-after = at-next-s.before in let at-fields-at = at-tag-after.before in let at-loop-test = at-fields-at.before in let at-loop = at-loop-test.before in let at-at-most = at-loop.before in let at-start = at-at-most.before.before.before.before in let below = most_below _ _ _ _ at-at-most.at_most-most.ensures at-loop-test.loop-i-test.true in check_goes_on at-start.requires.1.0 at-loop.loop-i.invariant below.0 below.1 _ at-fields-at.fields_at-f.ensures _ _ at-offset-after.offset_after.ensures at-next-at.in-Ok-offset_after.is _ _ _ _ at-operands-after.operands_after-passed.ensures c.in-Ok-passed.is _ _ at-tag-after.tag_after.ensures at-next-s.in-Ok.is)
     (λ c. let at-loop-test = c.before.before in let at-loop = at-loop-test.before in let at-at-most = at-loop.before in let at-start = at-at-most.before.before.before.before in bad_fault _ _ (check_missing at-start.requires.1.0 at-loop.loop-i.invariant c.if-i-asked.true (most_above _ _ _ _ at-at-most.at_most-most.ensures at-loop-test.loop-i-test.false c.if-i-asked.true)))
     (λ c κs. search rules)
     (λ c. let at-if1 = c.before.before.before.before in let at-loop = at-if1.before.before.before in let at-start = at-loop.before.before.before.before.before in check_free at-start.requires.1.0 at-loop.loop-i.invariant at-if1.if-i-asked.false _ c.is_outside.ensures))

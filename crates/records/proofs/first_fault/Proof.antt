@@ -44,7 +44,7 @@ first_fault_spec =
     (λ c. let at-tag-after = c.before in let at-fields-at = at-tag-after.before.before.before.before.before in let at-if2 = at-fields-at.before in let at-if1 = at-if2.before in let at-loop = at-if1.before.before in let at-start = at-loop.before.before.before.before in check_tag at-start.requires.1 at-loop.loop-i.invariant at-if1.loop-i-test.true at-if2.if-there-i.false _ at-fields-at.fields_at-f.ensures _ at-tag-after.tag_after.ensures c.in_default-tag_after.is)
     (λ c. search rules)
     (λ c. omega arith)
-    (λ c. let at-tag-after = c.before in let at-next-a = at-tag-after.before in let at-operands-after = at-next-a.before in let at-next-at = at-operands-after.before in let at-offset-after = at-next-at.before in let at-fields-at = at-offset-after.before in let at-if2 = at-fields-at.before in let at-if1 = at-if2.before in let at-loop = at-if1.before.before in let at-start = at-loop.before.before.before.before in check_goes_on at-start.requires.1 at-loop.loop-i.invariant at-if1.loop-i-test.true at-if2.if-there-i.false _ at-fields-at.fields_at-f.ensures _ _ at-offset-after.offset_after.ensures at-next-at.in-Got.is _ _ _ _ at-operands-after.operands_after.ensures at-next-a.in-Got-operands_after.is _ _ at-tag-after.tag_after.ensures c.in-Got-tag_after.is)
+    (λ c. let at-tag-after = c.before in let at-next-a = at-tag-after.before in let at-operands-after = at-next-a.before in let at-next-at = at-operands-after.before in let at-offset-after = at-next-at.before in let at-fields-at = at-offset-after.before in let at-if2 = at-fields-at.before in let at-if1 = at-if2.before in let at-loop = at-if1.before.before in let at-start = at-loop.before.before.before.before in check_goes_on at-start.requires.1 at-loop.loop-i.invariant at-if1.loop-i-test.true at-if2.if-there-i.false _ at-fields-at.fields_at-f.ensures _ _ at-offset-after.offset_after.ensures at-next-at.in-Ok.is _ _ _ _ at-operands-after.operands_after.ensures at-next-a.in-Ok-operands_after.is _ _ at-tag-after.tag_after.ensures c.in-Ok-tag_after.is)
     (λ c κs. search rules)
     (λ c. let at-loop = c.before.before.before.before.before.before in let at-start = at-loop.before.before.before.before in omega (arith, at-loop.loop-i.invariant.within, div-le_self (length at-start.args.instructions.now) at-start.args.asked.size))
     (λ c κs. search rules)

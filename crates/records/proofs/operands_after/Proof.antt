@@ -25,7 +25,7 @@ add_if2_2 c =
       arith,
       c.result_words.ensures,
       results_few at-start.args.f,
-      after_few _ _ _ _ at-start.args.f _ at-pass-operands.pass_operands-passed.ensures at-start.requires.0.0 at-start.requires.0.1 _ _ _ at-passed.in-Got.is,
+      after_few _ _ _ _ at-start.args.f _ at-pass-operands.pass_operands-passed.ensures at-start.requires.0.0 at-start.requires.0.1 _ _ _ at-passed.in-Ok.is,
     )
 
 returns-3 : tie.Need-returns-then-f-result_words
@@ -34,14 +34,14 @@ returns-3 c =
     let at-pass-operands = at-passed.before in
     let at-if1 = at-pass-operands.before.before in
     let at-start = c.before.before.before.before.before.before.before.before.before.before in
-    after_right _ _ _ _ _ _ at-pass-operands.pass_operands-passed.ensures at-start.requires.0.0 at-start.requires.0.1 _ _ _ at-passed.in-Got.is at-if1.if-f-log_at.false _ c.before.result_words.ensures c.if-f-result_words.true
+    after_right _ _ _ _ _ _ at-pass-operands.pass_operands-passed.ensures at-start.requires.0.0 at-start.requires.0.1 _ _ _ at-passed.in-Ok.is at-if1.if-f-log_at.false _ c.before.result_words.ensures c.if-f-result_words.true
 
 returns-4 : tie.Need-returns
 returns-4 c =
     let at-passed = c.before.before.before in
     let at-pass-operands = at-passed.before in
     let at-start = c.before.before.before.before.before.before.before.before.before.before in
-    after_wrong _ _ _ _ _ _ at-pass-operands.pass_operands-passed.ensures at-start.requires.0.0 at-start.requires.0.1 _ _ _ at-passed.in-Got.is _ c.before.result_words.ensures c.if-f-result_words.false
+    after_wrong _ _ _ _ _ _ at-pass-operands.pass_operands-passed.ensures at-start.requires.0.0 at-start.requires.0.1 _ _ _ at-passed.in-Ok.is _ c.before.result_words.ensures c.if-f-result_words.false
 
 pub operands_after_spec : {M : Type 1} → statement M
 operands_after_spec =

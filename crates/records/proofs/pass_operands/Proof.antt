@@ -25,14 +25,14 @@ add_words c =
     let at-pass-operand = c.before in
     let at-loop-test = at-pass-operand.before in
     let at-loop = at-loop-test.before in
-    omega (arith, pass_room at-loop.loop-passed.invariant at-loop-test.loop-passed-test.true _ at-pass-operand.pass_operand-step.ensures _ _ _ c.in-Got.is)
+    omega (arith, pass_room at-loop.loop-passed.invariant at-loop-test.loop-passed-test.true _ at-pass-operand.pass_operand-step.ensures _ _ _ c.in-Ok.is)
 
 loop-again : tie.Need-loop-passed-preserved invariant-loop-passed decreases-loop-passed
 loop-again c =
     let at-pass-operand = c.before in
     let at-loop-test = at-pass-operand.before in
     let at-loop = at-loop-test.before in
-    pass_goes_on at-loop.loop-passed.invariant at-loop-test.loop-passed-test.true _ at-pass-operand.pass_operand-step.ensures _ _ _ c.in-Got.is
+    pass_goes_on at-loop.loop-passed.invariant at-loop-test.loop-passed-test.true _ at-pass-operand.pass_operand-step.ensures _ _ _ c.in-Ok.is
 
 pub pass_operands_spec : {M : Type 1} → statement M
 pass_operands_spec =

@@ -10,33 +10,26 @@ pub put_byte-at-requires : goal.put_byte-at-requires
 put_byte-at-requires c =
     room_first _ _ (room_as _ _ (string_starts _) c.requires)
 
-pub loop-i-init : goal.loop-i-init
-loop-i-init c =
+pub loop-b-init : goal.loop-b-init
+loop-b-init c =
     going_starts _ _ _ _ (omega arith) (room_next _ _ (room_as _ _ (string_starts _) c.requires) c.put_byte-at.ensures)
 
 pub put_string_byte-at-requires : goal.put_string_byte-at-requires
 put_string_byte-at-requires c =
-    going_room c.loop-i.invariant _ _ (string_more _ _ c.loop-i-test.true)
+    going_room c.loop-b.invariant _ _ (string_more _ _ c.loop-b-test.true)
 
-pub overflow_add-i : goal.overflow_add-i
-overflow_add-i c = omega arith
-
-pub loop-i-smaller : goal.loop-i-smaller
-loop-i-smaller c =
-    omega (arith, c.loop-i-test.true)
-
-pub loop-i-preserved : goal.loop-i-preserved
-loop-i-preserved c =
-    going_on c.loop-i.invariant _ _ (string_more _ _ c.loop-i-test.true) c.put_string_byte-at.ensures
+pub loop-b-preserved : goal.loop-b-preserved
+loop-b-preserved c =
+    going_on c.loop-b.invariant _ _ (string_more _ _ c.loop-b-test.true) c.put_string_byte-at.ensures
 
 pub put_byte-requires : goal.put_byte-requires
 put_byte-requires c =
-    going_room c.loop-i.invariant _ _ (string_ends _ _ c.loop-i-test.false)
+    going_room c.loop-b.invariant _ _ (string_ends _ _ c.loop-b-test.false)
 
 pub shape_of-out : goal.shape_of-out
 shape_of-out c =
-    c.put_byte.auto.out ∙ going_length c.loop-i.invariant ∙ c.put_byte-at.auto.out
+    c.put_byte.auto.out ∙ going_length c.loop-b.invariant ∙ c.put_byte-at.auto.out
 
 pub returns : goal.returns
 returns c =
-    wrote_as _ _ (sym (string_starts _)) (wrote_both _ _ (room_as _ _ (string_starts _) c.requires) c.put_byte-at.ensures (going_ends (going_on c.loop-i.invariant _ _ (string_ends _ _ c.loop-i-test.false) c.put_byte.ensures) refl))
+    wrote_as _ _ (sym (string_starts _)) (wrote_both _ _ (room_as _ _ (string_starts _) c.requires) c.put_byte-at.ensures (going_ends (going_on c.loop-b.invariant _ _ (string_ends _ _ c.loop-b-test.false) c.put_byte.ensures) refl))

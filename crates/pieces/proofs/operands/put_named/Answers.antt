@@ -1,0 +1,22 @@
+-- `pieces::operands::put_named` meets its contract: by its bits or by its value.
+-- Assumes nothing.
+use mathlib.Core.Path.{sym, ◌∙◌}
+use Rattle.pieces.proofs.Put.{wrote_as, room_as}
+use Rattle.pieces.proofs.Texts.{named_bits, value_text}
+use Rattle.pieces.proofs.operands.put_named.Goals as goal
+
+pub put_bits-requires-clause-room : goal.put_bits-requires-clause-room
+put_bits-requires-clause-room c =
+    room_as _ _ (sym (named_bits _ _ (sym c.has_bits.ensures ∙ c.if-has_bits.true))) c.requires.room
+
+pub returns-then-has_bits : goal.returns-then-has_bits
+returns-then-has_bits c =
+    wrote_as _ _ (named_bits _ _ (sym c.has_bits.ensures ∙ c.if-has_bits.true)) c.put_bits.ensures
+
+pub put_name-requires-clause-room : goal.put_name-requires-clause-room
+put_name-requires-clause-room c =
+    room_as _ _ (sym (value_text _ _ _ c.set_of_kind.ensures (sym c.has_bits.ensures ∙ c.if-has_bits.false))) c.requires.room
+
+pub returns : goal.returns
+returns c =
+    wrote_as _ _ (value_text _ _ _ c.set_of_kind.ensures (sym c.has_bits.ensures ∙ c.if-has_bits.false)) c.put_name.ensures
