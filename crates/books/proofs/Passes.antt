@@ -191,20 +191,19 @@ match_no index f fs n ws e = rw e
 
 module _ {ws : List ℕ} {count : ℕ} {n : Numbers} {i : ℕ} (r : Matching ws count n i) where
   module _ (h : i < count) (g : record_size * count ≤ length ws) (f : Fields) (e : f ≡ fields_at (drop (record_size * i) ws))
-      (m : Numbers) (d : m ≡ numbers_at (drop (record_size * i) ws)) (x : Step) (q : x ≡ step_of f.tag n) (t : Bool)
-      (p : t ≡ (eqb m.function x.own.function && eqb m.block x.own.block)) where
+      (m : Numbers) (d : m ≡ numbers_at (drop (record_size * i) ws)) (x : Step) (q : x ≡ step_of f.tag n) where
     -- the record at the index is the first of the rest
     next_is : records_of record_size (count - i) (drop (record_size * i) ws)
         ≡ f ∷ records_of record_size (count - (i + 1)) (drop (record_size * (i + 1)) ws)
     next_is = rw e (records_by record_size ws i (count - (i + 1)) (count - i) (omega arith) (omega arith))
 
     -- the test is of its numbers
-    test_is : has_numbers (drop (record_size * i) ws) (numbers_of f.tag (onward f.tag n)) ≡ t
+    test_is : has_numbers (drop (record_size * i) ws) (numbers_of f.tag (onward f.tag n)) ≡ (eqb m.function x.own.function && eqb m.block x.own.block)
     unfolding step_of numbers_at
-    test_is = sym (rw (d, q) at p)
+    test_is = rw (d, q)
 
     -- it has not those called for
-    pub match_stops : t ≡ false → checked_is (Bad (i + 1)) ≡ misnumbered 1 (called_for (records_of record_size count ws)) ws
+    pub match_stops : (eqb m.function x.own.function && eqb m.block x.own.block) ≡ false → checked_is (Bad (i + 1)) ≡ misnumbered 1 (called_for (records_of record_size count ws)) ws
     unfolding checked_is
     match_stops u =
         sym (r.same
@@ -213,7 +212,7 @@ module _ {ws : List ℕ} {count : ℕ} {n : Numbers} {i : ℕ} (r : Matching ws 
         ∙ ap Some (sym (add-one i)))
 
     -- it has
-    pub match_goes_on : t ≡ true → Matching ws count x.begun (i + 1)
+    pub match_goes_on : (eqb m.function x.own.function && eqb m.block x.own.block) ≡ true → Matching ws count x.begun (i + 1)
     unfolding step_of
     match_goes_on u =
         let fs = records_of record_size (count - (i + 1)) (drop (record_size * (i + 1)) ws) in

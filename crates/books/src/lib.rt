@@ -39,13 +39,6 @@ fn check_room(size: usize, count: usize, words: usize) -> Checked
     Checked::Good
 }
 
-// Whether numbers are the same.
-fn are_same(a: Numbers, b: Numbers) -> bool
-    ensures { result ≡ (eqb a.function b.function && eqb a.block b.block) }
-{
-    (a.function == b.function) & (a.block == b.block)
-}
-
 // Whether each record has the numbers that the tags call for, or the first that has not.
 fn check_numbers(new: &[u32], count: usize) -> Checked
     requires count_in_bounds { record_size * count ≤ length new.now }
@@ -56,18 +49,14 @@ fn check_numbers(new: &[u32], count: usize) -> Checked
         function: 0,
         block: 0,
     };
-    let mut i = 0;
-    while i < count {
-        let at = RECORD * i;
-        let f = records::fields_at(new, at);
-        let has = records::numbers_at(new, at);
+    for i in 0..count {
+        let f = records::record_at(new, i);
+        let has = records::numbers_at(new, RECORD * i);
         let step = numbers::count(f.tag, begun);
-        let own = step.own;
-        if !are_same(has, own) {
+        if has != step.own {
             return Checked::Bad(i + 1);
         }
         begun = step.begun;
-        i += 1;
     }
     Checked::Good
 }
@@ -85,14 +74,11 @@ fn put_new(old: &[u32], count: usize, out: &mut [u32])
         function: 0,
         block: 0,
     };
-    let mut i = 0;
-    while i < count {
+    for i in 0..count {
         let f = records::fields_at(old, FIELDS * i);
         let step = numbers::count(f.tag, begun);
-        let own = step.own;
-        records::put_record(out, RECORD * i, f, own);
+        records::put_record(out, RECORD * i, f, step.own);
         begun = step.begun;
-        i += 1;
     }
 }
 
@@ -102,11 +88,9 @@ fn put_old(new: &[u32], count: usize, out: &mut [u32])
     requires count_in_bounds_2 { field_size * count ≤ length out.old }
     ensures { out.new ≡ laid_over out.old (joined field_words (records_of record_size count new.now)) }
 {
-    let mut i = 0;
-    while i < count {
-        let f = records::fields_at(new, RECORD * i);
+    for i in 0..count {
+        let f = records::record_at(new, i);
         records::put_fields(out, FIELDS * i, f);
-        i += 1;
     }
 }
 
