@@ -36,7 +36,7 @@ pub struct HeaderRead {
 }
 
 // Outside functions; in a function, outside its blocks; in a block.
-#[derive(Clone, Copy, PartialEq, Eq)]
+#[derive(Clone, Copy)]
 pub enum State {
     Outside,
     Function,
