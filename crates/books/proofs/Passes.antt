@@ -1,7 +1,7 @@
 -- How the passes over a book go: past a record, and to the end.
 use Prim.Native.Nat.{ℕ, zero, suc, ◌+◌, ◌*◌, ◌-◌, ◌<◌, ◌≤◌}
 use mathlib.Core.Path.{◌≡◌, refl, ap, sym, ◌∙◌}
-use mathlib.Core.Bool.{Bool, true, false, ◌&&◌}
+use mathlib.Core.Bool.{true, false, ◌&&◌}
 use mathlib.Core.List.{List, [], ◌∷◌, ◌++◌, map, append-nil}
 use Rattle.std.specs.Prelude.{Option, Some}
 use native.Mathlib.Nat.{mul-zero, sub-zero}
@@ -9,7 +9,7 @@ use native.Mathlib.Numerals.{add-one}
 use native.Mathlib.Omega.{arith}
 use lib.Dec.{eqb}
 use lib.ListN.{length, drop, length-drop}
-use lib.Seq.{sets, length-sets, drop-drop}
+use lib.Seq.{sets, drop-drop}
 use Rattle.spec.specs.declared.Fields.{Fields}
 use Rattle.spec.specs.declared.Numbers.{Numbers}
 use Rattle.spec.specs.Base.{joined}
@@ -77,10 +77,6 @@ unfolding records_of numbered called_for records_with begun counted
 number_starts ws out count = record { stored = refl; counts = refl; few = (omega arith, omega arith); within = omega arith }
 
 module _ {ws out₀ out : List ℕ} {n : Numbers} {i count : ℕ} (r : Numbering ws out₀ out n i count) where
-  -- the output keeps its length
-  pub number_length : length out ≡ length out₀
-  number_length = ap length r.stored ∙ length-sets out₀ 0 (numbered (records_of field_size i ws))
-
   -- one more
   pub number_goes_on : i < count → field_size * count ≤ length ws → (f : Fields) → f ≡ fields_at (drop (field_size * i) ws)
       → (x : Step) → x ≡ step_of f.tag n → (out' : List ℕ) → out' ≡ sets out (record_size * i) (record_words f x.own)
@@ -129,10 +125,6 @@ fields_long [] = refl
 fields_long (f ∷ fs) = omega (arith, fields_long fs)
 
 module _ {ws out₀ out : List ℕ} {i count : ℕ} (r : Stripping ws out₀ out i count) where
-  -- the output keeps its length
-  pub strip_length : length out ≡ length out₀
-  strip_length = ap length r.stored ∙ length-sets out₀ 0 (joined field_words (records_of record_size i ws))
-
   -- one more
   pub strip_goes_on : i < count → record_size * count ≤ length ws → (f : Fields) → f ≡ fields_at (drop (record_size * i) ws)
       → (out' : List ℕ) → out' ≡ sets out (field_size * i) (field_words f) → Stripping ws out₀ out' (i + 1) count
