@@ -363,12 +363,6 @@ pub record Passing (log strings : List ℕ) (count a₀ b₀ a b words done : �
   pub in_strings : b ≤ length strings
   pub few : 4 * words ≤ a + b
 
--- before the first
-pub pass_starts : (log strings : List ℕ) (count a b : ℕ) → a ≤ length log → b ≤ length strings → Passing log strings count a b a b 0 0
-pass_starts log strings count a b h g =
-    let q : count ≡ count - 0 = omega arith in
-    record { whole = ap (λ (n : ℕ). passed_all 0 (take_operands n (left_at log strings a b))) q; in_log = h; in_strings = g; few = omega arith }
-
 -- one operand before others
 passed_add : (w : ℕ) (o : Operand) (y : Option (List Operand × Left))
     → passed_all w (and_then y (λ xs. Some (o ∷ xs.0, xs.1))) ≡ passed_all (w + operand_size o) y

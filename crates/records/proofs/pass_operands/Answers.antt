@@ -1,9 +1,6 @@
 use Rattle.std.proofs.Common.{◌∙◌, arith}
-use Rattle.records.proofs.Operands.{pass_starts, pass_goes_on, pass_room, pass_fails, pass_ends}
+use Rattle.records.proofs.Operands.{pass_goes_on, pass_room, pass_fails, pass_ends}
 use Rattle.records.proofs.pass_operands.Goals as goal
-
-pub loop-init : goal.loop-init
-loop-init c = pass_starts _ _ _ _ _ c.requires.log_at_in_bounds.0 c.requires.log_at_in_bounds.1
 
 -- an operand that is not good
 pub returns-in_err-next : goal.returns-in_err-next
