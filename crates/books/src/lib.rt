@@ -28,6 +28,7 @@ fn refused(number: u32, index: usize) -> Turned
 }
 
 // Whether an output of so many words has room for so many records of a length, or the first that does not fit.
+#[tactic(auto, unfolding(records::specs::Steps::checked_is))]
 fn check_room(size: usize, count: usize, words: usize) -> Checked
     requires { field_size ≤ size }
     ensures { checked_is result ≡ (if ltb (words / size) count then Some (words / size + 1) else None) }

@@ -21,6 +21,7 @@ struct Order {
 }
 
 // Whether a tag may come there.
+#[tactic(auto, unfolding(crate::specs::Stand::may_come))]
 fn may_come(o: Order, tag: u32) -> bool
     ensures { result ≡ may_come o tag }
 {
