@@ -21,6 +21,7 @@ pub const FIELDS: usize = 8;
 pub const RECORD: usize = 10;
 
 // The fields of the record at a place: what its words mean is said here and in the setters alone.
+#[tactic(auto, using(crate::proofs::Fields::fields_drop))]
 pub fn fields_at(instructions: &[u32], at: usize) -> Fields
     requires { at + field_size ≤ length instructions.now }
     ensures { result ≡ fields_at (drop at instructions.now) }
@@ -38,6 +39,7 @@ pub fn fields_at(instructions: &[u32], at: usize) -> Fields
 }
 
 // The numbers of the record at a place, its words after the fields.
+#[tactic(auto, using(crate::proofs::Fields::numbers_drop))]
 pub fn numbers_at(instructions: &[u32], at: usize) -> Numbers
     requires { at + record_size ≤ length instructions.now }
     ensures { result ≡ numbers_at (drop at instructions.now) }
@@ -93,6 +95,7 @@ pub enum Checked {
 // 1. FIELDS AND OFFSETS
 
 // Whether the presence bits are known, and no result field is there without its bit.
+#[tactic(auto, unfolding(crate::specs::Steps::fields_hold))]
 fn fields_hold(f: Fields) -> bool
     ensures { result ≡ fields_hold f }
 {
@@ -260,6 +263,7 @@ fn pass_operands(
 }
 
 // One word for what is there.
+#[tactic(auto, unfolding(crate::specs::Steps::word_if))]
 fn one_if(there: bool) -> usize
     ensures { result ≡ word_if there }
 {
@@ -270,6 +274,7 @@ fn one_if(there: bool) -> usize
 }
 
 // How many words the results of a record take.
+#[tactic(auto, using(crate::proofs::Fields::word_few), unfolding(crate::specs::Steps::result_words))]
 fn result_words(f: Fields) -> usize
     ensures { result ≡ result_words f }
 {
@@ -328,6 +333,7 @@ fn is_outside(s: State) -> bool
 }
 
 // The answer where all records are passed: the end is good, or bad at an index.
+#[tactic(auto, unfolding(crate::specs::Steps::end_answer))]
 fn at_end(good: bool, index: usize) -> Checked
     ensures { result ≡ end_answer good index }
 {
