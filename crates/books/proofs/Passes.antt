@@ -1,7 +1,7 @@
 -- How the passes over a book go: past a record, and to the end.
 use Prim.Native.Nat.{ℕ, zero, suc, ◌+◌, ◌*◌, ◌-◌, ◌<◌, ◌≤◌}
 use mathlib.Core.Path.{◌≡◌, refl, ap, sym, ◌∙◌}
-use mathlib.Core.Bool.{Bool, true, false, ◌&&◌}
+use mathlib.Core.Bool.{true, false, ◌&&◌}
 use mathlib.Core.List.{List, [], ◌∷◌, ◌++◌, map, append-nil}
 use Rattle.std.specs.Prelude.{Option, Some}
 use native.Mathlib.Nat.{mul-zero, sub-zero}
@@ -9,7 +9,7 @@ use native.Mathlib.Numerals.{add-one}
 use native.Mathlib.Omega.{arith}
 use lib.Dec.{eqb}
 use lib.ListN.{length, drop, length-drop}
-use lib.Seq.{sets, length-sets, drop-drop}
+use lib.Seq.{sets, drop-drop}
 use Rattle.spec.specs.declared.Fields.{Fields}
 use Rattle.spec.specs.declared.Numbers.{Numbers}
 use Rattle.spec.specs.Base.{joined}
@@ -24,11 +24,11 @@ use Rattle.demands.proofs.Stores.{numbered_length}
 use Rattle.numbers.specs.declared.Step.{Step}
 use Rattle.numbers.specs.Counting.{step_of, counted, begun}
 use Rattle.numbers.proofs.Laws.{onward_few, begun_more, numbered_more}
+use Rattle.records.specs.declared.Checked.TheVariants.{Good, Bad}
 use Rattle.records.specs.Steps.{checked_is}
 use Rattle.records.specs.Good.{numbers_at}
 use Rattle.records.proofs.Operands.{has_yes}
 use Rattle.records.proofs.Pass.{records_by, records_end}
-use Rattle.std.specs.Prelude.{None}
 
 -- THE RECORDS OF A STORE
 
@@ -77,10 +77,6 @@ unfolding records_of numbered called_for records_with begun counted
 number_starts ws out count = record { stored = refl; counts = refl; few = (omega arith, omega arith); within = omega arith }
 
 module _ {ws out₀ out : List ℕ} {n : Numbers} {i count : ℕ} (r : Numbering ws out₀ out n i count) where
-  -- the output keeps its length
-  pub number_length : length out ≡ length out₀
-  number_length = ap length r.stored ∙ length-sets out₀ 0 (numbered (records_of field_size i ws))
-
   -- one more
   pub number_goes_on : i < count → field_size * count ≤ length ws → (f : Fields) → f ≡ fields_at (drop (field_size * i) ws)
       → (x : Step) → x ≡ step_of f.tag n → (out' : List ℕ) → out' ≡ sets out (record_size * i) (record_words f x.own)
@@ -129,10 +125,6 @@ fields_long [] = refl
 fields_long (f ∷ fs) = omega (arith, fields_long fs)
 
 module _ {ws out₀ out : List ℕ} {i count : ℕ} (r : Stripping ws out₀ out i count) where
-  -- the output keeps its length
-  pub strip_length : length out ≡ length out₀
-  strip_length = ap length r.stored ∙ length-sets out₀ 0 (joined field_words (records_of record_size i ws))
-
   -- one more
   pub strip_goes_on : i < count → record_size * count ≤ length ws → (f : Fields) → f ≡ fields_at (drop (record_size * i) ws)
       → (out' : List ℕ) → out' ≡ sets out (field_size * i) (field_words f) → Stripping ws out₀ out' (i + 1) count
@@ -191,20 +183,19 @@ match_no index f fs n ws e = rw e
 
 module _ {ws : List ℕ} {count : ℕ} {n : Numbers} {i : ℕ} (r : Matching ws count n i) where
   module _ (h : i < count) (g : record_size * count ≤ length ws) (f : Fields) (e : f ≡ fields_at (drop (record_size * i) ws))
-      (m : Numbers) (d : m ≡ numbers_at (drop (record_size * i) ws)) (x : Step) (q : x ≡ step_of f.tag n) (t : Bool)
-      (p : t ≡ (eqb m.function x.own.function && eqb m.block x.own.block)) where
+      (m : Numbers) (d : m ≡ numbers_at (drop (record_size * i) ws)) (x : Step) (q : x ≡ step_of f.tag n) where
     -- the record at the index is the first of the rest
     next_is : records_of record_size (count - i) (drop (record_size * i) ws)
         ≡ f ∷ records_of record_size (count - (i + 1)) (drop (record_size * (i + 1)) ws)
     next_is = rw e (records_by record_size ws i (count - (i + 1)) (count - i) (omega arith) (omega arith))
 
     -- the test is of its numbers
-    test_is : has_numbers (drop (record_size * i) ws) (numbers_of f.tag (onward f.tag n)) ≡ t
+    test_is : has_numbers (drop (record_size * i) ws) (numbers_of f.tag (onward f.tag n)) ≡ (eqb m.function x.own.function && eqb m.block x.own.block)
     unfolding step_of numbers_at
-    test_is = sym (rw (d, q) at p)
+    test_is = rw (d, q)
 
     -- it has not those called for
-    pub match_stops : t ≡ false → checked_is (Some (i + 1)) ≡ misnumbered 1 (called_for (records_of record_size count ws)) ws
+    pub match_stops : (eqb m.function x.own.function && eqb m.block x.own.block) ≡ false → checked_is (Bad (i + 1)) ≡ misnumbered 1 (called_for (records_of record_size count ws)) ws
     unfolding checked_is
     match_stops u =
         sym (r.same
@@ -213,7 +204,7 @@ module _ {ws : List ℕ} {count : ℕ} {n : Numbers} {i : ℕ} (r : Matching ws 
         ∙ ap Some (sym (add-one i)))
 
     -- it has
-    pub match_goes_on : t ≡ true → Matching ws count x.begun (i + 1)
+    pub match_goes_on : (eqb m.function x.own.function && eqb m.block x.own.block) ≡ true → Matching ws count x.begun (i + 1)
     unfolding step_of
     match_goes_on u =
         let fs = records_of record_size (count - (i + 1)) (drop (record_size * (i + 1)) ws) in
@@ -233,7 +224,7 @@ module _ {ws : List ℕ} {count : ℕ} {n : Numbers} {i : ℕ} (r : Matching ws 
         }
 
   -- all have
-  pub match_ends : count ≤ i → checked_is None ≡ misnumbered 1 (called_for (records_of record_size count ws)) ws
+  pub match_ends : count ≤ i → checked_is Good ≡ misnumbered 1 (called_for (records_of record_size count ws)) ws
   unfolding checked_is misnumbered numbers_from
   match_ends h =
       sym (r.same

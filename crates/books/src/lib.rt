@@ -11,7 +11,7 @@ ghost use Rattle.spec.specs.Books.{misnumbered, new_book, old_book};
 ghost use Rattle.records.specs.Steps.{given, checked_is};
 ghost use Rattle.books.specs.Turns.{Turns};
 
-use records::{FIELDS, RECORD};
+use records::{Checked, FIELDS, RECORD};
 use spec::{Numbers, Turned, refusals};
 
 // THE REFUSALS
@@ -28,26 +28,20 @@ fn refused(number: u32, index: usize) -> Turned
 }
 
 // Whether an output of so many words has room for so many records of a length, or the first that does not fit.
-fn check_room(size: usize, count: usize, words: usize) -> Option<usize>
+#[tactic(auto, unfolding(records::specs::Steps::checked_is))]
+fn check_room(size: usize, count: usize, words: usize) -> Checked
     requires { field_size ≤ size }
     ensures { checked_is result ≡ (if ltb (words / size) count then Some (words / size + 1) else None) }
 {
     let room = words / size;
     if room < count {
-        return Some(room + 1);
+        return Checked::Bad(room + 1);
     }
-    None
-}
-
-// Whether numbers are the same.
-fn are_same(a: Numbers, b: Numbers) -> bool
-    ensures { result ≡ (eqb a.function b.function && eqb a.block b.block) }
-{
-    (a.function == b.function) & (a.block == b.block)
+    Checked::Good
 }
 
 // Whether each record has the numbers that the tags call for, or the first that has not.
-fn check_numbers(new: &[u32], count: usize) -> Option<usize>
+fn check_numbers(new: &[u32], count: usize) -> Checked
     requires count_in_bounds { record_size * count ≤ length new.now }
     requires count_bound { count < 4294967295 }
     ensures { checked_is result ≡ misnumbered 1 (called_for (records_of record_size count new.now)) new.now }
@@ -56,20 +50,16 @@ fn check_numbers(new: &[u32], count: usize) -> Option<usize>
         function: 0,
         block: 0,
     };
-    let mut i = 0;
-    while i < count {
-        let at = RECORD * i;
-        let f = records::fields_at(new, at);
-        let has = records::numbers_at(new, at);
+    for i in 0..count {
+        let f = records::record_at(new, i);
+        let has = records::numbers_at(new, RECORD * i);
         let step = numbers::count(f.tag, begun);
-        let own = step.own;
-        if !are_same(has, own) {
-            return Some(i + 1);
+        if has != step.own {
+            return Checked::Bad(i + 1);
         }
         begun = step.begun;
-        i += 1;
     }
-    None
+    Checked::Good
 }
 
 // THE RECORDS
@@ -85,14 +75,11 @@ fn put_new(old: &[u32], count: usize, out: &mut [u32])
         function: 0,
         block: 0,
     };
-    let mut i = 0;
-    while i < count {
+    for i in 0..count {
         let f = records::fields_at(old, FIELDS * i);
         let step = numbers::count(f.tag, begun);
-        let own = step.own;
-        records::put_record(out, RECORD * i, f, own);
+        records::put_record(out, RECORD * i, f, step.own);
         begun = step.begun;
-        i += 1;
     }
 }
 
@@ -102,11 +89,9 @@ fn put_old(new: &[u32], count: usize, out: &mut [u32])
     requires count_in_bounds_2 { field_size * count ≤ length out.old }
     ensures { out.new ≡ laid_over out.old (joined field_words (records_of record_size count new.now)) }
 {
-    let mut i = 0;
-    while i < count {
-        let f = records::fields_at(new, RECORD * i);
+    for i in 0..count {
+        let f = records::record_at(new, i);
         records::put_fields(out, FIELDS * i, f);
-        i += 1;
     }
 }
 
@@ -145,11 +130,11 @@ pub fn new_book(
         log_count,
         string_count,
     );
-    if let Some(index) = checked {
+    if let Checked::Bad(index) = checked {
         return refused(refusals::BAD_RECORDS, index);
     }
     let room = check_room(RECORD, count, out.len());
-    if let Some(index) = room {
+    if let Checked::Bad(index) = room {
         return refused(refusals::INSTRUCTIONS_FULL, index);
     }
     put_new(old, count, out);
@@ -178,15 +163,15 @@ pub fn old_book(
         log_count,
         string_count,
     );
-    if let Some(index) = checked {
+    if let Checked::Bad(index) = checked {
         return refused(refusals::BAD_RECORDS, index);
     }
     let numbers = check_numbers(new, count);
     let room = check_room(FIELDS, count, out.len());
-    if let Some(wrong) = numbers {
+    if let Checked::Bad(wrong) = numbers {
         return refused(refusals::NUMBERS_WRONG, wrong);
     }
-    if let Some(past) = room {
+    if let Checked::Bad(past) = room {
         return refused(refusals::INSTRUCTIONS_FULL, past);
     }
     put_old(new, count, out);

@@ -44,12 +44,10 @@ pub fn put_read(instructions: &[u32], log: &[u8], strings: &[u8], count: usize, 
     requires count_in_bounds { 20 + length (bytes_of_all (instrs_of instructions.now log.now strings.now count)) ≤ length out.old }
     ensures { out.new ≡ sets out.old 20 (bytes_of_all (instrs_of instructions.now log.now strings.now count)) }
 {
-    let mut i = 0;
-    while i < count {
+    for i in 0..count {
         let f = record_at(instructions, i);
         let at = f.offset as usize;
         put_instruction(log, strings, f, &mut out[at..]);
-        i += 1;
     }
 }
 
@@ -95,11 +93,9 @@ fn put_section(
     requires room { Room out.old start (section_of tag (instrs_of instructions.now log.now strings.now count)) }
     ensures { Wrote out.old start (section_of tag (instrs_of instructions.now log.now strings.now count)) result out.new }
 {
-    let mut i = first;
     let mut at = start;
-    while i < end {
+    for i in first..end {
         at = put_tagged(instructions, log, strings, count, i, tag, out, at);
-        i += 1;
     }
     at
 }
@@ -120,9 +116,8 @@ fn put_sections(
     requires room { Room out.old start (sections (instrs_of instructions.now log.now strings.now count)) }
     ensures { Wrote out.old start (sections (instrs_of instructions.now log.now strings.now count)) result out.new }
 {
-    let mut tag = 1;
     let mut at = start;
-    while tag < tags::FUNCTION {
+    for tag in 1..=tags::LAST_SECTION {
         let t = tag as usize;
         at = put_section(
             instructions,
@@ -135,7 +130,6 @@ fn put_sections(
             out,
             at,
         );
-        tag += 1;
     }
     at
 }
@@ -154,9 +148,8 @@ fn put_parameters(
     requires room { Room out.old start (parameters_in (drop first (instrs_of instructions.now log.now strings.now count))) }
     ensures { Wrote out.old start (parameters_in (drop first (instrs_of instructions.now log.now strings.now count))) result out.new }
 {
-    let mut i = first;
     let mut at = start;
-    while i < count {
+    for i in first..count {
         let f = record_at(instructions, i);
         if f.tag == tags::FUNCTION_END {
             return at;
@@ -171,7 +164,6 @@ fn put_parameters(
             out,
             at,
         );
-        i += 1;
     }
     at
 }
@@ -235,11 +227,9 @@ fn put_functions(
     requires room { Room out.old start (functions (instrs_of instructions.now log.now strings.now count)) }
     ensures { Wrote out.old start (functions (instrs_of instructions.now log.now strings.now count)) result out.new }
 {
-    let mut i = first;
     let mut at = start;
-    while i < count {
+    for i in first..count {
         at = put_part(instructions, log, strings, count, i, out, at);
-        i += 1;
     }
     at
 }

@@ -50,11 +50,9 @@ pub fn survey(
     requires first_value { (first.old ≡ replicate 13 0) × (end.old ≡ replicate 13 0) }
     ensures { AllRanged (instrs_of instructions.now log.now strings.now count) first.new end.new }
 {
-    let mut i = 0;
-    while i < count {
+    for i in 0..count {
         let f = record_at(instructions, i);
         note(f.tag, i, first, end);
-        i += 1;
     }
 }
 
@@ -95,12 +93,10 @@ fn bytes_before(
     requires to_le_count { to ≤ count }
     ensures { result ≡ length (bytes_of_all (tagged tag (take to (instrs_of instructions.now log.now strings.now count)))) }
 {
-    let mut i = 0;
     let mut bytes = 0;
-    while i < to {
+    for i in 0..to {
         let f = record_at(instructions, i);
         bytes += bytes_tagged(f.tag, tag, f.words);
-        i += 1;
     }
     bytes
 }

@@ -1,6 +1,6 @@
 -- Laws of a record's words, and of the steps of the check over fields and tags.
-use Prim.Native.Nat.{ℕ, suc, ◌+◌, ◌*◌, ◌%◌, ◌<◌, ◌≤◌}
-use mathlib.Core.Path.{◌≡◌, refl, ap, sym, ◌∙◌, subst}
+use Prim.Native.Nat.{ℕ, suc, min, ◌+◌, ◌*◌, ◌%◌, ◌<◌, ◌≤◌}
+use mathlib.Core.Path.{◌≡◌, refl, ap, sym, ◌∙◌}
 use mathlib.Core.Bool.{Bool, true, false, not, ◌&&◌}
 use mathlib.Core.List.{List, [], ◌∷◌}
 use Rattle.std.specs.Prelude.{Option, None, Some}
@@ -11,8 +11,13 @@ use lib.Dec.{leb, eqb}
 use lib.ListN.{length, take, drop, get_or, set}
 use lib.Seq.{sets, get_or-drop, take_all, take-length, length-take-le}
 use Rattle.spec.specs.declared.State.{State}
+use Rattle.spec.specs.declared.State.TheVariants.{Outside, Function, Block}
+use Rattle.spec.specs.declared.Cell.{Cell}
+use Rattle.spec.specs.declared.Cell.TheVariants.{Tagged, Refuses}
 use Rattle.spec.specs.declared.Fields.{Fields}
 use Rattle.spec.specs.declared.Numbers.{Numbers}
+use Rattle.spec.specs.declared.Found.{Found}
+use Rattle.spec.specs.declared.Found.TheVariants.{At, Nothing}
 use Rattle.std.specs.Prelude.{if◌then◌else◌}
 use Rattle.spec.specs.Base.{every}
 use Rattle.spec.specs.Text.{until_zero, is_utf8}
@@ -21,12 +26,8 @@ use Rattle.spec.specs.Layout.{layout_of}
 use Rattle.spec.specs.Check.{fields_good}
 use Rattle.spec.proofs.Store.{sets_append}
 use Rattle.text.specs.Zero.{zero_after, zero_in}
-use Rattle.records.specs.declared.Offset.TheVariants as offset
-use Rattle.records.specs.declared.Tagging.TheVariants as tagging
 use Rattle.records.specs.Good.{numbers_at}
-use Rattle.records.specs.Steps.{fields_hold, offset_after, is_string, tag_by, tag_after, word_if, at_most}
-use Rattle.spec.specs.Layout.{Cell}
-use Rattle.std.specs.Prelude.{Err, Ok}
+use Rattle.records.specs.Steps.{fields_hold, offset_after, is_string, tag_by, tag_after, is_outside, word_if, at_most}
 
 -- the words of the record at a place
 pub fields_drop : (ws : List ℕ) (at : ℕ)
@@ -64,48 +65,55 @@ record_put l l₁ at f n e =
 module _ (at : ℕ) (f : Fields) where
   -- the three tests decide
   offset_by : (t u v : Bool) → fields_hold f ≡ t → eqb f.offset at ≡ u → leb f.words 65535 ≡ v
-      → (if t && u && v then offset.Got (at + 4 * f.words) else offset.Refused) ≡ offset_after at f
+      → (if t && u && v then Some (at + 4 * f.words) else None) ≡ offset_after at f
   unfolding offset_after fields_good fields_hold
   offset_by t u v d e g =
-      ap (λ (x : Bool). if x && u && v then offset.Got (at + 4 * f.words) else offset.Refused) (sym d)
-      ∙ ap (λ (x : Bool). if fields_hold f && x && v then offset.Got (at + 4 * f.words) else offset.Refused) (sym e)
-      ∙ ap (λ (x : Bool). if fields_hold f && eqb f.offset at && x then offset.Got (at + 4 * f.words) else offset.Refused) (sym g)
+      ap (λ (x : Bool). if x && u && v then Some (at + 4 * f.words) else None) (sym d)
+      ∙ ap (λ (x : Bool). if fields_hold f && x && v then Some (at + 4 * f.words) else None) (sym e)
+      ∙ ap (λ (x : Bool). if fields_hold f && eqb f.offset at && x then Some (at + 4 * f.words) else None) (sym g)
 
   -- unknown presence bits, or a result field without its bit
-  pub offset_fields : fields_hold f ≡ false → offset.Refused ≡ offset_after at f
+  pub offset_fields : fields_hold f ≡ false → None ≡ offset_after at f
   offset_fields d = offset_by false (eqb f.offset at) (leb f.words 65535) d refl refl
 
   -- an offset that does not follow on
-  pub offset_other : fields_hold f ≡ true → (f.offset ≡ at → ⊥) → offset.Refused ≡ offset_after at f
+  pub offset_other : fields_hold f ≡ true → (f.offset ≡ at → ⊥) → None ≡ offset_after at f
   offset_other d n = offset_by true false (leb f.words 65535) d (ne_eqb f.offset at n) refl
 
   -- a word count over 65,535
-  pub offset_long : fields_hold f ≡ true → f.offset ≡ at → 65535 < f.words → offset.Refused ≡ offset_after at f
+  pub offset_long : fields_hold f ≡ true → f.offset ≡ at → 65535 < f.words → None ≡ offset_after at f
   offset_long d e h = offset_by true true false d (eq-eqb f.offset at e) (lt-leb f.words 65535 h)
 
   -- the offset after the record
-  pub offset_next : fields_hold f ≡ true → f.offset ≡ at → f.words ≤ 65535 → offset.Got (at + 4 * f.words) ≡ offset_after at f
+  pub offset_next : fields_hold f ≡ true → f.offset ≡ at → f.words ≤ 65535 → Some (at + 4 * f.words) ≡ offset_after at f
   offset_next d e h = offset_by true true true d (eq-eqb f.offset at e) (le-leb f.words 65535 h)
 
 -- TAGS
 
 module _ (s : State) (f : Fields) (cell : Cell) (p : cell ≡ layout_of (f.head % 65536) s) where
   -- a cell that refuses
-  pub tag_refused : (n : ℕ) → cell ≡ Err n → tagging.Refused ≡ tag_after s f
+  pub tag_refused : (n : ℕ) → cell ≡ Refuses n → None ≡ tag_after s f
   unfolding tag_after tag_by
   tag_refused n q = ap (tag_by f.tag) (sym q ∙ p)
 
   -- another tag than the cell's
-  pub tag_other : (t : ℕ) (x : State) → cell ≡ Ok (t, x) → (f.tag ≡ t → ⊥) → tagging.Refused ≡ tag_after s f
+  pub tag_other : (t : ℕ) (x : State) → cell ≡ Tagged t x → (f.tag ≡ t → ⊥) → None ≡ tag_after s f
   unfolding tag_after tag_by
   tag_other t x q n =
-      ap (λ (b : Bool). if b then tagging.Got x else tagging.Refused) (sym (ne_eqb f.tag t n)) ∙ ap (tag_by f.tag) (sym q ∙ p)
+      ap (λ (b : Bool). if b then Some x else None) (sym (ne_eqb f.tag t n)) ∙ ap (tag_by f.tag) (sym q ∙ p)
 
   -- the cell's tag
-  pub tag_right : (t : ℕ) (x : State) → cell ≡ Ok (t, x) → f.tag ≡ t → tagging.Got x ≡ tag_after s f
+  pub tag_right : (t : ℕ) (x : State) → cell ≡ Tagged t x → f.tag ≡ t → Some x ≡ tag_after s f
   unfolding tag_after tag_by
   tag_right t x q e =
-      ap (λ (b : Bool). if b then tagging.Got x else tagging.Refused) (sym (eq-eqb f.tag t e)) ∙ ap (tag_by f.tag) (sym q ∙ p)
+      ap (λ (b : Bool). if b then Some x else None) (sym (eq-eqb f.tag t e)) ∙ ap (tag_by f.tag) (sym q ∙ p)
+
+-- a state of a function is not outside functions
+pub not_outside : (s : State) → (s ≡ Outside → ⊥) → false ≡ is_outside s
+unfolding is_outside
+not_outside Outside n = absurd (n refl)
+not_outside Function n = refl
+not_outside Block n = refl
 
 -- STRINGS
 
@@ -129,19 +137,19 @@ zero_free [] = refl
 zero_free (b ∷ s) = free_cons b s (eqb b 0) (until_zero s) refl refl (zero_free s)
 
 -- the answer of the search decides
-free_by : (o : Option (List ℕ)) (x : Option ℕ) → x ≡ zero_after o → (t : Bool) → is_none o ≡ t → ((i : ℕ) → x ≡ Some i → t ≡ false) × (x ≡ None → t ≡ true)
+free_by : (o : Option (List ℕ)) (x : Found) → x ≡ zero_after o → (t : Bool) → is_none o ≡ t → ((i : ℕ) → x ≡ At i → t ≡ false) × (x ≡ Nothing → t ≡ true)
 unfolding zero_after is_none
 free_by None x e t f = (λ i g. let z : ◌≡◌ {A = ℕ} 0 1 = cc in absurd (omega arith), λ g. sym f)
 free_by (Some bs) x e t f = (λ i g. sym f, λ g. let z : ◌≡◌ {A = ℕ} 0 1 = cc in absurd (omega arith))
 
-module _ (s : List ℕ) (x : Option ℕ) (e : x ≡ zero_in s) where
+module _ (s : List ℕ) (x : Found) (e : x ≡ zero_in s) where
   -- a zero byte
-  pub string_zero : (i : ℕ) → x ≡ Some i → false ≡ is_string s
+  pub string_zero : (i : ℕ) → x ≡ At i → false ≡ is_string s
   unfolding is_string zero_in
   string_zero i q = ap (λ (t : Bool). t && is_utf8 s) (sym (zero_free s ∙ (free_by (until_zero s) x e _ refl).0 i q))
 
   -- none
-  pub string_utf8 : x ≡ None → (t : Bool) → t ≡ is_utf8 s → t ≡ is_string s
+  pub string_utf8 : x ≡ Nothing → (t : Bool) → t ≡ is_utf8 s → t ≡ is_string s
   unfolding is_string zero_in
   string_utf8 q t g = g ∙ ap (λ (t : Bool). t && is_utf8 s) (sym (zero_free s ∙ (free_by (until_zero s) x e _ refl).1 q))
 
@@ -152,6 +160,16 @@ pub word_few : (t : Bool) → word_if t ≤ 1
 unfolding word_if
 word_few true = omega arith
 word_few false = omega arith
+
+-- the lower of two numbers, by whether it is the first
+lower_by : (a b : ℕ) (t : Bool) → leb a b ≡ t → min a b ≡ (if t then a else b)
+lower_by a b true e = omega (arith, leb-true a b e)
+lower_by a b false e = omega (arith, leb-false a b e)
+
+-- it is that of the definition
+pub min_is : (a b : ℕ) → min a b ≡ at_most a b
+unfolding at_most
+min_is a b = lower_by a b (leb a b) refl
 
 -- by whether the front is shorter
 most_by : (n : ℕ) (l : List ℕ) (t : Bool) → leb n (length l) ≡ t → take (if t then n else length l) l ≡ take n l
@@ -172,23 +190,3 @@ few_by n m false e = omega arith
 pub most_length : (k n : ℕ) (l : List ℕ) → k ≡ at_most n (length l) → k ≡ length (take k l)
 unfolding at_most
 most_length k n l e = let h : at_most n (length l) ≤ length l = few_by n (length l) (leb n (length l)) refl in sym (length-take-le k l (omega (arith, e, h)))
-
--- what is below the lower number
-below_by : (a b i : ℕ) (t : Bool) → leb a b ≡ t → i < (if t then a else b) → (i < a) × (i < b)
-below_by a b i true e h = (h, omega (arith, leb-true a b e))
-below_by a b i false e h = (omega (arith, leb-false a b e), h)
-
--- what is not, but is below the first
-above_by : (a b i : ℕ) (t : Bool) → leb a b ≡ t → (if t then a else b) ≤ i → i < a → b ≤ i
-above_by a b i true e h g = absurd (omega arith)
-above_by a b i false e h g = h
-
--- below the lower of two numbers
-pub most_below : (k a b i : ℕ) → k ≡ at_most a b → i < k → (i < a) × (i < b)
-unfolding at_most
-most_below k a b i e h = below_by a b i (leb a b) refl (subst (λ (n : ℕ). i < n) e h)
-
--- not below it, but below the first
-pub most_above : (k a b i : ℕ) → k ≡ at_most a b → k ≤ i → i < a → b ≤ i
-unfolding at_most
-most_above k a b i e h g = above_by a b i (leb a b) refl (subst (λ (n : ℕ). n ≤ i) e h) g

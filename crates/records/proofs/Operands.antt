@@ -21,9 +21,8 @@ use Rattle.spec.specs.Records.{Operand, narrow, wide, text, Placed, operand_size
 use Rattle.spec.specs.Check.{Left, take_operand, take_operands, bits_in, field_in, placed_of, words_good, take_record}
 use Rattle.operand.specs.Parts.{is_two}
 use Rattle.records.specs.declared.Passed.{Passed}
-use Rattle.records.specs.declared.Passed.TheVariants as passed
 use Rattle.text.specs.AsciiText.{is_ascii_text}
-use Rattle.records.specs.Steps.{left_at, is_string, text_good, text_passed, passed_by, passed_one, passed_all, word_if, result_words, operands_after}
+use Rattle.records.specs.Steps.{got, left_at, is_string, text_good, text_passed, passed_by, passed_one, passed_all, word_if, result_words, operands_after}
 use Rattle.records.specs.Good.{Whole, operand_by, operand_at}
 use Rattle.spec.proofs.Choice.{left, right, cases, either, IfSome, if_then}
 use Rattle.spec.proofs.Faultless.{Said, record_said}
@@ -222,15 +221,12 @@ module _ {A : Type 0} (size : A → ℕ) where
   -- where something was passed
   passes : (log strings : List ℕ) (l : Left) (P : A × Left → Type 0)
       → ((x : A × Left) → P x → Reached log strings l (size x.0) x.1) → (y : Option (A × Left)) → IfSome P y
-      → (x : Passed) (a' b' w : ℕ) → x ≡ passed_by size y → x ≡ passed.Got a' b' w → Passes size log strings l a' b' w y
+      → (x : Option Passed) (p : Passed) → x ≡ passed_by size y → x ≡ Some p → Passes size log strings l p.log p.strings p.words y
   unfolding passed_by
-  passes log strings l P reach None p x a' b' w e f = let z : ◌≡◌ {A = ℕ} 0 1 = cc in absurd (omega arith)
-  passes log strings l P reach (Some z) p x a' b' w e f =
-      let r = reach z p in
-      let ea : a' ≡ z.1.log_at = cc in
-      let eb : b' ≡ z.1.strings_at = cc in
-      let ew : w ≡ size z.0 = cc in
-      rw (ea, eb, ew)
+  passes log strings l P reach None h x p e f = let z : ◌≡◌ {A = ℕ} 0 1 = cc in absurd (omega arith)
+  passes log strings l P reach (Some z) h x p e f =
+      let r = reach z h in
+      rw (same_Some _ _ (sym f ∙ e))
       (record {
         value = z.0;
         is = ap (λ (m : Left). Some (z.0, m)) r.inside.left;
@@ -241,13 +237,13 @@ module _ {A : Type 0} (size : A → ℕ) where
       })
 
   -- where nothing was
-  pub passes_none : (y : Option (A × Left)) (x : Passed) → x ≡ passed_by size y → x ≡ passed.Refused → y ≡ None
+  pub passes_none : (y : Option (A × Left)) (x : Option Passed) → x ≡ passed_by size y → x ≡ None → y ≡ None
   unfolding passed_by
   passes_none None x e f = refl
   passes_none (Some z) x e f = let z : ◌≡◌ {A = ℕ} 0 1 = cc in absurd (omega arith)
 
   -- where nothing can be
-  not_passed : (P : A × Left → Type 0) (y : Option (A × Left)) → IfSome P y → ((x : A × Left) → P x → ⊥) → passed.Refused ≡ passed_by size y
+  not_passed : (P : A × Left → Type 0) (y : Option (A × Left)) → IfSome P y → ((x : A × Left) → P x → ⊥) → None ≡ passed_by size y
   unfolding passed_by
   not_passed P None p n = refl
   not_passed P (Some x) p n = absurd (n x p)
@@ -271,25 +267,25 @@ known k h g = rw (le-leb 1 k h, le-leb k 45 g)
 -- a string of the log, by its tests
 module _ (strings : List ℕ) (a b start n : ℕ) where
   -- it starts elsewhere
-  pub string_elsewhere : (start ≡ b → ⊥) → passed.Refused ≡ text_passed strings a b start n
+  pub string_elsewhere : (start ≡ b → ⊥) → None ≡ text_passed strings a b start n
   unfolding text_passed text_good
   string_elsewhere h = rw (ne_eqb start b h)
 
   -- it goes past the store
-  pub string_outside : start ≡ b → length strings - b < n → passed.Refused ≡ text_passed strings a b start n
+  pub string_outside : start ≡ b → length strings - b < n → None ≡ text_passed strings a b start n
   unfolding text_passed text_good
   string_outside h g = rw (eq-eqb start b h, has_no n (drop b strings) (omega (arith, length-drop b strings)))
 
   -- its bytes decide
   pub string_bytes : start ≡ b → n ≤ length strings - b → (v x : Bool) → x ≡ is_string (take (b + n - b) (drop b strings)) → x ≡ v
-      → (if v then passed.Got (a + 9) (b + n) (text_words n) else passed.Refused) ≡ text_passed strings a b start n
+      → (if v then Some (got (a + 9) (b + n) (text_words n)) else None) ≡ text_passed strings a b start n
   unfolding text_passed text_good
   string_bytes h g v x e f =
       let q : b + n - b ≡ n = omega arith in
       rw (eq-eqb start b h, has_yes n (drop b strings) (omega (arith, length-drop b strings)), sym (rw q at e), f)
 
   -- it is a part of ASCII text
-  pub string_ascii : start ≡ b → n ≤ length strings - b → is_ascii_text strings ≡ true → passed.Got (a + 9) (b + n) (text_words n) ≡ text_passed strings a b start n
+  pub string_ascii : start ≡ b → n ≤ length strings - b → is_ascii_text strings ≡ true → Some (got (a + 9) (b + n) (text_words n)) ≡ text_passed strings a b start n
   unfolding text_passed text_good
   string_ascii h g p =
       rw (eq-eqb start b h, has_yes n (drop b strings) (omega (arith, length-drop b strings)), part_string strings n b p)
@@ -298,35 +294,35 @@ module _ (strings : List ℕ) (a b start n : ℕ) where
 module _ (log strings : List ℕ) (a b : ℕ) (in_log : a ≤ length log) (in_strings : b ≤ length strings) where
   -- one that cannot be
   no_operand : ((x : Operand × Left) → Taken log strings (left_at log strings a b) x → ⊥)
-      → passed.Refused ≡ passed_one (take_operand (left_at log strings a b))
+      → None ≡ passed_one (take_operand (left_at log strings a b))
   unfolding passed_one
   no_operand = not_passed operand_size (Taken log strings (left_at log strings a b)) _ (here_taken log strings a b in_log in_strings)
 
   -- fewer than five bytes
-  pub operand_few : length log - a < 5 → passed.Refused ≡ passed_one (take_operand (left_at log strings a b))
+  pub operand_few : length log - a < 5 → None ≡ passed_one (take_operand (left_at log strings a b))
   unfolding left_at
   operand_few h = no_operand (λ x t. omega (arith, t.whole.five))
 
   -- an unknown kind
-  pub operand_unknown : is_logged (get_or log a 0) ≡ false → passed.Refused ≡ passed_one (take_operand (left_at log strings a b))
+  pub operand_unknown : is_logged (get_or log a 0) ≡ false → None ≡ passed_one (take_operand (left_at log strings a b))
   unfolding left_at
   operand_unknown h = no_operand (λ x t. clash _ t.whole.known h)
 
   -- one word
   pub operand_one : 5 ≤ length log - a → is_logged (get_or log a 0) ≡ true → is_two (get_or log a 0) ≡ false
-      → passed.Got (a + 5) b 1 ≡ passed_one (take_operand (left_at log strings a b))
+      → Some (got (a + 5) b 1) ≡ passed_one (take_operand (left_at log strings a b))
   unfolding passed_one passed_by left_at operand_size
   operand_one h k t = rw (operand_by_lem log strings a b, has_yes 5 (drop a log) (omega (arith, length-drop a log)), k, t)
 
   -- fewer than nine bytes for two words
   pub operand_cut : is_two (get_or log a 0) ≡ true → length log - a < 9
-      → passed.Refused ≡ passed_one (take_operand (left_at log strings a b))
+      → None ≡ passed_one (take_operand (left_at log strings a b))
   unfolding left_at
   operand_cut t h = no_operand (λ x u. omega (arith, u.whole.nine t))
 
   -- a literal of two words
   pub operand_two : 9 ≤ length log - a → is_logged (get_or log a 0) ≡ true → is_two (get_or log a 0) ≡ true
-      → (get_or log a 0 ≡ 40 → ⊥) → passed.Got (a + 9) b 2 ≡ passed_one (take_operand (left_at log strings a b))
+      → (get_or log a 0 ≡ 40 → ⊥) → Some (got (a + 9) b 2) ≡ passed_one (take_operand (left_at log strings a b))
   unfolding passed_one passed_by left_at operand_size
   operand_two h k t n =
       rw (
@@ -340,7 +336,7 @@ module _ (log strings : List ℕ) (a b : ℕ) (in_log : a ≤ length log) (in_st
   -- a string
   pub operand_text_lem : 9 ≤ length log - a → get_or log a 0 ≡ 40
       → (start n : ℕ) → start ≡ four_at (a + 1) log → n ≡ four_at (a + 5) log
-      → (r : Passed) → r ≡ text_passed strings a b start n → r ≡ passed_one (take_operand (left_at log strings a b))
+      → (r : Option Passed) → r ≡ text_passed strings a b start n → r ≡ passed_one (take_operand (left_at log strings a b))
   unfolding passed_one passed_by left_at operand_size text_passed
   operand_text_lem h k start n d e r f =
       rw (
@@ -367,21 +363,15 @@ pub record Passing (log strings : List ℕ) (count a₀ b₀ a b words done : �
   pub in_strings : b ≤ length strings
   pub few : 4 * words ≤ a + b
 
--- before the first
-pub pass_starts : (log strings : List ℕ) (count a b : ℕ) → a ≤ length log → b ≤ length strings → Passing log strings count a b a b 0 0
-pass_starts log strings count a b h g =
-    let q : count ≡ count - 0 = omega arith in
-    record { whole = ap (λ (n : ℕ). passed_all 0 (take_operands n (left_at log strings a b))) q; in_log = h; in_strings = g; few = omega arith }
-
 -- one operand before others
 passed_add : (w : ℕ) (o : Operand) (y : Option (List Operand × Left))
     → passed_all w (and_then y (λ xs. Some (o ∷ xs.0, xs.1))) ≡ passed_all (w + operand_size o) y
 unfolding passed_all passed_by operands_size
 passed_add w o None = refl
-passed_add w o (Some x) = ap (passed.Got x.1.log_at x.1.strings_at) (omega arith)
+passed_add w o (Some x) = ap (λ (k : ℕ). Some (got x.1.log_at x.1.strings_at k)) (omega arith)
 
 module _ {log strings : List ℕ} {count a₀ b₀ a b words done : ℕ} (r : Passing log strings count a₀ b₀ a b words done) where
-  module _ (h : done < count) (x : Passed) (e : x ≡ passed_one (take_operand (left_at log strings a b))) where
+  module _ (h : done < count) (x : Option Passed) (e : x ≡ passed_one (take_operand (left_at log strings a b))) where
     -- the operand at the places decides
     pass_here : (y : Option (Operand × Left)) → take_operand (left_at log strings a b) ≡ y
         → passed_all 0 (take_operands count (left_at log strings a₀ b₀))
@@ -392,36 +382,36 @@ module _ {log strings : List ℕ} {count a₀ b₀ a b words done : ℕ} (r : Pa
         rw (← f) (r.whole ∙ ap (λ (n : ℕ). passed_all words (take_operands n (left_at log strings a b))) q)
 
     -- past a good operand
-    pub pass_goes_on : (a' b' w : ℕ) → x ≡ passed.Got a' b' w → Passing log strings count a₀ b₀ a' b' (words + w) (done + 1)
+    pub pass_goes_on : (p : Passed) → x ≡ Some p → Passing log strings count a₀ b₀ p.log p.strings (words + p.words) (done + 1)
     unfolding passed_one left_at
-    pass_goes_on a' b' w f =
-        let p =
+    pass_goes_on p f =
+        let t =
         passes operand_size log strings (left_at log strings a b) (Taken log strings (left_at log strings a b)) (λ z t. t.reached) _
-        (here_taken log strings a b r.in_log r.in_strings) x a' b' w e f in
+        (here_taken log strings a b r.in_log r.in_strings) x p e f in
         record {
           whole =
-              pass_here _ p.is ∙ passed_add words p.value (take_operands (count - (done + 1)) (left_at log strings a' b'))
-              ∙ ap (λ (k : ℕ). passed_all (words + k) (take_operands (count - (done + 1)) (left_at log strings a' b'))) p.words;
-          in_log = p.in_log;
-          in_strings = p.in_strings;
-          few = omega (arith, p.few, r.few);
+              pass_here _ t.is ∙ passed_add words t.value (take_operands (count - (done + 1)) (left_at log strings p.log p.strings))
+              ∙ ap (λ (k : ℕ). passed_all (words + k) (take_operands (count - (done + 1)) (left_at log strings p.log p.strings))) t.words;
+          in_log = t.in_log;
+          in_strings = t.in_strings;
+          few = omega (arith, t.few, r.few);
         }
 
     -- the room for its words
-    pub pass_room : (a' b' w : ℕ) → x ≡ passed.Got a' b' w → 4 * (words + w) ≤ length log + length strings
-    pass_room a' b' w f = let p = pass_goes_on a' b' w f in omega (arith, p.few, p.in_log, p.in_strings)
+    pub pass_room : (p : Passed) → x ≡ Some p → 4 * (words + p.words) ≤ length log + length strings
+    pass_room p f = let t = pass_goes_on p f in omega (arith, t.few, t.in_log, t.in_strings)
 
     -- at one that is not good
-    pub pass_fails : x ≡ passed.Refused → passed.Refused ≡ passed_all 0 (take_operands count (left_at log strings a₀ b₀))
+    pub pass_fails : x ≡ None → None ≡ passed_all 0 (take_operands count (left_at log strings a₀ b₀))
     unfolding passed_all passed_by passed_one
     pass_fails f = sym (pass_here None (passes_none operand_size _ x e f))
 
   -- at the end
-  pub pass_ends : count ≤ done → passed.Got a b words ≡ passed_all 0 (take_operands count (left_at log strings a₀ b₀))
+  pub pass_ends : count ≤ done → Some (got a b words) ≡ passed_all 0 (take_operands count (left_at log strings a₀ b₀))
   unfolding passed_all passed_by take_operands operands_size left_at
   pass_ends h =
       let q : count - done ≡ 0 = omega arith in
-      sym (r.whole ∙ ap (λ (n : ℕ). passed_all words (take_operands n (left_at log strings a b))) q ∙ ap (passed.Got a b) (add-zero words))
+      sym (r.whole ∙ ap (λ (n : ℕ). passed_all words (take_operands n (left_at log strings a b))) q ∙ ap (λ (k : ℕ). Some (got a b k)) (add-zero words))
 
 -- A RECORD'S OPERANDS
 
@@ -450,40 +440,40 @@ results_few f = omega (arith, word_few (eqb (bits_in f % 2) 1), word_few (leb 2 
 
 module _ (log strings : List ℕ) (a b : ℕ) (f : Fields) where
   -- a record that cannot be
-  no_record : ((x : Placed × Left) → Said f (left_at log strings a b) x → ⊥) → passed.Refused ≡ operands_after f (left_at log strings a b)
+  no_record : ((x : Placed × Left) → Said f (left_at log strings a b) x → ⊥) → None ≡ operands_after f (left_at log strings a b)
   unfolding operands_after
   no_record = not_passed _ (Said f (left_at log strings a b)) _ (record_said f (left_at log strings a b))
 
   -- its operands start elsewhere
-  pub after_elsewhere : (f.start ≡ a → ⊥) → passed.Refused ≡ operands_after f (left_at log strings a b)
+  pub after_elsewhere : (f.start ≡ a → ⊥) → None ≡ operands_after f (left_at log strings a b)
   unfolding left_at
   after_elsewhere h = no_record (λ x s. h s.start)
 
-  module _ (x : Passed) (e : x ≡ passed_all 0 (take_operands f.count (left_at log strings a b))) where
+  module _ (x : Option Passed) (e : x ≡ passed_all 0 (take_operands f.count (left_at log strings a b))) where
     -- one of them is bad
-    pub after_bad : x ≡ passed.Refused → passed.Refused ≡ operands_after f (left_at log strings a b)
+    pub after_bad : x ≡ None → None ≡ operands_after f (left_at log strings a b)
     unfolding passed_all
     after_bad g = no_record (λ y s. none-some _ (sym (passes_none _ _ x e g) ∙ s.taken))
 
-    module _ (in_log : a ≤ length log) (in_strings : b ≤ length strings) (a' b' w : ℕ) (g : x ≡ passed.Got a' b' w) where
+    module _ (in_log : a ≤ length log) (in_strings : b ≤ length strings) (p : Passed) (g : x ≡ Some p) where
       -- they were passed
-      all_pass : Passes (λ os. 0 + operands_size os) log strings (left_at log strings a b) a' b' w (take_operands f.count (left_at log strings a b))
+      all_pass : Passes (λ os. 0 + operands_size os) log strings (left_at log strings a b) p.log p.strings p.words (take_operands f.count (left_at log strings a b))
       unfolding passed_all
       all_pass =
           passes _ log strings (left_at log strings a b) (λ y. Reached log strings (left_at log strings a b) (operands_size y.0) y.1)
-          (λ y r. rw zero-add r) _ (operands_reach log strings f.count _ (left_inside log strings a b in_log in_strings)) x a' b' w e g
+          (λ y r. rw zero-add r) _ (operands_reach log strings f.count _ (left_inside log strings a b in_log in_strings)) x p e g
 
       -- their words are few enough
-      pub after_few : 4 * w ≤ length log + length strings
+      pub after_few : 4 * p.words ≤ length log + length strings
       after_few = omega (arith, all_pass.few, all_pass.in_log, all_pass.in_strings)
 
       -- the word count is right
-      pub after_right : f.start ≡ a → (r : ℕ) → r ≡ result_words f → f.words ≡ 1 + r + w
-          → passed.Got a' b' w ≡ operands_after f (left_at log strings a b)
+      pub after_right : f.start ≡ a → (r : ℕ) → r ≡ result_words f → f.words ≡ 1 + r + p.words
+          → Some p ≡ operands_after f (left_at log strings a b)
       unfolding operands_after take_record passed_by left_at placed_of
       after_right h r q k =
           let os = all_pass.value in
-          let size : operands_size os ≡ w = omega (arith, all_pass.words) in
+          let size : operands_size os ≡ p.words = omega (arith, all_pass.words) in
           rw (
             all_pass.is,
             eq-eqb f.start a h,
@@ -493,7 +483,7 @@ module _ (log strings : List ℕ) (a b : ℕ) (f : Fields) where
           )
 
       -- it is wrong
-      pub after_wrong : (r : ℕ) → r ≡ result_words f → (f.words ≡ 1 + r + w → ⊥) → passed.Refused ≡ operands_after f (left_at log strings a b)
+      pub after_wrong : (r : ℕ) → r ≡ result_words f → (f.words ≡ 1 + r + p.words → ⊥) → None ≡ operands_after f (left_at log strings a b)
       after_wrong r q k =
           no_record
           (λ y s. let same = same_Some _ _ (sym s.taken ∙ all_pass.is) in
@@ -501,9 +491,9 @@ module _ (log strings : List ℕ) (a b : ℕ) (f : Fields) where
           k (omega (arith, words_told f s.operands s.words, size, all_pass.words)))
 
   -- they were passed with their record
-  pub record_passes : a ≤ length log → b ≤ length strings → (x : Passed) (a' b' w : ℕ) → x ≡ operands_after f (left_at log strings a b)
-      → x ≡ passed.Got a' b' w
-      → Passes (λ p. operands_size p.instr.operands) log strings (left_at log strings a b) a' b' w (take_record f (left_at log strings a b))
+  pub record_passes : a ≤ length log → b ≤ length strings → (x : Option Passed) (p : Passed) → x ≡ operands_after f (left_at log strings a b)
+      → x ≡ Some p
+      → Passes (λ y. operands_size y.instr.operands) log strings (left_at log strings a b) p.log p.strings p.words (take_record f (left_at log strings a b))
   unfolding operands_after placed_of
   record_passes h g =
       passes _ log strings (left_at log strings a b) (Said f (left_at log strings a b))

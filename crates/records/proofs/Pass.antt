@@ -12,24 +12,21 @@ use lib.ListN.{length, take, drop, length-drop}
 use lib.Seq.{drop-drop}
 use Rattle.spec.specs.declared.State.{State}
 use Rattle.spec.specs.declared.State.TheVariants.{Outside}
+use Rattle.spec.specs.declared.Cell.{Cell}
+use Rattle.spec.specs.declared.Cell.TheVariants.{Tagged, Refuses}
 use Rattle.spec.specs.declared.Fields.{Fields}
 use Rattle.std.specs.Prelude.{if◌then◌else◌}
 use Rattle.spec.specs.Records.{Placed, field_size, fields_at}
 use Rattle.spec.specs.Layout.{layout_of, end_number}
 use Rattle.spec.specs.Check.{lower, records_of, missing, fields_good, fields_fault, Left, take_record, on_record, scan_from, on_tag, tags_fault, fault_of}
 use Rattle.records.specs.declared.Asked.{Asked}
-use Rattle.records.specs.declared.Offset.{Offset}
-use Rattle.records.specs.declared.Offset.TheVariants as offset
+use Rattle.records.specs.declared.Checked.{Checked}
+use Rattle.records.specs.declared.Checked.TheVariants.{Bad}
 use Rattle.records.specs.declared.Passed.{Passed}
-use Rattle.records.specs.declared.Passed.TheVariants as passed
-use Rattle.records.specs.declared.Tagging.{Tagging}
-use Rattle.records.specs.declared.Tagging.TheVariants as tagging
-use Rattle.records.specs.Steps.{given, checked_is, end_answer, at_most, left_at, offset_after, operands_after, tag_by, tag_after, is_outside, missing_from, faults_from, fault_in, is_free}
+use Rattle.records.specs.Steps.{given, checked_is, end_answer, at_most, left_at, offset_after, operands_after, tag_by, tag_after, is_outside, missing_from, faults_from, fault_in}
 use Rattle.records.proofs.Fields.{take_most}
 use Rattle.records.proofs.Operands.{has_yes, has_no, passes_none, record_passes}
 use Rattle.records.proofs.Lowest.{lowest_1, lowest_2, lowest_3, lowest_4, both_ends, missing_late, fields_late, scan_late, tags_late}
-use Rattle.spec.specs.Layout.{Cell}
-use Rattle.std.specs.Prelude.{Err, Ok}
 
 -- THE RECORDS
 
@@ -85,25 +82,25 @@ missing_here i n m e =
     ∙ ap Some (zero-add i)
 
 -- fields and offset
-offset_told : (i at n : ℕ) (fs : List Fields) (t : Bool) (x : Offset) → x ≡ (if t then offset.Got n else offset.Refused)
-    → (x ≡ offset.Got at → (if t then fields_fault (suc i) n fs else Some i) ≡ fields_fault (suc i) at fs)
-    × (x ≡ offset.Refused → (if t then fields_fault (suc i) n fs else Some i) ≡ Some i)
+offset_told : (i at n : ℕ) (fs : List Fields) (t : Bool) (x : Option ℕ) → x ≡ (if t then Some n else None)
+    → (x ≡ Some at → (if t then fields_fault (suc i) n fs else Some i) ≡ fields_fault (suc i) at fs)
+    × (x ≡ None → (if t then fields_fault (suc i) n fs else Some i) ≡ Some i)
 offset_told i at n fs true x e =
     (λ g. let q : n ≡ at = cc in ap (λ (k : ℕ). fields_fault (suc i) k fs) q, λ g. let z : ◌≡◌ {A = ℕ} 0 1 = cc in absurd (omega arith))
 offset_told i at n fs false x e = (λ g. let z : ◌≡◌ {A = ℕ} 0 1 = cc in absurd (omega arith), λ g. refl)
 
 -- tags
-tag_if : (i : ℕ) (s : State) (more : State → Option ℕ) (t : Bool) (u : State) (x : Tagging) → x ≡ (if t then tagging.Got u else tagging.Refused)
-    → (x ≡ tagging.Got s → (if t then more u else Some i) ≡ more s) × (x ≡ tagging.Refused → (if t then more u else Some i) ≡ Some i)
+tag_if : (i : ℕ) (s : State) (more : State → Option ℕ) (t : Bool) (u : State) (x : Option State) → x ≡ (if t then Some u else None)
+    → (x ≡ Some s → (if t then more u else Some i) ≡ more s) × (x ≡ None → (if t then more u else Some i) ≡ Some i)
 tag_if i s more true u x e = (λ g. let q : u ≡ s = cc in ap more q, λ g. let z : ◌≡◌ {A = ℕ} 0 1 = cc in absurd (omega arith))
 tag_if i s more false u x e = (λ g. let z : ◌≡◌ {A = ℕ} 0 1 = cc in absurd (omega arith), λ g. refl)
 
 -- by the cell of the table
-tag_told : (i tag : ℕ) (s : State) (more : State → Option ℕ) (c : Cell) (x : Tagging) → x ≡ tag_by tag c
-    → (x ≡ tagging.Got s → on_tag i tag c more ≡ more s) × (x ≡ tagging.Refused → on_tag i tag c more ≡ Some i)
+tag_told : (i tag : ℕ) (s : State) (more : State → Option ℕ) (c : Cell) (x : Option State) → x ≡ tag_by tag c
+    → (x ≡ Some s → on_tag i tag c more ≡ more s) × (x ≡ None → on_tag i tag c more ≡ Some i)
 unfolding tag_by
-tag_told i tag s more (Ok (t, u)) x e = tag_if i s more (eqb tag t) u x e
-tag_told i tag s more (Err n) x e = (λ g. let z : ◌≡◌ {A = ℕ} 0 1 = cc in absurd (omega arith), λ g. refl)
+tag_told i tag s more (Tagged t u) x e = tag_if i s more (eqb tag t) u x e
+tag_told i tag s more (Refuses n) x e = (λ g. let z : ◌≡◌ {A = ℕ} 0 1 = cc in absurd (omega arith), λ g. refl)
 
 -- THE PASS
 
@@ -131,14 +128,14 @@ module _ (q : Asked) (i n at : ℕ) (l : Left) (s : State) (fs : List Fields) wh
 
 module _ (q : Asked) (log strings : List ℕ) (i at a b : ℕ) (s : State) (f : Fields) (fs : List Fields) (n : ℕ) where
   -- a record whose fields are bad
-  faults_fields : (x : Offset) → x ≡ offset_after at f → x ≡ offset.Refused
+  faults_fields : (x : Option ℕ) → x ≡ offset_after at f → x ≡ None
       → faults_from q i (suc n) at (left_at log strings a b) s (f ∷ fs) ≡ Some i
   unfolding offset_after fields_fault
   faults_fields x e g =
       by_fields q i (suc n) at (left_at log strings a b) s (f ∷ fs) ((offset_told i at (at + 4 * f.words) fs (fields_good at f) x e).1 g)
 
   -- one whose operands are bad
-  faults_operands : (x : Passed) → x ≡ operands_after f (left_at log strings a b) → x ≡ passed.Refused
+  faults_operands : (x : Option Passed) → x ≡ operands_after f (left_at log strings a b) → x ≡ None
       → faults_from q i (suc n) at (left_at log strings a b) s (f ∷ fs) ≡ Some i
   unfolding operands_after scan_from
   faults_operands x e g =
@@ -146,7 +143,7 @@ module _ (q : Asked) (log strings : List ℕ) (i at a b : ℕ) (s : State) (f : 
       (ap (λ (o : Option (Placed × Left)). (on_record i o (λ m. scan_from q.log q.strings (suc i) m fs)).fault) (passes_none _ _ x e g))
 
   -- one whose tag is bad
-  faults_tag : (x : Tagging) → x ≡ tag_after s f → x ≡ tagging.Refused
+  faults_tag : (x : Option State) → x ≡ tag_after s f → x ≡ None
       → faults_from q i (suc n) at (left_at log strings a b) s (f ∷ fs) ≡ Some i
   unfolding tag_after tags_fault
   faults_tag x e g =
@@ -154,9 +151,9 @@ module _ (q : Asked) (log strings : List ℕ) (i at a b : ℕ) (s : State) (f : 
       ((tag_told i f.tag s (λ t. tags_fault q.whole (suc i) t fs) (layout_of (f.head % 65536) s) x e).1 g)
 
   -- one that is good in each fold
-  faults_next : (x : Offset) (at' : ℕ) → x ≡ offset_after at f → x ≡ offset.Got at'
+  faults_next : (x : Option ℕ) (at' : ℕ) → x ≡ offset_after at f → x ≡ Some at'
       → (y : Placed) (a' b' : ℕ) → take_record f (left_at log strings a b) ≡ Some (y, left_at log strings a' b')
-      → (z : Tagging) (s' : State) → z ≡ tag_after s f → z ≡ tagging.Got s'
+      → (z : Option State) (s' : State) → z ≡ tag_after s f → z ≡ Some s'
       → faults_from q i (suc n) at (left_at log strings a b) s (f ∷ fs) ≡ faults_from q (suc i) n at' (left_at log strings a' b') s' fs
   unfolding faults_from offset_after fields_fault scan_from tag_after tags_fault
   faults_next x at' ex gx y a' b' ey z s' ez gz =
@@ -188,23 +185,6 @@ unfolding checked_is end_answer
 end_is true i = refl
 end_is false i = ap Some (add-one i)
 
--- no fault is a good answer
-pub free_good : (t : Bool) (x : Option ℕ) → t ≡ is_free x → t ≡ true → checked_is None ≡ x
-unfolding checked_is is_free
-free_good t None e q = refl
-free_good t (Some i) e q = let z : ◌≡◌ {A = Bool} true false = sym q ∙ e in let k : ◌≡◌ {A = ℕ} 0 1 = cc in absurd (omega arith)
-
--- a bad answer is a fault
-pub bad_fault : (k : ℕ) (x : Option ℕ) → checked_is (Some k) ≡ x → false ≡ is_free x
-unfolding checked_is is_free
-bad_fault k x e = ap is_free e
-
--- one test decides
-free_by : (t : Bool) (i : ℕ) → t ≡ is_free (if t then None else Some (suc i))
-unfolding is_free
-free_by true i = refl
-free_by false i = refl
-
 -- before the first
 pub check_starts : (q : Asked) (ws log strings : List ℕ) → Checking q ws log strings 0 20 0 0 Outside
 unfolding fault_in
@@ -225,12 +205,12 @@ module _ {q : Asked} {ws log strings : List ℕ} {i at a b : ℕ} {s : State} (s
     (r : Checking q ws log strings i at a b s) where
   -- an answer that names the record
   bad_here : faults_from q (suc i) (q.count - i) at (left_at log strings a b) s (records_of q.size (q.count - i) (drop (q.size * i) ws)) ≡ Some (suc i)
-      → checked_is (Some (i + 1)) ≡ fault_in q ws log strings
+      → checked_is (Bad (i + 1)) ≡ fault_in q ws log strings
   unfolding checked_is
   bad_here e = ap Some (add-one i) ∙ sym (r.fault ∙ e)
 
   -- a record that does not lie wholly in the store
-  pub check_missing : i < q.count → length ws / q.size ≤ i → checked_is (Some (i + 1)) ≡ fault_in q ws log strings
+  pub check_missing : i < q.count → length ws / q.size ≤ i → checked_is (Bad (i + 1)) ≡ fault_in q ws log strings
   check_missing h g =
       let n : q.count - i ≡ suc (q.count - (i + 1)) = omega arith in
       bad_here
@@ -251,36 +231,36 @@ module _ {q : Asked} {ws log strings : List ℕ} {i at a b : ℕ} {s : State} (s
         ∙ ap (λ (n : ℕ). faults_from q (suc i) n at (left_at log strings a b) s (f ∷ records_of q.size (q.count - (i + 1)) (drop (q.size * (i + 1)) ws))) n
 
     -- its fields are bad
-    pub check_fields : (x : Offset) → x ≡ offset_after at f → x ≡ offset.Refused → checked_is (Some (i + 1)) ≡ fault_in q ws log strings
+    pub check_fields : (x : Option ℕ) → x ≡ offset_after at f → x ≡ None → checked_is (Bad (i + 1)) ≡ fault_in q ws log strings
     check_fields x c d = bad_here (first ∙ faults_fields q log strings (suc i) at a b s f _ (q.count - (i + 1)) x c d)
 
     -- its operands are bad
-    pub check_operands : (x : Passed) → x ≡ operands_after f (left_at log strings a b) → x ≡ passed.Refused
-        → checked_is (Some (i + 1)) ≡ fault_in q ws log strings
+    pub check_operands : (x : Option Passed) → x ≡ operands_after f (left_at log strings a b) → x ≡ None
+        → checked_is (Bad (i + 1)) ≡ fault_in q ws log strings
     check_operands x c d = bad_here (first ∙ faults_operands q log strings (suc i) at a b s f _ (q.count - (i + 1)) x c d)
 
     -- its tag is bad
-    pub check_tag : (x : Tagging) → x ≡ tag_after s f → x ≡ tagging.Refused → checked_is (Some (i + 1)) ≡ fault_in q ws log strings
+    pub check_tag : (x : Option State) → x ≡ tag_after s f → x ≡ None → checked_is (Bad (i + 1)) ≡ fault_in q ws log strings
     check_tag x c d = bad_here (first ∙ faults_tag q log strings (suc i) at a b s f _ (q.count - (i + 1)) x c d)
 
     -- it is good
-    pub check_goes_on : (x : Offset) (at' : ℕ) → x ≡ offset_after at f → x ≡ offset.Got at'
-        → (y : Passed) (a' b' w : ℕ) → y ≡ operands_after f (left_at log strings a b) → y ≡ passed.Got a' b' w
-        → (z : Tagging) (s' : State) → z ≡ tag_after s f → z ≡ tagging.Got s'
-        → Checking q ws log strings (i + 1) at' a' b' s'
-    check_goes_on x at' ex gx y a' b' w ey gy z s' ez gz =
+    pub check_goes_on : (x : Option ℕ) (at' : ℕ) → x ≡ offset_after at f → x ≡ Some at'
+        → (y : Option Passed) (p : Passed) → y ≡ operands_after f (left_at log strings a b) → y ≡ Some p
+        → (z : Option State) (s' : State) → z ≡ tag_after s f → z ≡ Some s'
+        → Checking q ws log strings (i + 1) at' p.log p.strings s'
+    check_goes_on x at' ex gx y p ey gy z s' ez gz =
         let k : suc i ≡ i + 1 = omega arith in
         let fs : List Fields = records_of q.size (q.count - (i + 1)) (drop (q.size * (i + 1)) ws) in
-        let p = record_passes log strings a b f r.in_log r.in_strings y a' b' w ey gy in
+        let t = record_passes log strings a b f r.in_log r.in_strings y p ey gy in
         record {
           fault =
               r.fault ∙ first
-              ∙ faults_next q log strings (suc i) at a b s f fs (q.count - (i + 1)) x at' ex gx p.value a' b' p.is z s' ez gz
-              ∙ ap (λ (n : ℕ). faults_from q (suc n) (q.count - (i + 1)) at' (left_at log strings a' b') s' fs) k;
+              ∙ faults_next q log strings (suc i) at a b s f fs (q.count - (i + 1)) x at' ex gx t.value p.log p.strings t.is z s' ez gz
+              ∙ ap (λ (n : ℕ). faults_from q (suc n) (q.count - (i + 1)) at' (left_at log strings p.log p.strings) s' fs) k;
           within = omega arith;
           few = omega arith;
-          in_log = p.in_log;
-          in_strings = p.in_strings;
+          in_log = t.in_log;
+          in_strings = t.in_strings;
         }
 
   -- all are passed: log, strings and state decide
@@ -298,17 +278,13 @@ module _ {q : Asked} {ws log strings : List ℕ} {i at a b : ℕ} {s : State} (s
         ∙ faults_end q log strings (suc i) at a b s (q.count - i) z
         ∙ ap (λ (x : Bool). if eqb a q.log && eqb b q.strings && (not q.whole || x) then None else Some (suc i)) (sym e))
 
-    -- whether there is a fault
-    pub check_free : ended ≡ is_free (fault_in q ws log strings)
-    check_free = free_by ended i ∙ ap is_free ends
-
     -- the answer
-    pub check_ends : (x : Option ℕ) → x ≡ end_answer ended (i + 1) → checked_is x ≡ fault_in q ws log strings
+    pub check_ends : (x : Checked) → x ≡ end_answer ended (i + 1) → checked_is x ≡ fault_in q ws log strings
     check_ends x c = ap checked_is c ∙ end_is ended i ∙ ends
 
 -- log and strings up to their counts
 pub check_whole : (q : Asked) (ws log strings : List ℕ) (le se : ℕ) → le ≡ at_most q.log (length log) → se ≡ at_most q.strings (length strings)
-    → (x : Option ℕ) → checked_is x ≡ fault_in q ws (take le log) (take se strings)
+    → (x : Checked) → checked_is x ≡ fault_in q ws (take le log) (take se strings)
     → checked_is x ≡ fault_of q.size q.whole (given ws log strings q.count q.log q.strings)
 unfolding fault_of fault_in faults_from missing_from missing left_at
 check_whole q ws log strings le se c d x e =

@@ -3,6 +3,8 @@ use Rattle.std.specs.Prelude.{ℕ, ◌+◌, ◌*◌, ◌%◌, Bool, true, false,
 use Rattle.std.specs.Prelude.{Option, None, Some}
 use Rattle.spec.specs.declared.State.{State}
 use Rattle.spec.specs.declared.State.TheVariants.{Outside}
+use Rattle.spec.specs.declared.Cell.{Cell}
+use Rattle.spec.specs.declared.Cell.TheVariants.{Tagged, Refuses}
 use Rattle.spec.specs.declared.Fields.{Fields}
 use Rattle.spec.specs.Base.{implies, has, every}
 use Rattle.spec.specs.Text.{is_utf8, text_words}
@@ -10,14 +12,9 @@ use Rattle.spec.specs.Records.{Operand, operand_size, operands_size}
 use Rattle.spec.specs.Layout.{layout_of, end_number}
 use Rattle.spec.specs.Check.{Given, lower, records_of, bits_in, fields_good, fields_fault, Left, take_record, scan_from, tags_fault}
 use Rattle.records.specs.declared.Asked.{Asked}
-use Rattle.records.specs.declared.Offset.{Offset}
-use Rattle.records.specs.declared.Offset.TheVariants as offset
+use Rattle.records.specs.declared.Checked.{Checked}
+use Rattle.records.specs.declared.Checked.TheVariants.{Good, Bad}
 use Rattle.records.specs.declared.Passed.{Passed}
-use Rattle.records.specs.declared.Passed.TheVariants as passed
-use Rattle.records.specs.declared.Tagging.{Tagging}
-use Rattle.records.specs.declared.Tagging.TheVariants as tagging
-use Rattle.spec.specs.Layout.{Cell}
-use Rattle.std.specs.Prelude.{Err, Ok}
 
 -- stores and counts that are given
 abbrev pub given : List ℕ → List ℕ → List ℕ → ℕ → ℕ → ℕ → Given
@@ -32,14 +29,14 @@ given instructions log strings count log_count string_count =
     }
 
 -- the fault that an answer of the check names
-unfoldable pub checked_is : Option ℕ → Option ℕ
-checked_is None = None
-checked_is (Some i) = Some i
+unfoldable pub checked_is : Checked → Option ℕ
+checked_is Good = None
+checked_is (Bad i) = Some i
 
 -- the answer at the end: good, or bad at an index
-unfoldable pub end_answer : Bool → ℕ → Option ℕ
-end_answer true i = None
-end_answer false i = Some i
+unfoldable pub end_answer : Bool → ℕ → Checked
+end_answer true i = Good
+end_answer false i = Bad i
 
 -- the lower of two numbers
 unfoldable pub at_most : ℕ → ℕ → ℕ
@@ -53,10 +50,14 @@ fields_hold f =
     leb (bits_in f) 3 && implies (eqb (bits_in f % 2) 0) (eqb f.rtype 0) && implies (ltb (bits_in f) 2) (eqb f.rid 0)
 
 -- the offset after a record that should stand at one
-unfoldable pub offset_after : ℕ → Fields → Offset
-offset_after at f = if fields_good at f then offset.Got (at + 4 * f.words) else offset.Refused
+unfoldable pub offset_after : ℕ → Fields → Option ℕ
+offset_after at f = if fields_good at f then Some (at + 4 * f.words) else None
 
 -- 2. LOG AND STRINGS
+
+-- past operands of so many words, log and strings go on at two places
+abbrev pub got : ℕ → ℕ → ℕ → Passed
+got a b w = record { log = a; strings = b; words = w }
 
 -- what is left of log and strings from two places on
 unfoldable pub left_at : List ℕ → List ℕ → ℕ → ℕ → Left
@@ -71,20 +72,20 @@ unfoldable pub text_good : List ℕ → ℕ → ℕ → ℕ → Bool
 text_good strings b start n = eqb start b && has n (drop b strings) && is_string (take n (drop b strings))
 
 -- past such a string
-unfoldable pub text_passed : List ℕ → ℕ → ℕ → ℕ → ℕ → Passed
-text_passed strings a b start n = if text_good strings b start n then passed.Got (a + 9) (b + n) (text_words n) else passed.Refused
+unfoldable pub text_passed : List ℕ → ℕ → ℕ → ℕ → ℕ → Option Passed
+text_passed strings a b start n = if text_good strings b start n then Some (got (a + 9) (b + n) (text_words n)) else None
 
 -- past what was taken, with its words
-unfoldable pub passed_by : {A : Type 0} → (A → ℕ) → Option (A × Left) → Passed
-passed_by size None = passed.Refused
-passed_by size (Some x) = passed.Got x.1.log_at x.1.strings_at (size x.0)
+unfoldable pub passed_by : {A : Type 0} → (A → ℕ) → Option (A × Left) → Option Passed
+passed_by size None = None
+passed_by size (Some x) = Some (got x.1.log_at x.1.strings_at (size x.0))
 
 -- past an operand
-unfoldable pub passed_one : Option (Operand × Left) → Passed
+unfoldable pub passed_one : Option (Operand × Left) → Option Passed
 passed_one x = passed_by operand_size x
 
 -- past some operands, with the words of those before them
-unfoldable pub passed_all : ℕ → Option (List Operand × Left) → Passed
+unfoldable pub passed_all : ℕ → Option (List Operand × Left) → Option Passed
 passed_all w x = passed_by (λ os. w + operands_size os) x
 
 -- one word for what is there
@@ -97,18 +98,18 @@ unfoldable pub result_words : Fields → ℕ
 result_words f = word_if (eqb (bits_in f % 2) 1) + word_if (leb 2 (bits_in f))
 
 -- past a record's operands
-unfoldable pub operands_after : Fields → Left → Passed
+unfoldable pub operands_after : Fields → Left → Option Passed
 operands_after f l = passed_by (λ p. operands_size p.instr.operands) (take_record f l)
 
 -- 3. TAGS
 
 -- the state after a tag that a cell of the table gives
-unfoldable pub tag_by : ℕ → Cell → Tagging
-tag_by tag (Ok (t, s)) = if eqb tag t then tagging.Got s else tagging.Refused
-tag_by tag (Err n) = tagging.Refused
+unfoldable pub tag_by : ℕ → Cell → Option State
+tag_by tag (Tagged t s) = if eqb tag t then Some s else None
+tag_by tag (Refuses n) = None
 
 -- the state after a record's tag
-unfoldable pub tag_after : State → Fields → Tagging
+unfoldable pub tag_after : State → Fields → Option State
 tag_after s f = tag_by f.tag (layout_of (f.head % 65536) s)
 
 -- outside functions
@@ -132,8 +133,3 @@ faults_from q index count at l s fs =
 unfoldable pub fault_in : Asked → List ℕ → List ℕ → List ℕ → Option ℕ
 fault_in q instructions log strings =
     faults_from q 1 q.count 20 (left_at log strings 0 0) Outside (records_of q.size q.count instructions)
-
--- free of faults
-unfoldable pub is_free : Option ℕ → Bool
-is_free None = true
-is_free (Some i) = false

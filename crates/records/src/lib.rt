@@ -8,11 +8,11 @@ ghost use Rattle.spec.specs.Records.{field_size, field_words, fields_at, record_
 ghost use Rattle.text.specs.AsciiText.{is_ascii_text};
 ghost use Rattle.reflect.specs.Column.{layout_table, kind_table};
 ghost use Rattle.spec.specs.Check.{take_operand, take_operands, fault_of};
-ghost use Rattle.records.specs.Steps.{given, checked_is, end_answer, left_at, fields_hold, offset_after, word_if, result_words, is_string, text_passed, passed_one, passed_all, operands_after, tag_after, is_outside, at_most, fault_in, is_free};
+ghost use Rattle.records.specs.Steps.{given, checked_is, end_answer, left_at, fields_hold, offset_after, word_if, result_words, is_string, text_passed, passed_one, passed_all, operands_after, tag_after, is_outside, at_most, fault_in};
 ghost use Rattle.records.specs.Good.{numbers_at, Whole, Logged};
 
 use operand::{Parts, is_two};
-use spec::{Cell, Fields, Numbers, State, kinds};
+use spec::{Cell, Fields, Found, Numbers, State, kinds};
 
 // How many words the fields of an instruction record have, which were last season's whole record.
 pub const FIELDS: usize = 8;
@@ -21,6 +21,7 @@ pub const FIELDS: usize = 8;
 pub const RECORD: usize = 10;
 
 // The fields of the record at a place: what its words mean is said here and in the setters alone.
+#[tactic(auto, using(crate::proofs::Fields::fields_drop))]
 pub fn fields_at(instructions: &[u32], at: usize) -> Fields
     requires { at + field_size ≤ length instructions.now }
     ensures { result ≡ fields_at (drop at instructions.now) }
@@ -38,6 +39,7 @@ pub fn fields_at(instructions: &[u32], at: usize) -> Fields
 }
 
 // The numbers of the record at a place, its words after the fields.
+#[tactic(auto, using(crate::proofs::Fields::numbers_drop))]
 pub fn numbers_at(instructions: &[u32], at: usize) -> Numbers
     requires { at + record_size ≤ length instructions.now }
     ensures { result ≡ numbers_at (drop at instructions.now) }
@@ -83,16 +85,17 @@ pub fn put_record(instructions: &mut [u32], at: usize, f: Fields, n: Numbers)
 
 // THE CHECK
 
-// 1. FIELDS AND OFFSETS
-
-// A record's fields are bad, or the offset after it.
+// What the check comes to: good records, or the index of the first that is bad (count + 1 for the end).
 #[derive(Clone, Copy)]
-enum Offset {
-    Refused,
-    Got(usize),
+pub enum Checked {
+    Good,
+    Bad(usize),
 }
 
+// 1. FIELDS AND OFFSETS
+
 // Whether the presence bits are known, and no result field is there without its bit.
+#[tactic(auto, unfolding(crate::specs::Steps::fields_hold))]
 fn fields_hold(f: Fields) -> bool
     ensures { result ≡ fields_hold f }
 {
@@ -100,29 +103,30 @@ fn fields_hold(f: Fields) -> bool
     (bits <= 3) & (!(bits % 2 == 0) | (f.rtype == 0)) & (!(bits < 2) | (f.rid == 0))
 }
 
-// A record that should stand at an offset.
-fn offset_after(at: usize, f: Fields) -> Offset
+// The offset after a record that should stand at one, where its fields are good.
+fn offset_after(at: usize, f: Fields) -> Option<usize>
     ensures { result ≡ offset_after at f }
 {
     if !fields_hold(f) {
-        return Offset::Refused;
+        return None;
     }
     if (f.offset as usize) != at {
-        return Offset::Refused;
+        return None;
     }
     if 65535 < f.words {
-        return Offset::Refused;
+        return None;
     }
-    Offset::Got(at + 4 * (f.words as usize))
+    Some(at + 4 * (f.words as usize))
 }
 
 // 2. LOG AND STRINGS
 
-// Operands are bad; or where log and strings go on after them, and how many words they take.
+// Where log and strings go on after operands, and how many words they take.
 #[derive(Clone, Copy)]
-enum Passed {
-    Refused,
-    Got(usize, usize, usize),
+struct Passed {
+    log: usize,
+    strings: usize,
+    words: usize,
 }
 
 // Whether the bytes may be a string: no zero byte, and UTF-8, as ASCII text is.
@@ -133,7 +137,7 @@ fn is_string(s: &[u8]) -> bool
         return true;
     }
     let found = text::zero(s);
-    let None = found else {
+    let Found::Nothing = found else {
         return false;
     };
     text::utf8(s)
@@ -147,61 +151,87 @@ fn pass_text(
     strings_at: usize,
     start: u32,
     size: u32,
-) -> Passed
+) -> Option<Passed>
     requires strings_at_in_bounds { strings_at ≤ length strings.now }
     requires log_at_bound { log_at + 9 ≤ 18446744073709551615 }
     requires strings_value { ascii ≡ true → is_ascii_text strings.now ≡ true }
     ensures { result ≡ text_passed strings.now log_at strings_at start size }
 {
     if (start as usize) != strings_at {
-        return Passed::Refused;
+        return None;
     }
     let n = size as usize;
     if strings.len() - strings_at < n {
-        return Passed::Refused;
+        return None;
     }
     let end = strings_at + n;
     if ascii {
-        return Passed::Got(log_at + 9, end, n / 4 + 1);
+        return Some(Passed {
+            log: log_at + 9,
+            strings: end,
+            words: n / 4 + 1,
+        });
     }
     if is_string(&strings[strings_at..end]) {
-        return Passed::Got(log_at + 9, end, n / 4 + 1);
+        return Some(Passed {
+            log: log_at + 9,
+            strings: end,
+            words: n / 4 + 1,
+        });
     }
-    Passed::Refused
+    None
 }
 
 // The operand at a place of the log.
-fn pass_operand(ascii: bool, log: &[u8], strings: &[u8], log_at: usize, strings_at: usize) -> Passed
+fn pass_operand(
+    ascii: bool,
+    log: &[u8],
+    strings: &[u8],
+    log_at: usize,
+    strings_at: usize,
+) -> Option<Passed>
     requires log_at_in_bounds { (log_at ≤ length log.now) × (strings_at ≤ length strings.now) }
     requires strings_value { ascii ≡ true → is_ascii_text strings.now ≡ true }
     ensures { result ≡ passed_one (take_operand (left_at log.now strings.now log_at strings_at)) }
 {
     let left = log.len() - log_at;
     if left < 5 {
-        return Passed::Refused;
+        return None;
     }
     let kind = log[log_at];
     if kind < 1 {
-        return Passed::Refused;
+        return None;
     }
     if kind < kinds::INT64 {
-        return Passed::Got(log_at + 5, strings_at, 1);
+        return Some(Passed {
+            log: log_at + 5,
+            strings: strings_at,
+            words: 1,
+        });
     }
     if 45 < kind {
-        return Passed::Refused;
+        return None;
     }
     if !is_two(kind) {
-        return Passed::Got(log_at + 5, strings_at, 1);
+        return Some(Passed {
+            log: log_at + 5,
+            strings: strings_at,
+            words: 1,
+        });
     }
     if left < 9 {
-        return Passed::Refused;
+        return None;
     }
     if kind == kinds::STRING {
         let start = words::word_at(log, log_at + 1);
         let size = words::word_at(log, log_at + 5);
         return pass_text(ascii, strings, log_at, strings_at, start, size);
     }
-    Passed::Got(log_at + 9, strings_at, 2)
+    Some(Passed {
+        log: log_at + 9,
+        strings: strings_at,
+        words: 2,
+    })
 }
 
 // So many operands from a place of the log on.
@@ -212,29 +242,28 @@ fn pass_operands(
     count: usize,
     log_at: usize,
     strings_at: usize,
-) -> Passed
+) -> Option<Passed>
     requires log_at_in_bounds { (log_at ≤ length log.now) × (strings_at ≤ length strings.now) }
     requires strings_value { ascii ≡ true → is_ascii_text strings.now ≡ true }
     ensures { result ≡ passed_all 0 (take_operands count (left_at log.now strings.now log_at strings_at)) }
 {
-    let mut a = log_at;
-    let mut b = strings_at;
-    let mut words = 0;
-    let mut passed = 0;
-    while passed < count {
-        let step = pass_operand(ascii, log, strings, a, b);
-        let Passed::Got(next_a, next_b, more) = step else {
-            return Passed::Refused;
+    let mut passed = Passed {
+        log: log_at,
+        strings: strings_at,
+        words: 0,
+    };
+    for _ in 0..count {
+        let next = pass_operand(ascii, log, strings, passed.log, passed.strings)?;
+        passed = Passed {
+            words: passed.words + next.words,
+            ..next
         };
-        a = next_a;
-        b = next_b;
-        words += more;
-        passed += 1;
     }
-    Passed::Got(a, b, words)
+    Some(passed)
 }
 
 // One word for what is there.
+#[tactic(auto, unfolding(crate::specs::Steps::word_if))]
 fn one_if(there: bool) -> usize
     ensures { result ≡ word_if there }
 {
@@ -245,6 +274,7 @@ fn one_if(there: bool) -> usize
 }
 
 // How many words the results of a record take.
+#[tactic(auto, using(crate::proofs::Fields::word_few), unfolding(crate::specs::Steps::result_words))]
 fn result_words(f: Fields) -> usize
     ensures { result ≡ result_words f }
 {
@@ -260,47 +290,37 @@ fn operands_after(
     log_at: usize,
     strings_at: usize,
     f: Fields,
-) -> Passed
+) -> Option<Passed>
     requires log_at_in_bounds { (log_at ≤ length log.now) × (strings_at ≤ length strings.now) }
     requires strings_value { ascii ≡ true → is_ascii_text strings.now ≡ true }
     ensures { result ≡ operands_after f (left_at log.now strings.now log_at strings_at) }
 {
     if (f.start as usize) != log_at {
-        return Passed::Refused;
+        return None;
     }
     let count = f.count as usize;
-    let passed = pass_operands(ascii, log, strings, count, log_at, strings_at);
-    let Passed::Got(a, b, words) = passed else {
-        return Passed::Refused;
-    };
-    if (f.words as usize) == 1 + result_words(f) + words {
-        return Passed::Got(a, b, words);
+    let passed = pass_operands(ascii, log, strings, count, log_at, strings_at)?;
+    if (f.words as usize) == 1 + result_words(f) + passed.words {
+        return Some(passed);
     }
-    Passed::Refused
+    None
 }
 
 // 3. TAGS
 
-// A record's tag is bad, or the state after it.
-#[derive(Clone, Copy)]
-enum Tagging {
-    Refused,
-    Got(State),
-}
-
-// The tag that the table gives for the record's opcode.
-fn tag_after(kinds: &[u8; 256], table: &[[u8; 3]; 19], s: State, f: Fields) -> Tagging
+// The state after a record that has the tag which the table gives for its opcode.
+fn tag_after(kinds: &[u8; 256], table: &[[u8; 3]; 19], s: State, f: Fields) -> Option<State>
     requires { (table.now ≡ layout_table) × (kinds.now ≡ kind_table) }
     ensures { result ≡ tag_after s f }
 {
     let cell = reflect::place(kinds, table, (f.head % 65536) as u16, s);
-    let Ok((tag, next)) = cell else {
-        return Tagging::Refused;
+    let Cell::Tagged(tag, next) = cell else {
+        return None;
     };
     if f.tag == (tag as u32) {
-        return Tagging::Got(next);
+        return Some(next);
     }
-    Tagging::Refused
+    None
 }
 
 // THE PASS
@@ -309,21 +329,18 @@ fn tag_after(kinds: &[u8; 256], table: &[[u8; 3]; 19], s: State, f: Fields) -> T
 fn is_outside(s: State) -> bool
     ensures { result ≡ is_outside s }
 {
-    match s {
-        State::Outside => true,
-        State::Function => false,
-        State::Block => false,
-    }
+    matches!(s, State::Outside)
 }
 
 // The answer where all records are passed: the end is good, or bad at an index.
-fn at_end(good: bool, index: usize) -> Option<usize>
+#[tactic(auto, unfolding(crate::specs::Steps::end_answer))]
+fn at_end(good: bool, index: usize) -> Checked
     ensures { result ≡ end_answer good index }
 {
     if good {
-        return None;
+        return Checked::Good;
     }
-    Some(index)
+    Checked::Bad(index)
 }
 
 // What is asked for: whether the records are to end outside functions, how many words a record has, how many records, log bytes and
@@ -337,107 +354,58 @@ struct Asked {
     strings: usize,
 }
 
-// One pass over the records: each is held to its fields and offset, its operands and its tag.
-fn first_fault(
+// One pass over the records: each is held to its tag, its fields and offset, and its operands. Where all strings are ASCII text, no string
+// is looked at by itself: that loop is short.
+fn first_fault<const ASCII: bool>(
     kinds: &[u8; 256],
     table: &[[u8; 3]; 19],
     asked: Asked,
     instructions: &[u32],
     log: &[u8],
     strings: &[u8],
-) -> Option<usize>
+) -> Checked
     requires table_value { (table.now ≡ layout_table) × (kinds.now ≡ kind_table) }
     requires field_size_le_size { field_size ≤ asked.size }
+    requires strings_value { ASCII ≡ true → is_ascii_text strings.now ≡ true }
     ensures { checked_is result ≡ fault_in asked instructions.now log.now strings.now }
 {
-    let size = asked.size;
-    let there = instructions.len() / size;
-    let mut i = 0;
+    let there = instructions.len() / asked.size;
     let mut at = 20;
     let mut a = 0;
     let mut b = 0;
     let mut s = State::Outside;
-    while i < asked.count {
-        if there <= i {
-            return Some(i + 1);
-        }
-        let f = fields_at(instructions, size * i);
-        let Offset::Got(next_at) = offset_after(at, f) else {
-            return Some(i + 1);
+    for i in 0..asked.count.min(there) {
+        let f = fields_at(instructions, asked.size * i);
+        let Some(next_s) = tag_after(kinds, table, s, f) else {
+            return Checked::Bad(i + 1);
         };
-        let Passed::Got(next_a, next_b, _) = operands_after(false, log, strings, a, b, f) else {
-            return Some(i + 1);
+        let Some(next_at) = offset_after(at, f) else {
+            return Checked::Bad(i + 1);
         };
-        let Tagging::Got(next_s) = tag_after(kinds, table, s, f) else {
-            return Some(i + 1);
+        let Some(passed) = operands_after(ASCII, log, strings, a, b, f) else {
+            return Checked::Bad(i + 1);
         };
         at = next_at;
-        a = next_a;
-        b = next_b;
+        a = passed.log;
+        b = passed.strings;
         s = next_s;
-        i += 1;
+    }
+    if there < asked.count {
+        return Checked::Bad(there + 1);
     }
     let good = (a == asked.log) & (b == asked.strings) & (!asked.whole | is_outside(s));
-    at_end(good, i + 1)
-}
-
-// Whether the same pass, where all strings are ASCII text, finds nothing: a loop without a look at single strings is short.
-fn finds_nothing(
-    kinds: &[u8; 256],
-    table: &[[u8; 3]; 19],
-    asked: Asked,
-    instructions: &[u32],
-    log: &[u8],
-    strings: &[u8],
-) -> bool
-    requires table_value { (table.now ≡ layout_table) × (kinds.now ≡ kind_table) }
-    requires field_size_le_size { field_size ≤ asked.size }
-    requires strings_value { is_ascii_text strings.now ≡ true }
-    ensures { result ≡ is_free (fault_in asked instructions.now log.now strings.now) }
-{
-    let size = asked.size;
-    let most = at_most(asked.count, instructions.len() / size);
-    let mut i = 0;
-    let mut at = 20;
-    let mut a = 0;
-    let mut b = 0;
-    let mut s = State::Outside;
-    while i < most {
-        let f = fields_at(instructions, size * i);
-        let Tagging::Got(next_s) = tag_after(kinds, table, s, f) else {
-            return false;
-        };
-        let Offset::Got(next_at) = offset_after(at, f) else {
-            return false;
-        };
-        let passed = operands_after(true, log, strings, a, b, f);
-        let Passed::Got(next_a, next_b, _) = passed else {
-            return false;
-        };
-        at = next_at;
-        a = next_a;
-        b = next_b;
-        s = next_s;
-        i += 1;
-    }
-    if i < asked.count {
-        return false;
-    }
-    (a == asked.log) & (b == asked.strings) & (!asked.whole | is_outside(s))
+    at_end(good, asked.count + 1)
 }
 
 // The lower of two numbers.
 pub fn at_most(a: usize, b: usize) -> usize
     ensures { result ≡ at_most a b }
 {
-    if a <= b {
-        return a;
-    }
-    b
+    a.min(b)
 }
 
-// Whether given records of a length keep the store layout, and in module order (whole) end outside functions. They are seldom bad, and
-// their strings seldom other than ASCII text.
+// Whether given records of a length keep the store layout, and in module order (whole) end outside functions. Their strings are seldom
+// other than ASCII text.
 pub fn check_of(
     size: usize,
     whole: bool,
@@ -447,12 +415,12 @@ pub fn check_of(
     count: usize,
     log_count: usize,
     string_count: usize,
-) -> Option<usize>
+) -> Checked
     requires { field_size ≤ size }
     ensures { checked_is result ≡ fault_of size whole (given instructions.now log.now strings.now count log_count string_count) }
 {
-    let log_end = at_most(log_count, log.len());
-    let strings_end = at_most(string_count, strings.len());
+    let log_end = log_count.min(log.len());
+    let strings_end = string_count.min(strings.len());
     let kinds = reflect::kinds();
     let table = reflect::table();
     let log = &log[..log_end];
@@ -465,11 +433,9 @@ pub fn check_of(
         strings: string_count,
     };
     if text::is_ascii_text(strings) {
-        if finds_nothing(&kinds, &table, asked, instructions, log, strings) {
-            return None;
-        }
+        return first_fault::<true>(&kinds, &table, asked, instructions, log, strings);
     }
-    first_fault(&kinds, &table, asked, instructions, log, strings)
+    first_fault::<false>(&kinds, &table, asked, instructions, log, strings)
 }
 
 // Whether given records do, those of a load.
@@ -481,7 +447,7 @@ pub fn check(
     count: usize,
     log_count: usize,
     string_count: usize,
-) -> Option<usize>
+) -> Checked
     ensures { checked_is result ≡ fault_of record_size whole (given instructions.now log.now strings.now count log_count string_count) }
 {
     check_of(

@@ -11,6 +11,7 @@ use spec::{Counts, refusals};
 const ENTRY: usize = 3;
 
 // The room in stores of so many words, bytes, bytes and words.
+#[tactic(auto, unfolding(spec::specs::Load::room_of))]
 pub fn room_in(instructions: usize, log: usize, strings: usize, types: usize) -> Counts
     ensures { result ≡ room_of instructions log strings types }
 {
@@ -23,6 +24,7 @@ pub fn room_in(instructions: usize, log: usize, strings: usize, types: usize) ->
 }
 
 // The first store that lacks room: 25, 26, 27, 28 in that order, or 0.
+#[tactic(auto, unfolding(spec::specs::Load::room_fault))]
 pub fn room_fault(room: Counts, need: Counts) -> u32
     ensures { result ≡ room_fault room need }
 {

@@ -46,7 +46,7 @@ pub struct Fields {
 }
 
 // The numbers of an instruction record, its last two words: its function, and its block in that; both from 1, 0 for none.
-#[derive(Clone, Copy)]
+#[derive(Clone, Copy, PartialEq, Eq)]
 pub struct Numbers {
     pub function: u32,
     pub block: u32,

@@ -227,8 +227,8 @@ module _ {log strings : List ℕ} {n start : ℕ} {l₀ l : List ℕ} {from left
     -- it is put into the rest
     pub putting_goes_on : (a' k : ℕ) (ys : List ℕ) → a' ≡ operand_after log a → k ≡ length (operand_bytes (operand_at log strings a))
         → ys ≡ sets (mid_of at (length l - at) l) 0 (operand_bytes (operand_at log strings a))
-        → Putting log strings n start l₀ (put_mid at (length l - at) l ys) from (left - 1) a' (at + k)
-    putting_goes_on a' k ys f e g = record {
+        → (m : ℕ) → m ≡ left - 1 → Putting log strings n start l₀ (put_mid at (length l - at) l ys) from m a' (at + k)
+    putting_goes_on a' k ys f e g m q = rw q (record {
       acc = r.acc ++ (operand_at log strings a ∷ []);
       split = next.split ∙ ap (λ (j : ℕ). (r.acc ++ (operand_at log strings a ∷ [])) ++ operands_from (left - 1) log strings j) (sym f);
       readable = subst (λ (j : ℕ). AllReadable (left - 1) log strings j) (sym f) next.others;
@@ -240,7 +240,7 @@ module _ {log strings : List ℕ} {n start : ℕ} {l₀ l : List ℕ} {from left
           ∙ sets_append (joined operand_bytes r.acc) (operand_bytes (operand_at log strings a)) l₀ from
           ∙ ap (λ (z : List ℕ). sets l₀ from z) (sym more_bytes);
       room = r.room;
-    }
+    })
 
 -- what is lent of the rest has room
 pub lent_room : (l : List ℕ) (at n : ℕ) → at + n ≤ length l → n ≤ length (mid_of at (length l - at) l)

@@ -120,11 +120,9 @@ pub fn put_instruction(log: &[u8], strings: &[u8], f: Fields, out: &mut [u8])
 {
     let mut at = put_head(f, out);
     let mut a = f.start as usize;
-    let mut left = f.count;
-    while 0 < left {
+    for _ in 0..f.count {
         let next = put_operand(log, strings, a, &mut out[at..]);
         a = next.log;
         at += next.out;
-        left -= 1;
     }
 }

@@ -1,12 +1,12 @@
 -- Standing as one pass: the instructions that checked records say stand where each tag may come after those before it.
 use Prim.Native.Nat.compare
-use Prim.Native.Nat.{ℕ, suc, ◌+◌, ◌*◌, ◌<◌, ◌≤◌}
+use Prim.Native.Nat.{ℕ, suc, min, ◌+◌, ◌*◌, ◌<◌, ◌≤◌}
 use mathlib.Core.Path.{◌≡◌, refl, ap, sym, ◌∙◌}
 use mathlib.Core.Bool.{Bool, true, false, not, ◌&&◌, ◌||◌}
 use mathlib.Core.List.{List, ◌∷◌}
 use native.Mathlib.Omega.{arith}
 use native.Mathlib.Numerals.{add-one}
-use borrow.Author.Tests.{le-leb, lt-leb, ne_eqb}
+use borrow.Author.Tests.{leb-true, leb-false, ne_eqb}
 use lib.Dec.{leb, eqb}
 use lib.ListN.{length, drop}
 use lib.Seq.{drop-length}
@@ -25,30 +25,22 @@ use Rattle.std.specs.Prelude.{None, Option, Some}
 
 -- THE ORDER AFTER A TAG
 
-module _ (o : Order) (t : ℕ) where
-  -- after a section's tag
-  pub after_section : t ≤ 11
-      → record {
-        before = t;
-        label = not (eqb t 12) && (o.label || eqb t 14);
-        model = o.model || eqb t 4;
-        body = o.body || (eqb t 16 && o.label);
-      }
-      ≡ order_after o t
-  unfolding order_after
-  after_section h = rw (le-leb t 11 h)
+-- the tag before, by whether the tag is a section's
+before_is : (t : ℕ) (b : Bool) → leb t 11 ≡ b → min t 12 ≡ (if b then t else 12)
+before_is t true e = omega (arith, leb-true t 11 e)
+before_is t false e = omega (arith, leb-false t 11 e)
 
-  -- after another
-  pub after_other : 11 < t
-      → record {
-        before = 12;
-        label = not (eqb t 12) && (o.label || eqb t 14);
-        model = o.model || eqb t 4;
-        body = o.body || (eqb t 16 && o.label);
-      }
-      ≡ order_after o t
-  unfolding order_after
-  after_other h = rw (lt-leb t 11 h)
+-- after a tag
+pub after_tag : (o : Order) (t before : ℕ) → before ≡ min t 12
+    → record {
+      before = before;
+      label = not (eqb t 12) && (o.label || eqb t 14);
+      model = o.model || eqb t 4;
+      body = o.body || (eqb t 16 && o.label);
+    }
+    ≡ order_after o t
+unfolding order_after
+after_tag o t before e = rw (e ∙ before_is t (leb t 11) refl)
 
 -- ONE INSTRUCTION
 

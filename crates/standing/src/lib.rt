@@ -20,6 +20,7 @@ struct Order {
 }
 
 // Whether a tag may come there.
+#[tactic(auto, unfolding(crate::specs::Stand::may_come))]
 fn may_come(o: Order, tag: u32) -> bool
     ensures { result ≡ may_come o tag }
 {
@@ -36,16 +37,8 @@ fn order_after(o: Order, tag: u32) -> Order
     let label = !(tag == tags::FUNCTION) & (o.label | (tag == tags::LABEL));
     let model = o.model | (tag == tags::MEMORY_MODEL);
     let body = o.body | ((tag == tags::FUNCTION_END) & o.label);
-    if tag <= tags::LAST_SECTION {
-        return Order {
-            before: tag,
-            label,
-            model,
-            body,
-        };
-    }
     Order {
-        before: tags::FUNCTION,
+        before: tag.min(tags::FUNCTION),
         label,
         model,
         body,
@@ -85,8 +78,7 @@ pub fn standing(
         model: false,
         body: false,
     };
-    let mut i = 0;
-    while i < instruction_count {
+    for i in 0..instruction_count {
         let f = records::record_at(instructions, i);
         if !may_come(o, f.tag) {
             return Stands {
@@ -96,7 +88,6 @@ pub fn standing(
             };
         }
         o = order_after(o, f.tag);
-        i += 1;
     }
     Stands {
         number: refusals::ACCEPTED,
