@@ -11,7 +11,7 @@ ghost use Rattle.spec.specs.Books.{misnumbered, new_book, old_book};
 ghost use Rattle.records.specs.Steps.{given, checked_is};
 ghost use Rattle.books.specs.Turns.{Turns};
 
-use records::{Checked, FIELDS, RECORD};
+use records::{FIELDS, RECORD};
 use spec::{Numbers, Turned, refusals};
 
 // THE REFUSALS
@@ -29,19 +29,19 @@ fn refused(number: u32, index: usize) -> Turned
 
 // Whether an output of so many words has room for so many records of a length, or the first that does not fit.
 #[tactic(auto, unfolding(records::specs::Steps::checked_is))]
-fn check_room(size: usize, count: usize, words: usize) -> Checked
+fn check_room(size: usize, count: usize, words: usize) -> Option<usize>
     requires { field_size ≤ size }
     ensures { checked_is result ≡ (if ltb (words / size) count then Some (words / size + 1) else None) }
 {
     let room = words / size;
     if room < count {
-        return Checked::Bad(room + 1);
+        return Some(room + 1);
     }
-    Checked::Good
+    None
 }
 
 // Whether each record has the numbers that the tags call for, or the first that has not.
-fn check_numbers(new: &[u32], count: usize) -> Checked
+fn check_numbers(new: &[u32], count: usize) -> Option<usize>
     requires count_in_bounds { record_size * count ≤ length new.now }
     requires count_bound { count < 4294967295 }
     ensures { checked_is result ≡ misnumbered 1 (called_for (records_of record_size count new.now)) new.now }
@@ -55,11 +55,11 @@ fn check_numbers(new: &[u32], count: usize) -> Checked
         let has = records::numbers_at(new, RECORD * i);
         let step = numbers::count(f.tag, begun);
         if has != step.own {
-            return Checked::Bad(i + 1);
+            return Some(i + 1);
         }
         begun = step.begun;
     }
-    Checked::Good
+    None
 }
 
 // THE RECORDS
@@ -130,11 +130,11 @@ pub fn new_book(
         log_count,
         string_count,
     );
-    if let Checked::Bad(index) = checked {
+    if let Some(index) = checked {
         return refused(refusals::BAD_RECORDS, index);
     }
     let room = check_room(RECORD, count, out.len());
-    if let Checked::Bad(index) = room {
+    if let Some(index) = room {
         return refused(refusals::INSTRUCTIONS_FULL, index);
     }
     put_new(old, count, out);
@@ -163,15 +163,15 @@ pub fn old_book(
         log_count,
         string_count,
     );
-    if let Checked::Bad(index) = checked {
+    if let Some(index) = checked {
         return refused(refusals::BAD_RECORDS, index);
     }
     let numbers = check_numbers(new, count);
     let room = check_room(FIELDS, count, out.len());
-    if let Checked::Bad(wrong) = numbers {
+    if let Some(wrong) = numbers {
         return refused(refusals::NUMBERS_WRONG, wrong);
     }
-    if let Checked::Bad(past) = room {
+    if let Some(past) = room {
         return refused(refusals::INSTRUCTIONS_FULL, past);
     }
     put_old(new, count, out);

@@ -3,12 +3,12 @@ use Prim.Native.Nat.{ℕ, zero, suc, ◌+◌, ◌*◌, ◌-◌, ◌/◌, ◌<◌
 use mathlib.Core.Path.{◌≡◌, refl, ap, sym, ◌∙◌}
 use mathlib.Core.Bool.{Bool, true, false}
 use mathlib.Core.List.{List, ◌∷◌}
-use Rattle.std.specs.Prelude.{Option, None, Some}
+use Rattle.std.specs.Prelude.{Option, None, Some, Result, Ok, Err, min}
 use native.Mathlib.Numerals.{add-one}
 use native.Mathlib.Omega.{arith}
-use borrow.Author.Tests.{lt-ltb, le-ltb, ltb-true, ltb-false, eq-eqb, ne_eqb, eqb-true, eqb-false}
+use borrow.Author.Tests.{leb-true, leb-false, lt-ltb, le-ltb, ltb-true, ltb-false, eq-eqb, ne_eqb, eqb-true, eqb-false}
 use borrow.Rule.Slice.PartMut.{mid_len}
-use lib.Dec.{ltb, eqb}
+use lib.Dec.{leb, ltb, eqb}
 use lib.ListN.{length, take, drop, get_or, length-drop, drop_of_length-le}
 use lib.Seq.{slice, take_all, drop-drop, slice-cons, length-take-le}
 use Rattle.spec.specs.declared.Refusal.{Refusal}
@@ -19,8 +19,8 @@ use Rattle.spec.specs.Reader.{Read, got, refused, after, give, refusal, stream_w
 use Rattle.text.specs.Zero.{zero_in}
 use Rattle.text.proofs.Laws.{zero_at, zero_nothing}
 use Rattle.decoder.specs.declared.Decoder.{Decoder}
-use Rattle.decoder.specs.declared.End.{End}
-use Rattle.decoder.specs.declared.End.TheVariants.{After, NoZero, NotUtf8}
+use Rattle.decoder.specs.declared.NoString.{NoString}
+use Rattle.decoder.specs.declared.NoString.TheVariants.{NoZero, NotUtf8}
 use Rattle.decoder.specs.Answer.{decoder, reader_of, limit_reached, word_answer, word_from, long_answer, long_from, text_answer, text_from}
 use Rattle.decoder.specs.Steps.{take_one, end_by, end_in}
 use Rattle.words.proofs.Front.{front_got, front_short}
@@ -127,7 +127,7 @@ module _ (s : List ℕ) (d e : Decoder) (low : ℕ) (h : Ok (low, e) ≡ word_fr
 -- WHERE A STRING ENDS
 
 -- no zero byte is found
-pub end_none : (l : List ℕ) → None ≡ zero_in l → NoZero ≡ end_in l
+pub end_none : (l : List ℕ) → None ≡ zero_in l → Err NoZero ≡ end_in l
 unfolding end_in end_by
 end_none l h = sym (ap end_by (zero_nothing l h))
 
@@ -136,17 +136,17 @@ pub end_size : (l : List ℕ) (n : ℕ) → Some n ≡ zero_in l → n ≡ lengt
 end_size l n h = sym (length-take-le n l (omega (arith, (zero_at l n h).0)))
 
 -- and they are UTF-8 or not
-pub end_found : (l : List ℕ) (n : ℕ) (t : Bool) → Some n ≡ zero_in l → is_utf8 (take n l) ≡ t → (if t then After n else NotUtf8) ≡ end_in l
+pub end_found : (l : List ℕ) (n : ℕ) (t : Bool) → Some n ≡ zero_in l → is_utf8 (take n l) ≡ t → (if t then Ok n else Err NotUtf8) ≡ end_in l
 unfolding end_in end_by
 end_found l n t h e = sym (ap end_by (zero_at l n h).1 ∙ simp (e, ← end_size l n h))
 
 -- a string that ends, by whether it is UTF-8, is shorter than the bytes
-after_if : (l : List ℕ) (n : ℕ) (bs : List ℕ) (t : Bool) → until_zero l ≡ Some bs → After n ≡ (if t then After (length bs) else NotUtf8) → n < length l
+after_if : (l : List ℕ) (n : ℕ) (bs : List ℕ) (t : Bool) → until_zero l ≡ Some bs → Ok n ≡ (if t then Ok (length bs) else Err NotUtf8) → n < length l
 after_if l n bs true e h = let q : n ≡ length bs = cc in omega (arith, (ends_in l bs e).0)
 after_if l n bs false e h = let z : ◌≡◌ {A = ℕ} 0 1 = cc in absurd (omega arith)
 
 -- by the bytes before the first zero byte
-after_by : (l : List ℕ) (n : ℕ) (o : Option (List ℕ)) → until_zero l ≡ o → After n ≡ end_by o → n < length l
+after_by : (l : List ℕ) (n : ℕ) (o : Option (List ℕ)) → until_zero l ≡ o → Ok n ≡ end_by o → n < length l
 unfolding end_by
 after_by l n None e h = let z : ◌≡◌ {A = ℕ} 0 1 = cc in absurd (omega arith)
 after_by l n (Some bs) e h = after_if l n bs (is_utf8 bs) e h
@@ -193,11 +193,11 @@ sought_words s at (Some n) m e h g =
     }
 
 -- a string's answer by where it ends
-unfoldable pub end_answer : List ℕ → ℕ → Option ℕ → (ℕ → Option ℕ) → Refusal → End → Answered Text
-end_answer s at l left x (After n) =
+unfoldable pub end_answer : List ℕ → ℕ → Option ℕ → (ℕ → Option ℕ) → Refusal → Result ℕ NoString → Answered Text
+end_answer s at l left x (Ok n) =
     Ok (record { start = at; length = n; breaks = text_break at n (drop at s) }, decoder (at + 4 * text_words n) (left (text_words n)))
-end_answer s at l left x NoZero = Err (x, decoder at l)
-end_answer s at l left x NotUtf8 = Err (refusal 11 at 0, decoder at l)
+end_answer s at l left x (Err NoZero) = Err (x, decoder at l)
+end_answer s at l left x (Err NotUtf8) = Err (refusal 11 at 0, decoder at l)
 
 -- a string with what breaks its padding
 pub with_breaks : (s : List ℕ) (at n b : ℕ) (e : Decoder) → b ≡ text_break at n (drop at s)
@@ -223,14 +223,14 @@ module _ {s : List ℕ} {at : ℕ} {l : Option ℕ} {end : ℕ} {left : ℕ → 
   answer_end (Some bs) = answer_utf8 bs (is_utf8 bs) refl
 
   -- a string, by where it ends
-  pub text_by : (v : End) (y : Answered Text) → v ≡ end_in (take (end - at) (drop at s)) → y ≡ end_answer s at l left x v → y ≡ text_from s (decoder at l)
+  pub text_by : (v : Result ℕ NoString) (y : Answered Text) → v ≡ end_in (take (end - at) (drop at s)) → y ≡ end_answer s at l left x v → y ≡ text_from s (decoder at l)
   unfolding end_in text_from read_text_at read_text reader_at
   text_by v y e h =
       h ∙ ap (end_answer s at l left x) (e ∙ ap end_in r.bytes) ∙ answer_end (until_zero (searched l (drop at s)))
       ∙ sym (ap (text_answer at (drop at s)) (simp (le-ltb (length s) at r.from, r.unpassed)))
 
   -- its end lies within the bytes that are searched
-  pub text_inside : (n : ℕ) → After n ≡ end_in (take (end - at) (drop at s)) → n < end - at
+  pub text_inside : (n : ℕ) → Ok n ≡ end_in (take (end - at) (drop at s)) → n < end - at
   unfolding end_in
   text_inside n e =
       omega (arith, after_by (take (end - at) (drop at s)) n (until_zero (take (end - at) (drop at s))) refl e, mid_len at end s r.to)
@@ -243,17 +243,33 @@ module _ (s : List ℕ) (at n : ℕ) (h : at + n < length s) where
   padding_part m = sym (ap (drop n) (front_slice at m s (omega arith)) ∙ drop-drop n at (take (at + m) s))
 
   -- the words of the string are there
-  pub end_there : at + 4 * text_words n ≤ length s
+  end_there : at + 4 * text_words n ≤ length s
       → (slice (at + n) (at + 4 * text_words n) s ≡ drop n (take (4 * text_words n) (drop at s))) × (at + 4 * text_words n ≤ length s)
   end_there i = (padding_part (4 * text_words n), i)
 
   -- the bytes end before
-  pub end_before : length s < at + 4 * text_words n
+  end_before : length s ≤ at + 4 * text_words n
       → (slice (at + n) (length s) s ≡ drop n (take (4 * text_words n) (drop at s))) × (length s ≤ length s)
   end_before i = (
     ap (drop (at + n)) (take_all (length s) s (omega arith) ∙ sym (take_all (at + 4 * text_words n) s (omega arith))) ∙ padding_part (4 * text_words n),
     omega arith,
   )
+
+  -- whichever is less
+  end_least : (to : ℕ) (t : Bool) → leb (at + 4 * text_words n) (length s) ≡ t → to ≡ min (at + 4 * text_words n) (length s)
+      → (slice (at + n) to s ≡ drop n (take (4 * text_words n) (drop at s))) × (to ≤ length s)
+  end_least to true e m =
+      let i : at + 4 * text_words n ≤ length s = leb-true (at + 4 * text_words n) (length s) e in
+      let q : to ≡ at + 4 * text_words n = omega arith in
+      rw q (end_there i)
+  end_least to false e m =
+      let i : length s < at + 4 * text_words n = leb-false (at + 4 * text_words n) (length s) e in
+      let q : to ≡ length s = omega arith in
+      rw q (end_before (omega arith))
+
+  pub end_min : (to : ℕ) → to ≡ min (at + 4 * text_words n) (length s)
+      → (slice (at + n) to s ≡ drop n (take (4 * text_words n) (drop at s))) × (to ≤ length s)
+  end_min to m = end_least to (leb (at + 4 * text_words n) (length s)) refl m
 
 -- the bytes of the padding before i are zero
 pub record Padded (s : List ℕ) (at n to i : ℕ) : Type 0 where

@@ -40,10 +40,7 @@ pub struct Text {
 fn stream_ends(s: &[u8], at: usize) -> bool
     ensures { result ≡ ltb (length s.now) (at + 4) }
 {
-    if s.len() < 4 {
-        return true;
-    }
-    s.len() - 4 < at
+    s.len() < 4 || s.len() - 4 < at
 }
 
 // A header that is refused.
@@ -103,26 +100,25 @@ pub fn header(s: &[u8]) -> HeaderRead
     }
 }
 
-// How a string at the start of some bytes ends: after so many bytes, at no zero byte, or after bytes that are not UTF-8.
+// Why there is no string at the start of some bytes: no zero byte, or bytes before it that are not UTF-8.
 #[derive(Clone, Copy)]
-enum End {
-    After(usize),
+enum NoString {
     NoZero,
     NotUtf8,
 }
 
-// Where the string at the start of some bytes ends.
-fn string_end(part: &[u8]) -> End
+// After how many bytes the string at the start of some bytes ends.
+fn string_end(part: &[u8]) -> Result<usize, NoString>
     ensures { result ≡ end_in part.now }
 {
     let found = text::zero(part);
     let Some(n) = found else {
-        return End::NoZero;
+        return Err(NoString::NoZero);
     };
     if text::utf8(&part[..n]) {
-        return End::After(n);
+        return Ok(n);
     }
-    End::NotUtf8
+    Err(NoString::NotUtf8)
 }
 
 // Where the words of a string of `n` bytes end, or all bytes before them.
@@ -130,11 +126,7 @@ fn text_end(s: &[u8], at: usize, n: usize) -> usize
     requires { at + n < length s.now }
     ensures { (slice (at + n) result s.now ≡ drop n (take (4 * text_words n) (drop at s.now))) × (result ≤ length s.now) }
 {
-    let to = at + 4 * (n / 4 + 1);
-    if s.len() < to {
-        return s.len();
-    }
-    to
+    (at + 4 * (n / 4 + 1)).min(s.len())
 }
 
 // Where the first byte is that is not zero, from the zero of a string of `n` bytes to the end of its last word or of all bytes; 0 for
@@ -144,12 +136,10 @@ fn text_break(s: &[u8], at: usize, n: usize) -> usize
     ensures { result ≡ text_break at n (drop at s.now) }
 {
     let to = text_end(s, at, n);
-    let mut i = at + n;
-    while i < to {
+    for i in at + n..to {
         if s[i] != 0 {
             return i;
         }
-        i += 1;
     }
     0
 }
@@ -292,9 +282,8 @@ impl Decoder {
         ensures { result ≡ text_from s.now self }
     {
         let at = self.offset;
-        let end = string_end(&s[at..]);
-        match end {
-            End::After(n) => {
+        match string_end(&s[at..]) {
+            Ok(n) => {
                 let breaks = text_break(s, at, n);
                 self.offset = at + 4 * (n / 4 + 1);
                 let text = Text {
@@ -304,8 +293,8 @@ impl Decoder {
                 };
                 Ok((text, self))
             }
-            End::NoZero => self.no_text(refusals::STREAM_ENDED, at),
-            End::NotUtf8 => self.no_text(refusals::NOT_UTF8, at),
+            Err(NoString::NoZero) => self.no_text(refusals::STREAM_ENDED, at),
+            Err(NoString::NotUtf8) => self.no_text(refusals::NOT_UTF8, at),
         }
     }
 
@@ -319,9 +308,8 @@ impl Decoder {
             return self.no_text(refusals::STREAM_ENDED, at);
         }
         let to = at + 4 * m;
-        let end = string_end(&s[at..to]);
-        match end {
-            End::After(n) => {
+        match string_end(&s[at..to]) {
+            Ok(n) => {
                 let breaks = text_break(s, at, n);
                 let words = n / 4 + 1;
                 self = Decoder {
@@ -335,8 +323,8 @@ impl Decoder {
                 };
                 Ok((text, self))
             }
-            End::NoZero => self.no_text(refusals::LIMIT_REACHED, to),
-            End::NotUtf8 => self.no_text(refusals::NOT_UTF8, at),
+            Err(NoString::NoZero) => self.no_text(refusals::LIMIT_REACHED, to),
+            Err(NoString::NotUtf8) => self.no_text(refusals::NOT_UTF8, at),
         }
     }
 

@@ -27,17 +27,15 @@ pub struct Mark {
 pub fn rises_to(j: u8, u: u32, k: u8, v: u32) -> bool
     ensures { result ≡ rises j u k v }
 {
-    (j < k) | ((j == k) & (u < v))
+    (j, u) < (k, v)
 }
 
 // Where the guess for a kind and a value stands: one place for each opcode below 512, and 1,024 that the others share.
 fn guess_place(kind: u8, value: u32) -> usize
     ensures { result < 1536 }
 {
-    if kind == 0 {
-        if value < 512 {
-            return value as usize;
-        }
+    if kind == 0 && value < 512 {
+        return value as usize;
     }
     512 + ((kind as usize) * 116 + (value as usize)) % 1024
 }
@@ -52,26 +50,19 @@ pub fn put(index: &mut [u16], rank: usize, kind: u8, value: u32, place: usize)
     index[guess] = rank as u16;
 }
 
-// A number of the index, as wide as a place.
-fn wide(x: u16) -> usize
-    ensures { result ≡ x }
-{
-    x as usize
-}
-
 // How many rows and enumerants there are.
 pub fn mark_count(index: &[u16]) -> usize
     requires { 1536 < length index.now }
     ensures { result ≡ get_or index.now 1536 0 }
 {
-    wide(index[GUESSES])
+    index[GUESSES] as usize
 }
 
 // The guess for a kind and a value.
 pub fn guess_at(index: &[u16], kind: u8, value: u32) -> usize
     requires { 1536 < length index.now }
 {
-    wide(index[guess_place(kind, value)])
+    index[guess_place(kind, value)] as usize
 }
 
 // The mark of an item at a place.
@@ -99,6 +90,6 @@ pub fn mark_at(g: &[u8], index: &[u16], rank: usize) -> Mark
     requires rank_in_bounds { rank < length (marks_of g.now) }
     ensures { result ≡ mark_at (marks_of g.now) rank }
 {
-    let place = wide(index[PLACES + rank]);
+    let place = index[PLACES + rank] as usize;
     mark_of(item_at(g, place), place)
 }

@@ -25,10 +25,11 @@ fn half(a: u8, b: u8) -> u16
 fn body_length(b: u8) -> usize
     ensures { result ≡ body_length b }
 {
-    if b <= 2 {
-        return 2;
+    match b {
+        0..=2 => 2,
+        3 => 5,
+        _ => 1,
     }
-    if b == 3 { 5 } else { 1 }
 }
 
 // The item that starts at a place.
@@ -36,34 +37,15 @@ pub fn item_at(g: &[u8], at: usize) -> Item
     requires { at < length g.now }
     ensures { result ≡ item_at g.now at }
 {
-    let b = g[at];
     let from = at + 1;
     let room = g.len() - from;
-    if b == 1 {
-        if room < 2 {
-            return Item::Broken;
-        }
-        return Item::Row(half(g[from], g[from + 1]));
+    match g[at] {
+        1 if 2 <= room => Item::Row(half(g[from], g[from + 1])),
+        2 if 2 <= room => Item::Operand(g[from], g[from + 1]),
+        3 if 5 <= room => Item::Enumerant(g[from], words::word_at(g, from + 1)),
+        4 if 1 <= room => Item::Parameter(g[from]),
+        _ => Item::Broken,
     }
-    if b == 2 {
-        if room < 2 {
-            return Item::Broken;
-        }
-        return Item::Operand(g[from], g[from + 1]);
-    }
-    if b == 3 {
-        if room < 5 {
-            return Item::Broken;
-        }
-        return Item::Enumerant(g[from], words::word_at(g, from + 1));
-    }
-    if b == 4 {
-        if room < 1 {
-            return Item::Broken;
-        }
-        return Item::Parameter(g[from]);
-    }
-    Item::Broken
 }
 
 // How many bytes the item that starts at a place has, its byte of kind with them.

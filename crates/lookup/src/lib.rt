@@ -18,13 +18,6 @@ const SETS: usize = 48;
 
 const SLOTS: usize = 3021;
 
-// A number of the index, as wide as a place.
-fn wide(x: u16) -> usize
-    ensures { (result ≡ x) × (result < 65536) }
-{
-    x as usize
-}
-
 // A byte, as wide as a place.
 fn wide_byte(x: u8) -> usize
     ensures { (result ≡ x) × (result < 256) }
@@ -37,8 +30,8 @@ fn place_of(index: &[u16], set: u8, number: u32) -> usize
     requires { length index.now ≡ 3069 }
     ensures { (result ≡ place_in index.now set number) × (result < 65536) }
 {
-    let shift = wide(index[set as usize]);
-    wide(index[SETS + (shift + (number as usize)) % SLOTS])
+    let shift = index[set as usize] as usize;
+    index[SETS + (shift + number as usize) % SLOTS] as usize
 }
 
 // Where the text of a number in a set stands: there can be one place alone, and what stands there is tested before it is believed.

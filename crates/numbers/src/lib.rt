@@ -22,34 +22,34 @@ fn in_function(function: u32) -> Numbers
 }
 
 // How many functions have begun, and how many blocks of the last of them, with a record of a tag more.
+#[tactic(auto, unfolding(spec::specs::Numbers::onward))]
 fn onward(tag: u32, n: Numbers) -> Numbers
     requires { (n.function < 4294967295) × (n.block < 4294967295) }
     ensures { result ≡ onward_by tag n }
 {
-    if tag == tags::FUNCTION {
-        let function = n.function + 1;
-        let block = 0;
-        return Numbers { function, block };
+    match tag {
+        tags::FUNCTION => Numbers {
+            function: n.function + 1,
+            block: 0,
+        },
+        tags::LABEL => Numbers {
+            block: n.block + 1,
+            ..n
+        },
+        _ => n,
     }
-    if tag == tags::LABEL {
-        let function = n.function;
-        let block = n.block + 1;
-        return Numbers { function, block };
-    }
-    n
 }
 
 // The numbers of a record of a tag, where so many have begun with it.
+#[tactic(auto, unfolding(spec::specs::Numbers::numbers_of))]
 fn numbers_of(tag: u32, n: Numbers) -> Numbers
     ensures { result ≡ numbers_of tag n }
 {
-    if (tags::LABEL <= tag) & (tag <= tags::BLOCK) {
-        return n;
+    match tag {
+        tags::LABEL..=tags::BLOCK => n,
+        tags::FUNCTION..=tags::FUNCTION_END => in_function(n.function),
+        _ => in_function(0),
     }
-    if (tags::FUNCTION <= tag) & (tag <= tags::FUNCTION_END) {
-        return in_function(n.function);
-    }
-    in_function(0)
 }
 
 // A record of a tag, where so many have begun before it.

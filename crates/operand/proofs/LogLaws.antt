@@ -70,7 +70,7 @@ module _ (l l₁ : List ℕ) (at : ℕ) (p : Parts) (e : l₁ ≡ sets (set l at
   first = e ∙ ap (λ (k : ℕ). sets (set l at p.kind) k (bytes_of (p.value % 4294967296))) (add-one at)
 
   -- no byte more or less
-  pub first_length : length l₁ ≡ length l
+  first_length : length l₁ ≡ length l
   first_length = ap length first ∙ length-sets l at (p.kind ∷ bytes_of (p.value % 4294967296))
 
   -- there is room for the second word
@@ -81,10 +81,6 @@ module _ (l l₁ : List ℕ) (at : ℕ) (p : Parts) (e : l₁ ≡ sets (set l at
   pub stored_one : is_two p.kind ≡ false → l₁ ≡ sets l at (record_of p)
   unfolding record_of record_by
   stored_one f = first ∙ ap (λ (bs : List ℕ). sets l at (p.kind ∷ bs)) (bytes_low p.value) ∙ simp f
-
-  -- no byte more or less after the second word
-  pub second_length : (l₂ : List ℕ) → l₂ ≡ sets l₁ (at + 5) (bytes_of (p.value / 4294967296)) → length l₂ ≡ length l
-  second_length l₂ g = ap length g ∙ length-sets l₁ (at + 5) (bytes_of (p.value / 4294967296)) ∙ first_length
 
   -- the second word follows
   pub stored_two : (l₂ : List ℕ) → l₂ ≡ sets l₁ (at + 5) (bytes_of (p.value / 4294967296)) → is_two p.kind ≡ true → l₂ ≡ sets l at (record_of p)

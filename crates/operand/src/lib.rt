@@ -201,17 +201,14 @@ pub fn operand_of(kind: u8, value: u64) -> Operand
 pub fn is_two(kind: u8) -> bool
     ensures { result ≡ is_two kind }
 {
-    (kind == kinds::INT64) | (kind == kinds::FLOAT64) | (kind == kinds::STRING)
+    matches!(kind, kinds::INT64 | kinds::FLOAT64 | kinds::STRING)
 }
 
 // How long an operand's record is.
 pub fn record_length(p: Parts) -> usize
     ensures { result ≡ record_length p }
 {
-    if is_two(p.kind) {
-        return 9;
-    }
-    5
+    if is_two(p.kind) { 9 } else { 5 }
 }
 
 // An operand's record, stored at a place.
@@ -219,12 +216,10 @@ fn put_record(log: &mut [u8], at: usize, p: Parts)
     requires { at + record_length p ≤ length log.old }
     ensures { log.new ≡ sets log.old at (record_of p) }
 {
-    let kind = p.kind;
-    let value = p.value;
-    log[at] = kind;
-    words::put_word(log, at + 1, (value % 4294967296) as u32);
-    if is_two(kind) {
-        words::put_word(log, at + 5, (value / 4294967296) as u32);
+    log[at] = p.kind;
+    words::put_word(log, at + 1, (p.value % 4294967296) as u32);
+    if is_two(p.kind) {
+        words::put_word(log, at + 5, (p.value / 4294967296) as u32);
     }
 }
 

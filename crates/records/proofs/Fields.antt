@@ -12,12 +12,8 @@ use lib.ListN.{length, take, drop, get_or, set}
 use lib.Seq.{sets, get_or-drop, take_all, take-length, length-take-le}
 use Rattle.spec.specs.declared.State.{State}
 use Rattle.spec.specs.declared.State.TheVariants.{Outside, Function, Block}
-use Rattle.spec.specs.declared.Cell.{Cell}
-use Rattle.spec.specs.declared.Cell.TheVariants.{Tagged, Refuses}
 use Rattle.spec.specs.declared.Fields.{Fields}
 use Rattle.spec.specs.declared.Numbers.{Numbers}
-use Rattle.spec.specs.declared.Found.{Found}
-use Rattle.spec.specs.declared.Found.TheVariants.{At, Nothing}
 use Rattle.std.specs.Prelude.{if◌then◌else◌}
 use Rattle.spec.specs.Base.{every}
 use Rattle.spec.specs.Text.{until_zero, is_utf8}
@@ -28,6 +24,8 @@ use Rattle.spec.proofs.Store.{sets_append}
 use Rattle.text.specs.Zero.{zero_after, zero_in}
 use Rattle.records.specs.Good.{numbers_at}
 use Rattle.records.specs.Steps.{fields_hold, offset_after, is_string, tag_by, tag_after, is_outside, word_if, at_most}
+use Rattle.spec.specs.Layout.{Cell}
+use Rattle.std.specs.Prelude.{Err, Ok}
 
 -- the words of the record at a place
 pub fields_drop : (ws : List ℕ) (at : ℕ)
@@ -92,18 +90,18 @@ module _ (at : ℕ) (f : Fields) where
 
 module _ (s : State) (f : Fields) (cell : Cell) (p : cell ≡ layout_of (f.head % 65536) s) where
   -- a cell that refuses
-  pub tag_refused : (n : ℕ) → cell ≡ Refuses n → None ≡ tag_after s f
+  pub tag_refused : (n : ℕ) → cell ≡ Err n → None ≡ tag_after s f
   unfolding tag_after tag_by
   tag_refused n q = ap (tag_by f.tag) (sym q ∙ p)
 
   -- another tag than the cell's
-  pub tag_other : (t : ℕ) (x : State) → cell ≡ Tagged t x → (f.tag ≡ t → ⊥) → None ≡ tag_after s f
+  pub tag_other : (t : ℕ) (x : State) → cell ≡ Ok (t, x) → (f.tag ≡ t → ⊥) → None ≡ tag_after s f
   unfolding tag_after tag_by
   tag_other t x q n =
       ap (λ (b : Bool). if b then Some x else None) (sym (ne_eqb f.tag t n)) ∙ ap (tag_by f.tag) (sym q ∙ p)
 
   -- the cell's tag
-  pub tag_right : (t : ℕ) (x : State) → cell ≡ Tagged t x → f.tag ≡ t → Some x ≡ tag_after s f
+  pub tag_right : (t : ℕ) (x : State) → cell ≡ Ok (t, x) → f.tag ≡ t → Some x ≡ tag_after s f
   unfolding tag_after tag_by
   tag_right t x q e =
       ap (λ (b : Bool). if b then Some x else None) (sym (eq-eqb f.tag t e)) ∙ ap (tag_by f.tag) (sym q ∙ p)
@@ -137,19 +135,19 @@ zero_free [] = refl
 zero_free (b ∷ s) = free_cons b s (eqb b 0) (until_zero s) refl refl (zero_free s)
 
 -- the answer of the search decides
-free_by : (o : Option (List ℕ)) (x : Found) → x ≡ zero_after o → (t : Bool) → is_none o ≡ t → ((i : ℕ) → x ≡ At i → t ≡ false) × (x ≡ Nothing → t ≡ true)
+free_by : (o : Option (List ℕ)) (x : Option ℕ) → x ≡ zero_after o → (t : Bool) → is_none o ≡ t → ((i : ℕ) → x ≡ Some i → t ≡ false) × (x ≡ None → t ≡ true)
 unfolding zero_after is_none
 free_by None x e t f = (λ i g. let z : ◌≡◌ {A = ℕ} 0 1 = cc in absurd (omega arith), λ g. sym f)
 free_by (Some bs) x e t f = (λ i g. sym f, λ g. let z : ◌≡◌ {A = ℕ} 0 1 = cc in absurd (omega arith))
 
-module _ (s : List ℕ) (x : Found) (e : x ≡ zero_in s) where
+module _ (s : List ℕ) (x : Option ℕ) (e : x ≡ zero_in s) where
   -- a zero byte
-  pub string_zero : (i : ℕ) → x ≡ At i → false ≡ is_string s
+  pub string_zero : (i : ℕ) → x ≡ Some i → false ≡ is_string s
   unfolding is_string zero_in
   string_zero i q = ap (λ (t : Bool). t && is_utf8 s) (sym (zero_free s ∙ (free_by (until_zero s) x e _ refl).0 i q))
 
   -- none
-  pub string_utf8 : x ≡ Nothing → (t : Bool) → t ≡ is_utf8 s → t ≡ is_string s
+  pub string_utf8 : x ≡ None → (t : Bool) → t ≡ is_utf8 s → t ≡ is_string s
   unfolding is_string zero_in
   string_utf8 q t g = g ∙ ap (λ (t : Bool). t && is_utf8 s) (sym (zero_free s ∙ (free_by (until_zero s) x e _ refl).1 q))
 

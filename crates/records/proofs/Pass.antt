@@ -12,21 +12,19 @@ use lib.ListN.{length, take, drop, length-drop}
 use lib.Seq.{drop-drop}
 use Rattle.spec.specs.declared.State.{State}
 use Rattle.spec.specs.declared.State.TheVariants.{Outside}
-use Rattle.spec.specs.declared.Cell.{Cell}
-use Rattle.spec.specs.declared.Cell.TheVariants.{Tagged, Refuses}
 use Rattle.spec.specs.declared.Fields.{Fields}
 use Rattle.std.specs.Prelude.{if◌then◌else◌}
 use Rattle.spec.specs.Records.{Placed, field_size, fields_at}
 use Rattle.spec.specs.Layout.{layout_of, end_number}
 use Rattle.spec.specs.Check.{lower, records_of, missing, fields_good, fields_fault, Left, take_record, on_record, scan_from, on_tag, tags_fault, fault_of}
 use Rattle.records.specs.declared.Asked.{Asked}
-use Rattle.records.specs.declared.Checked.{Checked}
-use Rattle.records.specs.declared.Checked.TheVariants.{Bad}
 use Rattle.records.specs.declared.Passed.{Passed}
 use Rattle.records.specs.Steps.{given, checked_is, end_answer, at_most, left_at, offset_after, operands_after, tag_by, tag_after, is_outside, missing_from, faults_from, fault_in}
 use Rattle.records.proofs.Fields.{take_most}
 use Rattle.records.proofs.Operands.{has_yes, has_no, passes_none, record_passes}
 use Rattle.records.proofs.Lowest.{lowest_1, lowest_2, lowest_3, lowest_4, both_ends, missing_late, fields_late, scan_late, tags_late}
+use Rattle.spec.specs.Layout.{Cell}
+use Rattle.std.specs.Prelude.{Err, Ok}
 
 -- THE RECORDS
 
@@ -99,8 +97,8 @@ tag_if i s more false u x e = (λ g. let z : ◌≡◌ {A = ℕ} 0 1 = cc in abs
 tag_told : (i tag : ℕ) (s : State) (more : State → Option ℕ) (c : Cell) (x : Option State) → x ≡ tag_by tag c
     → (x ≡ Some s → on_tag i tag c more ≡ more s) × (x ≡ None → on_tag i tag c more ≡ Some i)
 unfolding tag_by
-tag_told i tag s more (Tagged t u) x e = tag_if i s more (eqb tag t) u x e
-tag_told i tag s more (Refuses n) x e = (λ g. let z : ◌≡◌ {A = ℕ} 0 1 = cc in absurd (omega arith), λ g. refl)
+tag_told i tag s more (Ok (t, u)) x e = tag_if i s more (eqb tag t) u x e
+tag_told i tag s more (Err n) x e = (λ g. let z : ◌≡◌ {A = ℕ} 0 1 = cc in absurd (omega arith), λ g. refl)
 
 -- THE PASS
 
@@ -205,12 +203,12 @@ module _ {q : Asked} {ws log strings : List ℕ} {i at a b : ℕ} {s : State} (s
     (r : Checking q ws log strings i at a b s) where
   -- an answer that names the record
   bad_here : faults_from q (suc i) (q.count - i) at (left_at log strings a b) s (records_of q.size (q.count - i) (drop (q.size * i) ws)) ≡ Some (suc i)
-      → checked_is (Bad (i + 1)) ≡ fault_in q ws log strings
+      → checked_is (Some (i + 1)) ≡ fault_in q ws log strings
   unfolding checked_is
   bad_here e = ap Some (add-one i) ∙ sym (r.fault ∙ e)
 
   -- a record that does not lie wholly in the store
-  pub check_missing : i < q.count → length ws / q.size ≤ i → checked_is (Bad (i + 1)) ≡ fault_in q ws log strings
+  pub check_missing : i < q.count → length ws / q.size ≤ i → checked_is (Some (i + 1)) ≡ fault_in q ws log strings
   check_missing h g =
       let n : q.count - i ≡ suc (q.count - (i + 1)) = omega arith in
       bad_here
@@ -231,16 +229,16 @@ module _ {q : Asked} {ws log strings : List ℕ} {i at a b : ℕ} {s : State} (s
         ∙ ap (λ (n : ℕ). faults_from q (suc i) n at (left_at log strings a b) s (f ∷ records_of q.size (q.count - (i + 1)) (drop (q.size * (i + 1)) ws))) n
 
     -- its fields are bad
-    pub check_fields : (x : Option ℕ) → x ≡ offset_after at f → x ≡ None → checked_is (Bad (i + 1)) ≡ fault_in q ws log strings
+    pub check_fields : (x : Option ℕ) → x ≡ offset_after at f → x ≡ None → checked_is (Some (i + 1)) ≡ fault_in q ws log strings
     check_fields x c d = bad_here (first ∙ faults_fields q log strings (suc i) at a b s f _ (q.count - (i + 1)) x c d)
 
     -- its operands are bad
     pub check_operands : (x : Option Passed) → x ≡ operands_after f (left_at log strings a b) → x ≡ None
-        → checked_is (Bad (i + 1)) ≡ fault_in q ws log strings
+        → checked_is (Some (i + 1)) ≡ fault_in q ws log strings
     check_operands x c d = bad_here (first ∙ faults_operands q log strings (suc i) at a b s f _ (q.count - (i + 1)) x c d)
 
     -- its tag is bad
-    pub check_tag : (x : Option State) → x ≡ tag_after s f → x ≡ None → checked_is (Bad (i + 1)) ≡ fault_in q ws log strings
+    pub check_tag : (x : Option State) → x ≡ tag_after s f → x ≡ None → checked_is (Some (i + 1)) ≡ fault_in q ws log strings
     check_tag x c d = bad_here (first ∙ faults_tag q log strings (suc i) at a b s f _ (q.count - (i + 1)) x c d)
 
     -- it is good
@@ -279,12 +277,12 @@ module _ {q : Asked} {ws log strings : List ℕ} {i at a b : ℕ} {s : State} (s
         ∙ ap (λ (x : Bool). if eqb a q.log && eqb b q.strings && (not q.whole || x) then None else Some (suc i)) (sym e))
 
     -- the answer
-    pub check_ends : (x : Checked) → x ≡ end_answer ended (i + 1) → checked_is x ≡ fault_in q ws log strings
+    pub check_ends : (x : Option ℕ) → x ≡ end_answer ended (i + 1) → checked_is x ≡ fault_in q ws log strings
     check_ends x c = ap checked_is c ∙ end_is ended i ∙ ends
 
 -- log and strings up to their counts
 pub check_whole : (q : Asked) (ws log strings : List ℕ) (le se : ℕ) → le ≡ at_most q.log (length log) → se ≡ at_most q.strings (length strings)
-    → (x : Checked) → checked_is x ≡ fault_in q ws (take le log) (take se strings)
+    → (x : Option ℕ) → checked_is x ≡ fault_in q ws (take le log) (take se strings)
     → checked_is x ≡ fault_of q.size q.whole (given ws log strings q.count q.log q.strings)
 unfolding fault_of fault_in faults_from missing_from missing left_at
 check_whole q ws log strings le se c d x e =

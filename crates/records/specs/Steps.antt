@@ -3,8 +3,6 @@ use Rattle.std.specs.Prelude.{ℕ, ◌+◌, ◌*◌, ◌%◌, Bool, true, false,
 use Rattle.std.specs.Prelude.{Option, None, Some}
 use Rattle.spec.specs.declared.State.{State}
 use Rattle.spec.specs.declared.State.TheVariants.{Outside}
-use Rattle.spec.specs.declared.Cell.{Cell}
-use Rattle.spec.specs.declared.Cell.TheVariants.{Tagged, Refuses}
 use Rattle.spec.specs.declared.Fields.{Fields}
 use Rattle.spec.specs.Base.{implies, has, every}
 use Rattle.spec.specs.Text.{is_utf8, text_words}
@@ -12,9 +10,9 @@ use Rattle.spec.specs.Records.{Operand, operand_size, operands_size}
 use Rattle.spec.specs.Layout.{layout_of, end_number}
 use Rattle.spec.specs.Check.{Given, lower, records_of, bits_in, fields_good, fields_fault, Left, take_record, scan_from, tags_fault}
 use Rattle.records.specs.declared.Asked.{Asked}
-use Rattle.records.specs.declared.Checked.{Checked}
-use Rattle.records.specs.declared.Checked.TheVariants.{Good, Bad}
 use Rattle.records.specs.declared.Passed.{Passed}
+use Rattle.spec.specs.Layout.{Cell}
+use Rattle.std.specs.Prelude.{Err, Ok}
 
 -- stores and counts that are given
 abbrev pub given : List ℕ → List ℕ → List ℕ → ℕ → ℕ → ℕ → Given
@@ -29,14 +27,14 @@ given instructions log strings count log_count string_count =
     }
 
 -- the fault that an answer of the check names
-unfoldable pub checked_is : Checked → Option ℕ
-checked_is Good = None
-checked_is (Bad i) = Some i
+unfoldable pub checked_is : Option ℕ → Option ℕ
+checked_is None = None
+checked_is (Some i) = Some i
 
 -- the answer at the end: good, or bad at an index
-unfoldable pub end_answer : Bool → ℕ → Checked
-end_answer true i = Good
-end_answer false i = Bad i
+unfoldable pub end_answer : Bool → ℕ → Option ℕ
+end_answer true i = None
+end_answer false i = Some i
 
 -- the lower of two numbers
 unfoldable pub at_most : ℕ → ℕ → ℕ
@@ -105,8 +103,8 @@ operands_after f l = passed_by (λ p. operands_size p.instr.operands) (take_reco
 
 -- the state after a tag that a cell of the table gives
 unfoldable pub tag_by : ℕ → Cell → Option State
-tag_by tag (Tagged t s) = if eqb tag t then Some s else None
-tag_by tag (Refuses n) = None
+tag_by tag (Ok (t, s)) = if eqb tag t then Some s else None
+tag_by tag (Err n) = None
 
 -- the state after a record's tag
 unfoldable pub tag_after : State → Fields → Option State

@@ -12,7 +12,7 @@ ghost use Rattle.records.specs.Steps.{given, checked_is, end_answer, left_at, fi
 ghost use Rattle.records.specs.Good.{numbers_at, Whole, Logged};
 
 use operand::{Parts, is_two};
-use spec::{Cell, Fields, Found, Numbers, State, kinds};
+use spec::{Cell, Fields, Numbers, State, kinds};
 
 // How many words the fields of an instruction record have, which were last season's whole record.
 pub const FIELDS: usize = 8;
@@ -85,13 +85,6 @@ pub fn put_record(instructions: &mut [u32], at: usize, f: Fields, n: Numbers)
 
 // THE CHECK
 
-// What the check comes to: good records, or the index of the first that is bad (count + 1 for the end).
-#[derive(Clone, Copy)]
-pub enum Checked {
-    Good,
-    Bad(usize),
-}
-
 // 1. FIELDS AND OFFSETS
 
 // Whether the presence bits are known, and no result field is there without its bit.
@@ -137,7 +130,7 @@ fn is_string(s: &[u8]) -> bool
         return true;
     }
     let found = text::zero(s);
-    let Found::Nothing = found else {
+    let None = found else {
         return false;
     };
     text::utf8(s)
@@ -314,7 +307,7 @@ fn tag_after(kinds: &[u8; 256], table: &[[u8; 3]; 19], s: State, f: Fields) -> O
     ensures { result ≡ tag_after s f }
 {
     let cell = reflect::place(kinds, table, (f.head % 65536) as u16, s);
-    let Cell::Tagged(tag, next) = cell else {
+    let Ok((tag, next)) = cell else {
         return None;
     };
     if f.tag == (tag as u32) {
@@ -334,13 +327,13 @@ fn is_outside(s: State) -> bool
 
 // The answer where all records are passed: the end is good, or bad at an index.
 #[tactic(auto, unfolding(crate::specs::Steps::end_answer))]
-fn at_end(good: bool, index: usize) -> Checked
+fn at_end(good: bool, index: usize) -> Option<usize>
     ensures { result ≡ end_answer good index }
 {
     if good {
-        return Checked::Good;
+        return None;
     }
-    Checked::Bad(index)
+    Some(index)
 }
 
 // What is asked for: whether the records are to end outside functions, how many words a record has, how many records, log bytes and
@@ -363,7 +356,7 @@ fn first_fault<const ASCII: bool>(
     instructions: &[u32],
     log: &[u8],
     strings: &[u8],
-) -> Checked
+) -> Option<usize>
     requires table_value { (table.now ≡ layout_table) × (kinds.now ≡ kind_table) }
     requires field_size_le_size { field_size ≤ asked.size }
     requires strings_value { ASCII ≡ true → is_ascii_text strings.now ≡ true }
@@ -377,13 +370,13 @@ fn first_fault<const ASCII: bool>(
     for i in 0..asked.count.min(there) {
         let f = fields_at(instructions, asked.size * i);
         let Some(next_s) = tag_after(kinds, table, s, f) else {
-            return Checked::Bad(i + 1);
+            return Some(i + 1);
         };
         let Some(next_at) = offset_after(at, f) else {
-            return Checked::Bad(i + 1);
+            return Some(i + 1);
         };
         let Some(passed) = operands_after(ASCII, log, strings, a, b, f) else {
-            return Checked::Bad(i + 1);
+            return Some(i + 1);
         };
         at = next_at;
         a = passed.log;
@@ -391,7 +384,7 @@ fn first_fault<const ASCII: bool>(
         s = next_s;
     }
     if there < asked.count {
-        return Checked::Bad(there + 1);
+        return Some(there + 1);
     }
     let good = (a == asked.log) & (b == asked.strings) & (!asked.whole | is_outside(s));
     at_end(good, asked.count + 1)
@@ -415,7 +408,7 @@ pub fn check_of(
     count: usize,
     log_count: usize,
     string_count: usize,
-) -> Checked
+) -> Option<usize>
     requires { field_size ≤ size }
     ensures { checked_is result ≡ fault_of size whole (given instructions.now log.now strings.now count log_count string_count) }
 {
@@ -447,7 +440,7 @@ pub fn check(
     count: usize,
     log_count: usize,
     string_count: usize,
-) -> Checked
+) -> Option<usize>
     ensures { checked_is result ≡ fault_of record_size whole (given instructions.now log.now strings.now count log_count string_count) }
 {
     check_of(

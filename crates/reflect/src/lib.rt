@@ -107,10 +107,7 @@ fn kind_by(kinds: &[u8; 256], opcode: u16) -> u8
 pub fn is_type(opcode: u16) -> bool
     ensures { result ≡ is_type opcode }
 {
-    match opcode {
-        19..=39 | 4472 | 5341 => true,
-        _ => false,
-    }
+    matches!(opcode, 19..=39 | 4472 | 5341)
 }
 
 // The column of a state in the layout table.

@@ -14,12 +14,5 @@ pub fn are_apart(owners: &[bool; 256], used: &[bool; 256]) -> bool
     requires { (length owners.now ≡ 256) × (length used.now ≡ 256) }
     ensures { result ≡ is_apart owners.now used.now }
 {
-    let mut k: usize = 0;
-    while k < 256 {
-        if owners[k] & used[k] {
-            return false;
-        }
-        k = k + 1;
-    }
-    true
+    !owners.iter().zip(used.iter()).any(|(o, u)| *o & *u)
 }

@@ -49,7 +49,7 @@ fn literal_rule(op: u16, p: Passed, k: u8, q: u8) -> bool
     ensures { (before : List Slot) → p ≡ passed_of before → result ≡ literal_rule op before k q }
 {
     ((k != kinds::TYPED_LITERAL)
-        | (((op == opcodes::CONSTANT) | (op == opcodes::SPEC_CONSTANT)) & (q == ONE) & p.typed))
+        | (matches!(op, opcodes::CONSTANT | opcodes::SPEC_CONSTANT) & (q == ONE) & p.typed))
         & ((k != kinds::LITERAL_AND_ID)
             | ((op == opcodes::SWITCH) & (q == ZERO_OR_MORE) & (p.lead == SELECTOR)))
         & ((k != kinds::EMBEDDED) | ((op == opcodes::SPEC_CONSTANT_OP) & (q == ONE)))
@@ -96,17 +96,19 @@ pub fn row_end(op: u16, p: Passed) -> bool
 }
 
 // A kind that no rule on kinds is about: one that a parameter may have, or a pair that starts with an id.
+#[tactic(auto, unfolding(crate::specs::Rules::is_free))]
 fn is_free(k: u8) -> bool
     ensures { result ≡ is_free k }
 {
-    may_be_parameter(k) | ((50 <= k) & (k <= 51))
+    may_be_parameter(k) | matches!(k, 50..=51)
 }
 
 // A row that is fixed: 21 or 22.
+#[tactic(auto, unfolding(crate::specs::Rules::is_fixed))]
 fn is_fixed(op: u16) -> bool
     ensures { result ≡ is_fixed op }
 {
-    (op == opcodes::TYPE_INT) | (op == opcodes::TYPE_FLOAT)
+    matches!(op, opcodes::TYPE_INT | opcodes::TYPE_FLOAT)
 }
 
 // The next operand of a row, after those before it: most are results or of kinds that are free, in rows that are not fixed.
@@ -180,12 +182,12 @@ pub fn with_one(p: Passed, k: u8, q: u8) -> Passed
         return Passed {
             count,
             typed: p.typed | first,
-            lead: p.lead,
+            ..p
         };
     }
     Passed {
         count,
-        typed: p.typed,
         lead: lead_with(p.lead, k, q),
+        ..p
     }
 }

@@ -10,7 +10,7 @@ ghost use Rattle.steps.specs.Steps.{said_at, fields_by, Bounded, Moderate};
 
 use parser::Decoded;
 use spec::{Counts, Fields, Loaded, Numbers, Refusal, State, refusals};
-use tracker::{TypeTracker};
+use tracker::TypeTracker;
 use used::id_of;
 
 // Where a load stands: the place of the next instruction, what is kept so far, the functions and blocks that have begun, the state of the

@@ -1,36 +1,27 @@
--- Laws of ASCII text: how the loop over it goes, that no byte is zero, and that it is UTF-8.
-use Prim.Native.Nat.{ℕ, zero, suc, ◌+◌, ◌<◌, ◌≤◌}
+-- Laws of ASCII text: how the fold over it goes, that no byte is zero, and that it is UTF-8.
+use Prim.Native.Nat.{ℕ, zero, suc, ◌<◌, ◌≤◌}
 use mathlib.Core.Path.{◌≡◌, refl, ap, sym, subst, ◌∙◌}
 use mathlib.Core.Bool.{Bool, true, not, ◌&&◌, and_assoc, and-true}
-use mathlib.Core.List.{List, [], ◌∷◌}
+use mathlib.Core.List.{List, [], ◌∷◌, ◌++◌}
 use Rattle.std.specs.Prelude.{Option, Some}
 use native.Mathlib.Omega.{arith}
 use borrow.Author.Tests.{le-leb, ne_eqb}
 use lib.Dec.{T, leb, ltb, leb→le, ltb→lt, eqb}
-use lib.ListN.{length, take, drop, get_or, drop_of_length-le}
+use lib.ListN.{take, drop}
 use lib.Ieee.Fits.{and_i}
 use mir.Facts.{and_yes}
 use Rattle.std.specs.Prelude.{if◌then◌else◌}
 use Rattle.spec.specs.Base.{every}
 use Rattle.spec.specs.Text.{Due, due, utf8_table, lead_of, due_after, on_due, utf8_from, is_utf8}
 use Rattle.text.specs.AsciiText.{is_ascii_text}
-use Rattle.text.proofs.Laws.{rest}
 
--- THE LOOP
+-- THE FOLD
 
--- one byte further
-pub ascii_turn : (s : List ℕ) (i : ℕ) (t : Bool) → i < length s → is_ascii_text s ≡ (t && is_ascii_text (drop i s))
-    → is_ascii_text s ≡ (((t && leb 1 (get_or s i 0)) && ltb (get_or s i 0) 128) && is_ascii_text (drop (i + 1) s))
+-- one byte more
+pub ascii_more : (s : List ℕ) (b : ℕ) → is_ascii_text (s ++ (b ∷ [])) ≡ ((is_ascii_text s && leb 1 b) && ltb b 128)
 unfolding is_ascii_text
-ascii_turn s i t h e =
-    e
-    ∙ ap (λ (l : List ℕ). t && is_ascii_text l) (rest s i h)
-    ∙ simp and_assoc
-
--- all of them
-pub ascii_end : (s : List ℕ) (i : ℕ) (t : Bool) → length s ≤ i → is_ascii_text s ≡ (t && is_ascii_text (drop i s)) → t ≡ is_ascii_text s
-unfolding is_ascii_text
-ascii_end s i t h e = sym (e ∙ ap (λ (l : List ℕ). t && is_ascii_text l) (drop_of_length-le s {i = i} h) ∙ and-true t)
+ascii_more [] b = and-true _
+ascii_more (x ∷ s) b = ap (λ (t : Bool). (leb 1 x && ltb x 128) && t) (ascii_more s b) ∙ simp and_assoc
 
 -- WHAT THEY ARE
 

@@ -3,7 +3,7 @@ use Prim.Native.Nat.{ℕ, zero, suc, ◌+◌, ◌-◌, ◌<◌, ◌≤◌}
 use mathlib.Core.Path.{◌≡◌, refl, ap, sym, ◌∙◌}
 use mathlib.Core.Bool.{Bool, true, false}
 use mathlib.Core.List.{List, [], ◌∷◌, map}
-use Rattle.std.specs.Prelude.{Option, None, Some}
+use Rattle.std.specs.Prelude.{Option, None, Some, option_map}
 use native.Mathlib.Omega.{arith}
 use native.Mathlib.Numerals.{add-one}
 use borrow.Author.Tests.{ne_eqb}
@@ -13,9 +13,7 @@ use Rattle.std.specs.Prelude.{if◌then◌else◌}
 use Rattle.spec.specs.Base.{within}
 use Rattle.spec.specs.Text.{Utf8Row, lead, Due, due, utf8_table, lead_of, due_after, on_due, utf8_from, is_utf8}
 use Rattle.text.specs.declared.Pending.{Pending}
-use Rattle.text.specs.declared.Step.{Step}
-use Rattle.text.specs.declared.Step.TheVariants.{Bad, More}
-use Rattle.text.specs.Steps.{row_of, utf8_rows, due_of, step_to, first_of}
+use Rattle.text.specs.Steps.{row_of, utf8_rows, due_of, pending_of, first_of}
 use Rattle.text.proofs.Laws.{rest}
 use Rattle.text.proofs.AsciiText.{whole_byte}
 
@@ -54,18 +52,18 @@ module _ {b i : ℕ} (w : Walked b i) (rows : List (List ℕ)) (e : rows ≡ utf
 
   -- at a row that has the byte
   pub walk_finds : i < 9 → within (number rows i 0) b (number rows i 1) ≡ true
-      → More (record { left = number rows i 2; low = number rows i 3; high = number rows i 4 }) ≡ first_of b
-  unfolding first_of step_to
-  walk_finds h f = sym (ap step_to (here_row h true f))
+      → Some (record { left = number rows i 2; low = number rows i 3; high = number rows i 4 }) ≡ first_of b
+  unfolding first_of
+  walk_finds h f = sym (ap (option_map pending_of) (here_row h true f))
 
   -- past a row that does not
   pub walk_goes_on : i < 9 → within (number rows i 0) b (number rows i 1) ≡ false → Walked b (i + 1)
   walk_goes_on h f = record { answer = rw (add-one i) (here_row h false f) }
 
 -- after the last row
-pub walk_ends : {b i : ℕ} → Walked b i → 9 ≤ i → Bad ≡ first_of b
-unfolding first_of step_to lead_of
-walk_ends {b} w h = sym (ap step_to (w.answer ∙ ap (lead_of b) (drop_of_length-le utf8_table h)))
+pub walk_ends : {b i : ℕ} → Walked b i → 9 ≤ i → None ≡ first_of b
+unfolding first_of lead_of
+walk_ends {b} w h = sym (ap (option_map pending_of) (w.answer ∙ ap (lead_of b) (drop_of_length-le utf8_table h)))
 
 -- WHAT A BYTE LEADS TO
 
@@ -83,19 +81,17 @@ due_next (suc n) lo hi b t z e =
     let q : n ≡ suc n - 1 = omega arith in
     simp e (ap (λ (m : ℕ). if t then Some (due m 128 191) else None) q)
 
--- where the answer is that more is due, so much is due
-step_more : (o : Option Due) (p : Pending) → step_to o ≡ More p → o ≡ Some (due_of p)
-unfolding step_to
-step_more None p e = let z : ◌≡◌ {A = ℕ} 0 1 = cc in absurd (omega arith)
+-- where the answer is that so much is due, so much is
+step_more : (o : Option Due) (p : Pending) → option_map pending_of o ≡ Some p → o ≡ Some (due_of p)
+step_more None p e = cc
 step_more (Some (due n lo hi)) p e =
     let q : record { left = n; low = lo; high = hi } ≡ p = cc in
     ap (λ (v : Pending). Some (due_of v)) q
 
 -- where the answer is that the byte may not stand, it may not
-step_bad : (o : Option Due) → step_to o ≡ Bad → o ≡ None
-unfolding step_to
+step_bad : (o : Option Due) → option_map pending_of o ≡ None → o ≡ None
 step_bad None e = refl
-step_bad (Some (due n lo hi)) e = let z : ◌≡◌ {A = ℕ} 0 1 = cc in absurd (omega arith)
+step_bad (Some (due n lo hi)) e = cc
 
 -- HOW THE LOOP GOES
 
@@ -149,14 +145,14 @@ module _ {s : List ℕ} {p : Pending} {i : ℕ} (r : Tested s p i) where
           }
 
       -- past a first byte after which so much is due
-      pub test_leads : (x : Step) (q : Pending) → x ≡ first_of (get_or s i 0) → x ≡ More q → Tested s q (i + 1)
+      pub test_leads : (q : Pending) → Some q ≡ first_of (get_or s i 0) → Tested s q (i + 1)
       unfolding first_of
-      test_leads x q e f = record { answer = here (Some (due_of q)) (leads ∙ step_more _ q (sym e ∙ f)) }
+      test_leads q e = record { answer = here (Some (due_of q)) (leads ∙ step_more _ q (sym e)) }
 
       -- at a first byte that may not stand
-      pub test_fails : (x : Step) → x ≡ first_of (get_or s i 0) → x ≡ Bad → false ≡ is_utf8 s
+      pub test_fails : None ≡ first_of (get_or s i 0) → false ≡ is_utf8 s
       unfolding first_of
-      test_fails x e f = sym (here None (leads ∙ step_bad _ (sym e ∙ f)))
+      test_fails e = sym (here None (leads ∙ step_bad _ (sym e)))
 
     module _ (z : p.left ≡ 0 → ⊥) where
       -- where something is due, the range decides

@@ -7,32 +7,20 @@ ghost use Rattle.text.specs.Zero.{zero_in};
 ghost use Rattle.text.specs.AsciiText.{is_ascii_text};
 ghost use Rattle.text.specs.Steps.{utf8_rows, first_of};
 
+
 // Where the first zero byte is.
 pub fn zero(s: &[u8]) -> Option<usize>
     ensures { result ≡ zero_in s.now }
 {
-    let mut at = 0;
-    while at < s.len() {
-        if s[at] == 0 {
-            return Some(at);
-        }
-        at += 1;
-    }
-    None
+    s.iter().position(|b| *b == 0)
 }
 
 // Whether the bytes are ASCII text, each of ASCII and none zero: looked at to the end, so that many go at once.
 pub fn is_ascii_text(s: &[u8]) -> bool
     ensures { result ≡ is_ascii_text s.now }
 {
-    let mut ascii = true;
-    let mut i = 0;
-    while i < s.len() {
-        let b = s[i];
-        ascii = ascii & (1 <= b) & (b < 128);
-        i += 1;
-    }
-    ascii
+    s.iter()
+        .fold(true, |ascii, b| ascii & (1 <= *b) & (*b < 128))
 }
 
 // Unicode's table 3-7, a row for each of its lines: the first byte from and to, how many bytes follow it, the second byte from and
@@ -65,31 +53,21 @@ struct Pending {
     high: u8,
 }
 
-// What the first byte of a character leads to: it may not stand there, or more is due.
-#[derive(Clone, Copy)]
-enum Step {
-    Bad,
-    More(Pending),
-}
-
-// What is due after the first byte of a character: by the row that has it.
-fn first(rows: &[[u8; 5]; 9], b: u8) -> Step
+// What is due after the first byte of a character, by the row that has it; nothing where it may not stand there.
+fn first(rows: &[[u8; 5]; 9], b: u8) -> Option<Pending>
     requires { rows.now ≡ utf8_rows }
     ensures { result ≡ first_of b }
 {
-    let mut i = 0;
-    while i < 9 {
-        let row = rows[i];
+    for row in rows {
         if (row[0] <= b) & (b <= row[1]) {
-            return Step::More(Pending {
+            return Some(Pending {
                 left: row[2],
                 low: row[3],
                 high: row[4],
             });
         }
-        i += 1;
     }
-    Step::Bad
+    None
 }
 
 // Whether the bytes are well-formed UTF-8. ASCII text is, and is told at once; in other strings a byte of the first row, ASCII's, is
@@ -106,13 +84,10 @@ pub fn utf8(s: &[u8]) -> bool
         low: 0x80,
         high: 0xBF,
     };
-    let mut i = 0;
-    while i < s.len() {
-        let b = s[i];
+    for &b in s {
         if p.left == 0 {
             if rows[0][1] < b {
-                let step = first(&rows, b);
-                let Step::More(next) = step else {
+                let Some(next) = first(&rows, b) else {
                     return false;
                 };
                 p = next;
@@ -126,7 +101,6 @@ pub fn utf8(s: &[u8]) -> bool
         } else {
             return false;
         }
-        i += 1;
     }
     p.left == 0
 }

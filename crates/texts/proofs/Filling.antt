@@ -1,5 +1,5 @@
 -- Laws of digits: how many a number has, and those that are put the last first.
-use Prim.Native.Nat.{ℕ, zero, suc, ◌+◌, ◌-◌, ◌/◌, ◌%◌, ◌^◌, ◌<◌, ◌≤◌}
+use Prim.Native.Nat.{ℕ, zero, suc, ◌+◌, ◌-◌, ◌*◌, ◌/◌, ◌%◌, ◌^◌, ◌<◌, ◌≤◌}
 use mathlib.Core.Path.{◌≡◌, refl, ap, sym, subst, ◌∙◌}
 use mathlib.Core.Bool.{Bool, true, false}
 use mathlib.Core.List.{List, [], ◌∷◌, ◌++◌, append-nil, append_assoc}
@@ -7,11 +7,10 @@ use native.Mathlib.Omega.{arith}
 use borrow.Author.Tests.{ltb-true, lt-ltb, le-ltb}
 use lib.Dec.{ltb}
 use lib.ListN.{length, length-append, set}
-use lib.Seq.{sets, length-sets, set_comm}
+use lib.Seq.{sets, set_comm}
 use Rattle.std.specs.Prelude.{if◌then◌else◌}
 use Rattle.spec.specs.Digits.{digits_from, decimal, hex_digit, hex_digits}
-use Rattle.texts.specs.Wrote.{Wrote}
-use Rattle.texts.proofs.Laws.{digits_few, decimal_few}
+use Rattle.texts.proofs.Laws.{digits_few}
 
 -- HOW MANY DIGITS
 
@@ -25,51 +24,22 @@ more_digits : (n v : ℕ) → 10 ≤ v → length (digits_from (suc n) v) ≡ le
 unfolding digits_from
 more_digits n v h = simp (le-ltb v 10 h) (length-append (digits_from n (v / 10)) ((48 + v % 10) ∷ []))
 
--- digits that are counted: the number that is left, and how many it may have
-pub record Counting (v n rest : ℕ) : Type 0 where
-  pub fuel : ℕ
-  pub left : rest < 10 ^ fuel
-  pub more : 1 ≤ fuel
-  pub few : n + fuel ≡ 21
-  pub some : 1 ≤ n
-  pub whole : length (decimal v) + 1 ≡ n + length (digits_from fuel rest)
+-- a number from a power of ten on, below the next
+digits_log : (n k v : ℕ) → k < n → 10 ^ k ≤ v → v < 10 * 10 ^ k → length (digits_from n v) ≡ k + 1
+digits_log zero k v h l u = absurd (omega arith)
+digits_log (suc n) zero v h l u = one_digit n v (omega arith)
+digits_log (suc n) (suc k) v h l u =
+    let t : 10 ≤ v = omega arith in
+    more_digits n v t ∙ ap (λ (m : ℕ). m + 1) (digits_log n k (v / 10) (omega arith) (omega arith) (omega arith)) ∙ omega arith
 
--- none at first
-pub counting_starts : (v : ℕ) → v < 18446744073709551616 → Counting v 1 v
+pub decimal_log : (k v : ℕ) → k < 20 → 10 ^ k ≤ v → v < 10 * 10 ^ k → k + 1 ≡ length (decimal v)
 unfolding decimal
-counting_starts v h = record { fuel = 20; left = omega arith; more = omega arith; few = refl; some = omega arith; whole = omega arith }
+decimal_log k v h l u = sym (digits_log 20 k v h l u)
 
--- the next
-counting_next : (v n rest fuel : ℕ) → rest < 10 ^ fuel → n + fuel ≡ 21 → length (decimal v) + 1 ≡ n + length (digits_from fuel rest) → 10 ≤ rest → Counting v (n + 1) (rest / 10)
-counting_next v n rest zero l f w h = absurd (omega arith)
-counting_next v n rest (suc zero) l f w h = absurd (omega arith)
-counting_next v n rest (suc (suc fuel)) l f w h =
-    record {
-      fuel = suc fuel;
-      left = omega arith;
-      more = omega arith;
-      few = omega arith;
-      some = omega arith;
-      whole = omega (arith, w, more_digits (suc fuel) rest h);
-    }
-
-module _ {v n rest : ℕ} (c : Counting v n rest) where
-  -- one digit more
-  pub counting_on : 10 ≤ rest → Counting v (n + 1) (rest / 10)
-  counting_on h = counting_next v n rest c.fuel c.left c.few c.whole h
-
-  -- they are no more than twenty
-  pub counting_few : n ≤ 21
-  counting_few = omega (arith, c.few)
-
-  -- all are counted
-  pub counting_ends : rest < 10 → n ≡ length (decimal v)
-  unfolding digits_from
-  counting_ends h = by c.fuel c.more c.whole
-    where
-      by : (fuel : ℕ) → 1 ≤ fuel → length (decimal v) + 1 ≡ n + length (digits_from fuel rest) → n ≡ length (decimal v)
-      by zero f w = absurd (omega arith)
-      by (suc fuel) f w = omega (arith, w, one_digit fuel rest h)
+-- zero
+pub decimal_zero : (v : ℕ) → v ≡ 0 → 1 ≡ length (decimal v)
+unfolding decimal
+decimal_zero v z = sym (one_digit 19 v (omega arith))
 
 -- THE DIGITS THEMSELVES
 
@@ -102,10 +72,6 @@ pub counted_digits : (n v : ℕ) → n ≡ length (decimal v) → digits_from n 
 unfolding decimal
 counted_digits n v e = enough_digits n 20 v (omega (arith, e, digits_few 20 v)) (omega (arith, e))
 
--- they are no more than twenty
-pub counted_few : (n v : ℕ) → n ≡ length (decimal v) → n ≤ 20
-counted_few n v e = omega (arith, e, decimal_few v)
-
 -- the last of so many digits, after those of a tenth
 pub digits_last : (i v : ℕ) → length (digits_from i v) ≡ i → 0 < i → digits_from i v ≡ digits_from (i - 1) (v / 10) ++ ((48 + v % 10) ∷ [])
 unfolding digits_from
@@ -131,9 +97,9 @@ unfolding hex_digit
 hex_low d h = simp (lt-ltb d 10 h)
 
 -- one from ten on
-pub hex_high : (d : ℕ) → 10 ≤ d → 55 + d ≡ hex_digit d
+pub hex_high : (d : ℕ) → 10 ≤ d → 65 + (d - 10) ≡ hex_digit d
 unfolding hex_digit
-hex_high d h = simp (le-ltb d 10 h)
+hex_high d h = simp (le-ltb d 10 h) (omega arith)
 
 -- the last digit, after those of a sixteenth
 pub hex_last : (n v d : ℕ) → 0 < n → d ≡ hex_digit (v % 16) → hex_digits n v ≡ hex_digits (n - 1) (v / 16) ++ (d ∷ [])
@@ -172,10 +138,6 @@ filled_starts out at n all front e l =
     record { last = []; whole = e ∙ sym (append-nil front); count = l; ends = omega arith; stored = refl }
 
 module _ {out₀ : List ℕ} {at n : ℕ} {all front : List ℕ} {i : ℕ} {out : List ℕ} (f : Filled out₀ at n all front i out) where
-  -- the output keeps its length
-  pub filled_length : length out ≡ length out₀
-  filled_length = ap length f.stored ∙ length-sets out₀ (at + i) f.last
-
   -- one more
   pub filled_on : 0 < i → (front' : List ℕ) (b : ℕ) → front ≡ front' ++ (b ∷ []) → Filled out₀ at n all front' (i - 1) (set out (at + (i - 1)) b)
   filled_on h front' b e =
@@ -190,18 +152,3 @@ module _ {out₀ : List ℕ} {at n : ℕ} {all front : List ℕ} {i : ℕ} {out 
             ∙ set_before f.last out₀ (at + i) (at + (i - 1)) b (omega arith)
             ∙ ap (λ (j : ℕ). sets (set out₀ (at + (i - 1)) b) j f.last) (sym k);
       }
-
-  -- all are put
-  pub filled_ends : i ≤ 0 → Wrote out₀ out at (at + n) all
-  filled_ends h = by front f.whole f.count
-    where
-      z : at + i ≡ at
-      z = omega arith
-
-      by : (front : List ℕ) → all ≡ front ++ f.last → length front ≡ i → Wrote out₀ out at (at + n) all
-      by [] w c =
-          record {
-            is = f.stored ∙ ap (λ (k : ℕ). sets out₀ k f.last) z ∙ ap (sets out₀ at) (sym w);
-            ends = omega (arith, f.ends, ap length w);
-          }
-      by (x ∷ front) w c = absurd (omega arith)

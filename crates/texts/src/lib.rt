@@ -18,13 +18,10 @@ pub fn put(out: &mut [u8], at: usize, b: u8) -> usize
 pub fn digit_count(v: u64) -> usize
     ensures { result ≡ length (decimal_of v) }
 {
-    let mut n = 1;
-    let mut rest = v;
-    while 10 <= rest {
-        rest = rest / 10;
-        n += 1;
+    match v.checked_ilog10() {
+        Some(log) => log as usize + 1,
+        None => 1,
     }
-    n
 }
 
 // A number's decimal digits, n of them as it has so many: the last first.
@@ -34,11 +31,9 @@ pub fn digits(out: &mut [u8], at: usize, n: usize, v: u64) -> usize
     ensures { Wrote out.old out.new at result (decimal_of v) }
 {
     let mut rest = v;
-    let mut i = n;
-    while 0 < i {
-        i -= 1;
-        out[at + i] = 48 + ((rest % 10) as u8);
-        rest = rest / 10;
+    for i in (0..n).rev() {
+        out[at + i] = b'0' + (rest % 10) as u8;
+        rest /= 10;
     }
     at + n
 }
@@ -56,10 +51,7 @@ fn hex_digit(d: u8) -> u8
     requires { d < 16 }
     ensures { result ≡ hex_digit_of d }
 {
-    if d < 10 {
-        return 48 + d;
-    }
-    55 + d
+    if d < 10 { b'0' + d } else { b'A' + (d - 10) }
 }
 
 // The last n hexadecimal digits of a number: the last first.
@@ -68,11 +60,9 @@ pub fn hex(out: &mut [u8], at: usize, n: usize, v: u64) -> usize
     ensures { Wrote out.old out.new at result (hex_digits n v) }
 {
     let mut rest = v;
-    let mut i = n;
-    while 0 < i {
-        i -= 1;
+    for i in (0..n).rev() {
         out[at + i] = hex_digit((rest % 16) as u8);
-        rest = rest / 16;
+        rest /= 16;
     }
     at + n
 }

@@ -68,16 +68,6 @@ module _ (n m i : ℕ) where
 
 -- A GUESS
 
--- an index that a guess says
-pub guess_soon : (k : ℕ) → k < 65535 → k + 1 ≡ guess_for k
-unfolding guess_for
-guess_soon k h = simp (lt-ltb k 65535 h)
-
--- one that comes too late for it
-pub guess_late : (k : ℕ) → 65535 ≤ k → 65535 ≡ guess_for k
-unfolding guess_for
-guess_late k h = simp (le-ltb k 65535 h)
-
 -- a guess is not 0, by whether it says its index
 guess_some_by : (k : ℕ) (t : Bool) → (if t then k + 1 else 65535) ≡ 0 → ⊥
 guess_some_by k true e = omega arith
@@ -89,16 +79,6 @@ unfolding guess_for
 guess_some k = guess_some_by k (ltb k 65535)
 
 module _ (n : ℕ) (l : List ℕ) (g i : ℕ) where
-  -- a guess that is an entry's
-  pub own_in : g ≤ n → eqb (get_or l (3 * (g - 1)) 0) i ≡ is_own n l g i
-  unfolding is_own
-  own_in h = simp (le-leb g n h)
-
-  -- one that is none's
-  pub own_past : n < g → false ≡ is_own n l g i
-  unfolding is_own
-  own_past h = simp (lt-leb g n h)
-
   -- the entry of a guess is the id's, by whether it is an entry's
   own_says_by : (a b : Bool) → leb g n ≡ a → eqb (get_or l (3 * (g - 1)) 0) i ≡ b → (a && b) ≡ true → (g ≤ n) × (get_or l (3 * (g - 1)) 0 ≡ i)
   own_says_by true true p q e = (leb-true g n p, eqb-true (get_or l (3 * (g - 1)) 0) i q)

@@ -45,7 +45,7 @@ fn mark(hints: &mut [u16], marks: usize, id: usize)
     let at = id / 16;
     if at < marks {
         let bit = 1u16 << (id % 16);
-        hints[at] = hints[at] + bit;
+        hints[at] += bit;
     }
 }
 
@@ -62,24 +62,20 @@ fn slot_of(hints: usize, marks: usize, id: usize) -> usize
 }
 
 // The guess for an index.
+#[tactic(auto, unfolding(crate::specs::Hints::guess_for))]
 fn guess_for(index: usize) -> u16
     ensures { result ≡ guess_for index }
 {
-    if index < LAST {
-        return (index + 1) as u16;
-    }
-    LAST as u16
+    index.saturating_add(1).min(LAST) as u16
 }
 
 // Whether the entry of a guess is the id's.
+#[tactic(auto, unfolding(crate::specs::Hints::is_own))]
 fn is_own(types: &[u32], count: usize, guess: usize, id: u32) -> bool
     requires { (3 * count ≤ length types.now) × (1 ≤ guess) }
     ensures { result ≡ is_own count types.now guess id }
 {
-    if guess <= count {
-        return types[3 * (guess - 1)] == id;
-    }
-    false
+    guess <= count && types[3 * (guess - 1)] == id
 }
 
 // Where an id's entry stands, by a look at each, the first and the last before those between: types come first, and values are used
@@ -88,6 +84,7 @@ fn scan(types: &[u32], count: usize, id: u32) -> Option<usize>
     requires { (3 * count ≤ length types.now) × Alone count types.now }
     ensures { result ≡ place_of id (entries_of count types.now) }
 {
+    // A `while`: two places move towards each other, and a `for` has one.
     let mut i = 0;
     let mut end = count;
     while i < end {

@@ -2,8 +2,8 @@ use Rattle.std.proofs.Common.{sym}
 use Rattle.standing.proofs.StandLaws.{stands_bad, pass_starts, in_store_lem, pass_stops, pass_goes_on, pass_ends}
 use Rattle.standing.proofs.standing.Goals as goal
 
-pub returns-in-Bad : goal.returns-in-Bad
-returns-in-Bad c = stands_bad _ _ _ c.check-checked.ensures c.in-Bad.is
+pub returns-in-Some : goal.returns-in-Some
+returns-in-Some c = stands_bad _ _ _ c.check-checked.ensures c.in-Some.is
 
 pub loop-i-init : goal.loop-i-init
 loop-i-init c = pass_starts _ _ c.check-checked.ensures c.in_default.is
