@@ -3,7 +3,7 @@ use Prim.Native.Nat.{ℕ, zero, suc, ◌+◌, ◌*◌, ◌-◌, ◌<◌, ◌≤�
 use mathlib.Core.Path.{◌≡◌, refl, ap, sym, ◌∙◌}
 use mathlib.Core.Bool.{Bool, true, false}
 use mathlib.Core.List.{List}
-use Rattle.std.specs.Prelude.{Option, None, Some}
+use Rattle.std.specs.Prelude.{Option, None, Some, option_map}
 use native.Mathlib.Omega.{arith}
 use borrow.Author.Tests.{le-ltb, ltb-false}
 use lib.Dec.{ltb}
@@ -13,7 +13,7 @@ use Rattle.spec.specs.declared.Refusal.{Refusal}
 use Rattle.spec.specs.Words.{front_of, four_at, long}
 use Rattle.spec.specs.Text.{until_zero, text_words, text_break, is_utf8}
 use Rattle.spec.specs.Reader.{reader, Read, got, refused, Parse, after, give, refusal, stream_word, word_at, read_word, read_long, reader_at, less, searched, no_zero, text_found, limit_past, read_text, read_text_at}
-use Rattle.text.specs.Zero.{zero_after, zero_in}
+use Rattle.text.specs.Zero.{zero_in}
 use Rattle.text.proofs.Laws.{zero_at}
 use Rattle.decoder.specs.declared.Decoder.{Decoder}
 use Rattle.decoder.specs.declared.Text.{Text}
@@ -175,9 +175,9 @@ long_refused s d e x =
 
 -- a string that ends is the front of the bytes, and shorter
 pub ends_in : (l bs : List ℕ) → until_zero l ≡ Some bs → (length bs < length l) × (bs ≡ take (length bs) l)
-unfolding zero_in zero_after
+unfolding zero_in
 ends_in l bs e =
-    let z = zero_at l (length bs) (sym (ap zero_after e)) in
+    let z = zero_at l (length bs) (sym (ap (option_map length) e)) in
     let p : Some bs ≡ Some (take (length bs) l) = sym e ∙ z.1 in
     (z.0, (cc))
 

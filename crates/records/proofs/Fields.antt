@@ -3,7 +3,7 @@ use Prim.Native.Nat.{ℕ, suc, min, ◌+◌, ◌*◌, ◌%◌, ◌<◌, ◌≤�
 use mathlib.Core.Path.{◌≡◌, refl, ap, sym, ◌∙◌}
 use mathlib.Core.Bool.{Bool, true, false, not, ◌&&◌}
 use mathlib.Core.List.{List, [], ◌∷◌}
-use Rattle.std.specs.Prelude.{Option, None, Some}
+use Rattle.std.specs.Prelude.{option_map, Option, None, Some}
 use native.Mathlib.Nat.{add-zero, le_of_lt}
 use native.Mathlib.Omega.{arith}
 use borrow.Author.Tests.{leb-true, leb-false, le-leb, lt-leb, eq-eqb, ne_eqb}
@@ -21,7 +21,7 @@ use Rattle.spec.specs.Records.{field_words, fields_at, record_words}
 use Rattle.spec.specs.Layout.{layout_of}
 use Rattle.spec.specs.Check.{fields_good}
 use Rattle.spec.proofs.Store.{sets_append}
-use Rattle.text.specs.Zero.{zero_after, zero_in}
+use Rattle.text.specs.Zero.{zero_in}
 use Rattle.records.specs.Good.{numbers_at}
 use Rattle.records.specs.Steps.{fields_hold, offset_after, is_string, tag_by, tag_after, is_outside, word_if, at_most}
 use Rattle.spec.specs.Layout.{Cell}
@@ -135,8 +135,8 @@ zero_free [] = refl
 zero_free (b ∷ s) = free_cons b s (eqb b 0) (until_zero s) refl refl (zero_free s)
 
 -- the answer of the search decides
-free_by : (o : Option (List ℕ)) (x : Option ℕ) → x ≡ zero_after o → (t : Bool) → is_none o ≡ t → ((i : ℕ) → x ≡ Some i → t ≡ false) × (x ≡ None → t ≡ true)
-unfolding zero_after is_none
+free_by : (o : Option (List ℕ)) (x : Option ℕ) → x ≡ option_map length o → (t : Bool) → is_none o ≡ t → ((i : ℕ) → x ≡ Some i → t ≡ false) × (x ≡ None → t ≡ true)
+unfolding is_none
 free_by None x e t f = (λ i g. let z : ◌≡◌ {A = ℕ} 0 1 = cc in absurd (omega arith), λ g. sym f)
 free_by (Some bs) x e t f = (λ i g. sym f, λ g. let z : ◌≡◌ {A = ℕ} 0 1 = cc in absurd (omega arith))
 

@@ -12,7 +12,7 @@ use lib.Dec.{eqb}
 use lib.ListN.{length, take, drop, get_or}
 use lib.Seq.{drop-cons}
 use Rattle.spec.specs.Text.{cons_in, until_zero}
-use Rattle.text.specs.Zero.{zero_after, zero_in}
+use Rattle.text.specs.Zero.{zero_in}
 
 -- WHAT THE ANSWER SAYS
 
@@ -35,8 +35,8 @@ front [] = tt
 front (b ∷ s) = front_cons b s (eqb b 0) (until_zero s) refl refl (front s)
 
 -- the string before a zero byte found at i
-at_by : (s : List ℕ) (i : ℕ) (o : Option (List ℕ)) → Front s o → Some i ≡ zero_after o → (i < length s) × (o ≡ Some (take i s))
-unfolding Front zero_after
+at_by : (s : List ℕ) (i : ℕ) (o : Option (List ℕ)) → Front s o → Some i ≡ option_map length o → (i < length s) × (o ≡ Some (take i s))
+unfolding Front
 at_by s i None h e = let z : ◌≡◌ {A = ℕ} 0 1 = cc in absurd (omega arith)
 at_by s i (Some bs) h e = let q : i ≡ length bs = cc in rw q (h.0, ap Some h.1)
 
@@ -46,8 +46,7 @@ unfolding zero_in
 zero_at s i e = at_by s i (until_zero s) (front s) e
 
 -- no string before a zero byte that is not found
-nothing_by : (o : Option (List ℕ)) → None ≡ zero_after o → o ≡ None
-unfolding zero_after
+nothing_by : (o : Option (List ℕ)) → None ≡ option_map length o → o ≡ None
 nothing_by None e = refl
 nothing_by (Some bs) e = let z : ◌≡◌ {A = ℕ} 0 1 = cc in absurd (omega arith)
 
@@ -81,22 +80,7 @@ unfolding until_zero
 place [] = refl
 place (b ∷ s) = place_by b s (eqb b 0) refl (place s)
 
--- a zero byte that is found is at its place
-found_after : (o : Option (List ℕ)) (i : ℕ) → option_map length o ≡ Some i → Some i ≡ zero_after o
-unfolding zero_after
-found_after None i e = cc
-found_after (Some bs) i e = let q : length bs ≡ i = cc in ap Some (sym q)
-
-pub zero_found : (s : List ℕ) (i : ℕ) → Some i ≡ position (λ x. eqb x 0) s → Some i ≡ zero_in s
+-- the search for a byte that is zero finds it
+pub zero_is : (s : List ℕ) (r : Option ℕ) → r ≡ position (λ x. eqb x 0) s → r ≡ zero_in s
 unfolding zero_in
-zero_found s i e = found_after (until_zero s) i (place s ∙ sym e)
-
--- there is none
-none_after : (o : Option (List ℕ)) → option_map length o ≡ None → None ≡ zero_after o
-unfolding zero_after
-none_after None e = refl
-none_after (Some bs) e = cc
-
-pub zero_missing : (s : List ℕ) → None ≡ position (λ x. eqb x 0) s → None ≡ zero_in s
-unfolding zero_in
-zero_missing s e = none_after (until_zero s) (place s ∙ sym e)
+zero_is s r e = e ∙ sym (place s)

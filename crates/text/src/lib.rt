@@ -7,7 +7,6 @@ ghost use Rattle.text.specs.Zero.{zero_in};
 ghost use Rattle.text.specs.AsciiText.{is_ascii_text};
 ghost use Rattle.text.specs.Steps.{utf8_rows, first_of};
 
-
 // Where the first zero byte is.
 pub fn zero(s: &[u8]) -> Option<usize>
     ensures { result ≡ zero_in s.now }
