@@ -1,10 +1,6 @@
--- `kollafrin::kollafrin_write_parse_order`: the answer is the writer's, and fits its words.
+-- `kollafrin::kollafrin_write_parse_order`: the answer fits its words.
 use Rattle.demands.proofs.Indices.{parse_index}
-use Rattle.kollafrin.proofs.Laws.{written_said}
 use Rattle.kollafrin.proofs.kollafrin_write_parse_order.Goals as goal
 
 pub say_written-requires : goal.say_written-requires
 say_written-requires c = rw c.write_parse_order-x.ensures.said (parse_index _ _ _ (λ i. (c.type_inv.instructions i).fits))
-
-pub returns : goal.returns
-returns c = written_said (c.say_written.ensures.value, c.say_written.ensures.answer_after) c.write_parse_order-x.ensures
