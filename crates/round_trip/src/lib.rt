@@ -13,6 +13,7 @@ fn all_zero(a: u32, b: u32, c: u32) -> bool
 }
 
 // Loads a module, writes its records in the order read, and loads what was written into other stores: whether the module came back.
+// The stores come one by one, as a load and its contract take them.
 pub fn round_trip(
     module: &[u8],
     grammar: &[u8],
