@@ -6,84 +6,50 @@ use decoder::{Answer, Decoder, TextGiven, WordGiven};
 use spec::Refusal;
 use std::io;
 
-// Writes some text.
-fn say(rt: &impl Print, text: &str) -> io::Result<()> {
-    print!(rt; "{text}")
-}
-
-// Writes a number.
-fn number(rt: &impl Print, n: usize) -> io::Result<()> {
-    print!(rt; "{n}")
-}
-
-// Writes a byte.
-fn byte(rt: &impl Print, b: u8) -> io::Result<()> {
-    print!(rt; "{b:02x}")
-}
-
-// Writes a word.
-fn hex(rt: &impl Print, w: u32) -> io::Result<()> {
-    print!(rt; "{w:08x}")
-}
-
 // Writes some bytes.
 fn bytes(rt: &impl Print, s: &[u8]) -> io::Result<()> {
     for b in s {
-        byte(rt, *b)?;
+        print!(rt; "{b:02x}")?;
     }
     Ok(())
 }
 
 // Writes a position and a limit.
 fn place(rt: &impl Print, d: Decoder) -> io::Result<()> {
-    say(rt, " position ")?;
-    number(rt, d.offset())?;
-    let limit = d.limit;
-    match limit {
-        None => say(rt, " no limit")?,
-        Some(n) => {
-            say(rt, " limit ")?;
-            number(rt, n)?;
-        }
+    let position = d.offset();
+    match d.limit {
+        None => print!(rt; " position {position} no limit"),
+        Some(n) => print!(rt; " position {position} limit {n}"),
     }
-    Ok(())
 }
 
 // Starts a line: what is read, the bytes, the position and the limit.
 fn asked(rt: &impl Print, what: &str, s: &[u8], d: Decoder) -> io::Result<()> {
-    say(rt, what)?;
+    print!(rt; "{what} [")?;
     bytes(rt, s)?;
-    say(rt, "]")?;
+    print!(rt; "]")?;
     place(rt, d)?;
-    say(rt, ": ")?;
-    Ok(())
+    print!(rt; ": ")
 }
 
 // Ends a line with the position and the limit, and hands the decoder on.
 fn after(rt: &impl Print, d: Decoder) -> io::Result<Decoder> {
     place(rt, d)?;
-    say(rt, "\n")?;
+    println!(rt;)?;
     Ok(d)
 }
 
 // Writes a refusal: its number, 0 for none, its place and its value.
 fn refused(rt: &impl Print, x: Refusal) -> io::Result<()> {
-    say(rt, "number ")?;
-    number(rt, x.number as usize)?;
-    say(rt, " at ")?;
-    number(rt, x.place)?;
-    say(rt, " value ")?;
-    number(rt, x.value as usize)?;
-    Ok(())
+    print!(rt; "number {} at {} value {}", x.number, x.place, x.value)
 }
 
 // Reads a word.
 fn word(rt: &impl Print, s: &[u8], d: Decoder) -> io::Result<Decoder> {
-    asked(rt, "word [", s, d)?;
-    let r = d.word(s);
-    match r {
+    asked(rt, "word", s, d)?;
+    match d.word(s) {
         Ok((w, e)) => {
-            hex(rt, w)?;
+            print!(rt; "{w:08x}")?;
             after(rt, e)
         }
         Err((x, e)) => {
@@ -109,34 +75,29 @@ fn long(rt: &impl Print, r: Answer<u64>) -> io::Result<Decoder> {
 
 // Reads a 64-bit literal.
 fn int64(rt: &impl Print, s: &[u8], d: Decoder) -> io::Result<Decoder> {
-    asked(rt, "64 bits [", s, d)?;
+    asked(rt, "64 bits", s, d)?;
     long(rt, d.int64(s))
 }
 
 // Reads a 64-bit literal by a decoder that is lent.
 fn int64_lent(rt: &impl Print, s: &[u8], d: Decoder) -> io::Result<Decoder> {
-    asked(rt, "64 bits lent [", s, d)?;
+    asked(rt, "64 bits lent", s, d)?;
     long(rt, decoder::int64_lent(d, s))
 }
 
 // Writes a string's length, where it starts, and what breaks its padding.
 fn span(rt: &impl Print, start: usize, length: usize, breaks: usize) -> io::Result<()> {
-    say(rt, "length ")?;
-    number(rt, length)?;
-    say(rt, " from ")?;
-    number(rt, start)?;
+    print!(rt; "length {length} from {start}")?;
     if breaks != 0 {
-        say(rt, " breaks at ")?;
-        number(rt, breaks)?;
+        print!(rt; " breaks at {breaks}")?;
     }
     Ok(())
 }
 
 // Reads a string.
 fn string(rt: &impl Print, s: &[u8], d: Decoder) -> io::Result<Decoder> {
-    asked(rt, "string [", s, d)?;
-    let r = d.string(s);
-    match r {
+    asked(rt, "string", s, d)?;
+    match d.string(s) {
         Ok(t) => {
             span(rt, t.start, t.length, t.breaks)?;
             after(rt, t.next)
@@ -150,58 +111,45 @@ fn string(rt: &impl Print, s: &[u8], d: Decoder) -> io::Result<Decoder> {
 
 // Reads a word and the string after it, each by a decoder that is lent.
 fn pair(rt: &impl Print, s: &[u8], offset: usize, words: usize) -> io::Result<()> {
-    asked(rt, "lent [", s, at(offset).set_limit(words))?;
+    asked(rt, "lent", s, at(offset).set_limit(words))?;
     let r = decoder::word_and_string(s, offset, words);
-    let word = r.word;
-    match word {
-        WordGiven::Got(w) => hex(rt, w)?,
+    match r.word {
+        WordGiven::Got(w) => print!(rt; "{w:08x}")?,
         WordGiven::Refused(x) => refused(rt, x)?,
     }
-    say(rt, " then ")?;
-    let text = r.text;
-    match text {
+    print!(rt; " then ")?;
+    match r.text {
         TextGiven::Got(start, length, breaks) => span(rt, start, length, breaks)?,
         TextGiven::Refused(x) => refused(rt, x)?,
     }
-    say(rt, " position ")?;
-    number(rt, r.next)?;
-    say(rt, "\n")?;
-    Ok(())
+    println!(rt; " position {}", r.next)
 }
 
 // Reads a header: the number, place and value, and the five words.
 fn header(rt: &impl Print, s: &[u8]) -> io::Result<()> {
-    say(rt, "header [")?;
+    print!(rt; "header [")?;
     bytes(rt, s)?;
-    say(rt, "]: ")?;
+    print!(rt; "]: ")?;
     let r = decoder::header(s);
-    let words = r.words;
     refused(rt, r.refusal)?;
-    say(rt, " words ")?;
-    hex(rt, words[0])?;
-    hex(rt, words[1])?;
-    hex(rt, words[2])?;
-    hex(rt, words[3])?;
-    hex(rt, words[4])?;
-    say(rt, "\n")?;
-    Ok(())
+    print!(rt; " words ")?;
+    for w in r.words {
+        print!(rt; "{w:08x}")?;
+    }
+    println!(rt;)
 }
 
 // Asks whether a decoder has a limit, and whether it is reached.
 fn limit(rt: &impl Print, d: Decoder) -> io::Result<()> {
-    say(rt, "limit")?;
+    print!(rt; "limit")?;
     place(rt, d)?;
-    if d.has_limit() {
-        say(rt, ": there")?;
+    let there = if d.has_limit() { "there" } else { "none" };
+    let reached = if d.limit_reached() {
+        "reached"
     } else {
-        say(rt, ": none")?;
-    }
-    if d.limit_reached() {
-        say(rt, ", reached\n")?;
-    } else {
-        say(rt, ", not reached\n")?;
-    }
-    Ok(())
+        "not reached"
+    };
+    println!(rt; ": {there}, {reached}")
 }
 
 // A position without a limit.

@@ -7,6 +7,7 @@ use mathlib.Core.List.{List, [], ◌∷◌}
 use borrow.Author.Tests.{leb-true}
 use lib.Dec.{leb}
 use lib.ListN.{length}
+use Rattle.spec.specs.declared.Counts.{Counts}
 use Rattle.spec.specs.declared.Loaded.{Loaded}
 use Rattle.spec.specs.Base.{every}
 use Rattle.spec.specs.Words.{bytes_of}
@@ -46,6 +47,11 @@ module _ (m : List ℕ) (t : Stores) (c : Covers (room_in t) (room_for m)) where
         said = l.leaves.said ∙ ap (λ (o : Outcome). o.said) is;
         stores = l.leaves.stores ∙ ap (λ (o : Outcome). laid_on t (stores_of o)) is;
       })
+
+-- stores with the room that suffices for 58 words suffice for a module of 255 bytes
+pub long_enough : (m : List ℕ) {r : Counts} → length m ≤ 255 → Covers r (enough 58) → Covers r (room_for m)
+unfolding enough
+long_enough m h c = omega arith
 
 -- THE WHOLE TABLE
 

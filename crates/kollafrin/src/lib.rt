@@ -5,9 +5,11 @@
 // most 67,108,864 bytes. So does the index of a bad record, for stores and counts of any size: the offset of a good record is a word
 // of 32 bits and each good record moves it by four bytes or more, so that no more than 2^30 records are good.
 // The bytes written may be more, and take two words; the records that a book is turned into are good ones, and few.
+//
+// Each call has a name of its own and takes its stores one by one, with their counts beside them, since C calls it so.
 #![tactic(auto)]
 
-ghost use Rattle.std.specs.Prelude.{◌≡◌, ◌<◌, length, if◌then◌else◌};
+ghost use Rattle.std.specs.Prelude.{◌≡◌, ◌<◌, length};
 ghost use Rattle.spec.specs.Builtin.{builtin};
 ghost use Rattle.spec.specs.Load.{lent, Small};
 ghost use Rattle.spec.specs.Write.{write_parse, write_module, standing as standing_of};
@@ -21,14 +23,8 @@ use spec::{Joined, Loaded, Stands, Turned, Written};
 // The version of the layouts and calls: KOLLAFRIN_VERSION of the header.
 const VERSION: u32 = 3;
 
-// Yes as 1, no as 0.
-fn yes_or_no(yes: bool) -> u32
-    ensures { result ≡ (if yes then 1 else 0) }
-{
-    if yes { 1 } else { 0 }
-}
-
 // A load's answer into words.
+#[tactic(auto, unfolding(crate::specs::Answers::load_answer))]
 fn say_loaded(x: Loaded, answer: &mut [u32; 16]) -> u32
     requires { Small x }
     ensures value { result ≡ x.number }
@@ -36,7 +32,6 @@ fn say_loaded(x: Loaded, answer: &mut [u32; 16]) -> u32
 {
     let c = x.counts;
     let h = x.header;
-    let plain = yes_or_no(x.plain);
     *answer = [
         x.number,
         x.offset as u32,
@@ -51,7 +46,7 @@ fn say_loaded(x: Loaded, answer: &mut [u32; 16]) -> u32
         h[2],
         h[3],
         h[4],
-        plain,
+        u32::from(x.plain),
         x.breaks as u32,
         0,
     ];
@@ -59,6 +54,7 @@ fn say_loaded(x: Loaded, answer: &mut [u32; 16]) -> u32
 }
 
 // A writer's answer into words: the bytes written take two.
+#[tactic(auto, unfolding(crate::specs::Answers::write_answer))]
 fn say_written(x: Written, answer: &mut [u32; 4]) -> u32
     requires { x.index < 4294967296 }
     ensures value { result ≡ x.number }
@@ -74,16 +70,17 @@ fn say_written(x: Written, answer: &mut [u32; 4]) -> u32
 }
 
 // The answer of standing into words.
+#[tactic(auto, unfolding(crate::specs::Answers::stand_answer))]
 fn say_standing(x: Stands, answer: &mut [u32; 4]) -> u32
     requires { x.index < 4294967296 }
     ensures { StandAnswers x answer.new result }
 {
-    let yes = yes_or_no(x.yes);
-    *answer = [x.number, x.index as u32, yes, 0];
+    *answer = [x.number, x.index as u32, u32::from(x.yes), 0];
     x.number
 }
 
 // The answer of turning a book into words.
+#[tactic(auto, unfolding(crate::specs::Answers::turn_answer))]
 fn say_turned(x: Turned, answer: &mut [u32; 4]) -> u32
     requires { (x.index < 4294967296) × (x.records < 4294967296) }
     ensures value { result ≡ x.number }
@@ -94,6 +91,7 @@ fn say_turned(x: Turned, answer: &mut [u32; 4]) -> u32
 }
 
 // The answer of joining into words.
+#[tactic(auto, unfolding(crate::specs::Answers::join_answer))]
 fn say_joined(x: Joined, answer: &mut [u32; 4]) -> u32
     requires { x.bytes < 4294967296 }
     ensures value { result ≡ x.number }
@@ -115,6 +113,7 @@ fn put_where_fits(bytes: &[u8], out: &mut [u8]) -> usize
 }
 
 // The version, for a caller to compare with that of the header it was compiled with.
+#[tactic(auto, unfolding(crate::specs::Answers::version))]
 pub fn kollafrin_version() -> u32
     ensures { result ≡ version }
 {
@@ -184,9 +183,8 @@ pub fn kollafrin_write_parse_order(
         instruction_count log_count string_count) out.old)
         out.new answer.new result }
 {
-    let words = *header;
     let x = assemble::write_parse_order(
-        words,
+        *header,
         instructions,
         log,
         strings,
@@ -215,9 +213,8 @@ pub fn kollafrin_write_module_order(
         instruction_count log_count string_count) out.old)
         out.new answer.new result }
 {
-    let words = *header;
     let x = assemble::write_module_order(
-        words,
+        *header,
         instructions,
         log,
         strings,
@@ -246,9 +243,8 @@ pub fn kollafrin_disassemble(
         instruction_count log_count string_count) out.old)
         out.new answer.new result }
 {
-    let words = *header;
     let x = disassemble::disassemble(
-        words,
+        *header,
         instructions,
         log,
         strings,

@@ -1,61 +1,40 @@
 // The parts of an entry: sixteen words, then the module and what was kept of its answer, without gaps.
-ghost use Rattle.std.specs.Prelude.{◌+◌, ◌≤◌, ◌<◌, length};
-ghost use Rattle.replay.specs.Entries.{Rising};
-
-use words::word_at;
-
-// How many bytes the words take.
-pub const HEAD: usize = 64;
 
 // How many bytes an instruction record takes, and a type entry.
 const RECORD: usize = 4 * records::RECORD;
 
 const ENTRY: usize = 12;
 
-// Where the parts after the words end, counted from the end of the words.
+// An entry: its words, and the parts after them.
 #[derive(Clone, Copy)]
-pub struct Ends {
-    pub module: usize,
-    pub instructions: usize,
-    pub log: usize,
-    pub strings: usize,
-    pub types: usize,
-    pub order: usize,
-    pub text: usize,
+pub struct Entry<'a> {
+    pub head: [u32; 16],
+    pub module: &'a [u8],
+    pub instructions: &'a [u8],
+    pub log: &'a [u8],
+    pub strings: &'a [u8],
+    pub types: &'a [u8],
+    pub order: &'a [u8],
+    pub text: &'a [u8],
 }
 
-// A word as a length.
-pub fn wide(x: u32) -> usize
-    ensures { result < 4294967296 }
-{
-    x as usize
-}
-
-// The sixteen words at a place.
-pub fn head_at(s: &[u8], at: usize) -> [u32; 16]
-    requires { at + 64 ≤ length s.now }
-{
+// The entry at the start of a sample, by the lengths and counts among its words, and what comes after it: nothing where the sample ends
+// before the entry does.
+pub fn entry_of(sample: &[u8]) -> Option<(Entry<'_>, &[u8])> {
+    let (words, rest) = sample.split_at_checked(64)?;
     let mut head = [0u32; 16];
-    let mut i = 0;
-    while i < 16 {
-        head[i] = word_at(s, at + 4 * i);
-        i = i + 1;
+    for (word, bytes) in head.iter_mut().zip(words.as_chunks().0) {
+        *word = u32::from_le_bytes(*bytes);
     }
-    head
-}
-
-// Where the parts end, by the lengths and counts among the words.
-pub fn ends_of(head: [u32; 16]) -> Ends
-    ensures { Rising result }
-{
-    let module = wide(head[0]);
-    let instructions = module + RECORD * wide(head[5]);
-    let log = instructions + wide(head[6]);
-    let strings = log + wide(head[7]);
-    let types = strings + ENTRY * wide(head[8]);
-    let order = types + wide(head[9]);
-    let text = order + wide(head[15]);
-    Ends {
+    let (module, rest) = rest.split_at_checked(head[0] as usize)?;
+    let (instructions, rest) = rest.split_at_checked(RECORD * (head[5] as usize))?;
+    let (log, rest) = rest.split_at_checked(head[6] as usize)?;
+    let (strings, rest) = rest.split_at_checked(head[7] as usize)?;
+    let (types, rest) = rest.split_at_checked(ENTRY * (head[8] as usize))?;
+    let (order, rest) = rest.split_at_checked(head[9] as usize)?;
+    let (text, rest) = rest.split_at_checked(head[15] as usize)?;
+    let entry = Entry {
+        head,
         module,
         instructions,
         log,
@@ -63,5 +42,6 @@ pub fn ends_of(head: [u32; 16]) -> Ends
         types,
         order,
         text,
-    }
+    };
+    Some((entry, rest))
 }

@@ -9,16 +9,11 @@ ghost use Rattle.round_trip.specs.Trip.{RoundTrip};
 fn all_zero(a: u32, b: u32, c: u32) -> bool
     ensures { result ≡ (eqb a 0 && eqb b 0 && eqb c 0) }
 {
-    if a != 0 {
-        return false;
-    }
-    if b != 0 {
-        return false;
-    }
-    c == 0
+    a == 0 && b == 0 && c == 0
 }
 
 // Loads a module, writes its records in the order read, and loads what was written into other stores: whether the module came back.
+// The stores come one by one, as a load and its contract take them.
 pub fn round_trip(
     module: &[u8],
     grammar: &[u8],
@@ -42,10 +37,9 @@ pub fn round_trip(
         (lent instructions_back.new log_back.new strings_back.new types_back.new) }
 {
     let first = loader::load(module, grammar, instructions, log, strings, types);
-    let header = first.header;
     let counts = first.counts;
     let written = assemble::write_parse_order(
-        header,
+        first.header,
         instructions,
         log,
         strings,
@@ -54,9 +48,8 @@ pub fn round_trip(
         counts.strings,
         out,
     );
-    let n = written.bytes;
     let second = loader::load(
-        &out[..n],
+        &out[..written.bytes],
         grammar,
         instructions_back,
         log_back,

@@ -5,55 +5,13 @@
 use spec::{Loaded, refusals};
 use std::io;
 
-// Writes some text.
-fn say(rt: &impl Print, text: &str) -> io::Result<()> {
-    print!(rt; "{text}")
-}
-
-// Whether two outputs are the same after the header's twenty bytes.
-fn same_after(a: &[u8; 256], b: &[u8; 256]) -> bool {
-    let mut i = 20;
-    while i < 256 {
-        if a[i] != b[i] {
-            return false;
-        }
-        i += 1;
-    }
-    true
-}
-
-// Writes whether the records of a load stand.
-fn stands(
-    rt: &impl Print,
-    x: Loaded,
-    instructions: &[u32],
-    log: &[u8],
-    strings: &[u8],
-) -> io::Result<()> {
+// Writes the records of a load in both orders: whether the outputs are the same after the header's twenty bytes.
+fn orders(x: Loaded, instructions: &[u32], log: &[u8], strings: &[u8]) -> &'static str {
     let c = x.counts;
-    let s = standing::standing(instructions, log, strings, c.instructions, c.log, c.strings);
-    if s.yes {
-        say(rt, " stands,")?;
-    } else {
-        say(rt, " does not stand,")?;
-    }
-    Ok(())
-}
-
-// Writes the records of a load in both orders, and whether the outputs are the same after the header.
-fn orders(
-    rt: &impl Print,
-    x: Loaded,
-    instructions: &[u32],
-    log: &[u8],
-    strings: &[u8],
-) -> io::Result<()> {
-    let c = x.counts;
-    let h = x.header;
     let mut read = [0u8; 256];
     let mut sorted = [0u8; 256];
     let a = assemble::write_parse_order(
-        h,
+        x.header,
         instructions,
         log,
         strings,
@@ -63,7 +21,7 @@ fn orders(
         &mut read,
     );
     let b = assemble::write_module_order(
-        h,
+        x.header,
         instructions,
         log,
         strings,
@@ -72,16 +30,13 @@ fn orders(
         c.strings,
         &mut sorted,
     );
-    if (a.number != refusals::ACCEPTED) | (b.number != refusals::ACCEPTED) {
-        say(rt, " not written\n")?;
-        return Ok(());
-    }
-    if (a.bytes == b.bytes) & same_after(&read, &sorted) {
-        say(rt, " both orders agree\n")?;
+    if a.number != refusals::ACCEPTED || b.number != refusals::ACCEPTED {
+        "not written"
+    } else if a.bytes == b.bytes && read[20..] == sorted[20..] {
+        "both orders agree"
     } else {
-        say(rt, " the orders differ\n")?;
+        "the orders differ"
     }
-    Ok(())
 }
 
 // Loads a module, and writes its line.
@@ -97,15 +52,21 @@ fn case(rt: &impl Print, name: &str, module: &[u8]) -> io::Result<()> {
         &mut strings,
         &mut types,
     );
-    say(rt, name)?;
-    say(rt, ":")?;
     if x.number != refusals::ACCEPTED {
-        say(rt, " refused\n")?;
-        return Ok(());
+        return println!(rt; "{name}: refused");
     }
-    stands(rt, x, &instructions, &log, &strings)?;
-    orders(rt, x, &instructions, &log, &strings)?;
-    Ok(())
+    let c = x.counts;
+    let s = standing::standing(
+        &instructions,
+        &log,
+        &strings,
+        c.instructions,
+        c.log,
+        c.strings,
+    );
+    let stands = if s.yes { "stands" } else { "does not stand" };
+    let agree = orders(x, &instructions, &log, &strings);
+    println!(rt; "{name}: {stands}, {agree}")
 }
 
 // Those that stand.
@@ -130,8 +91,7 @@ fn standing(rt: &impl Print) -> io::Result<()> {
 \x01\x00\x00\x00\x36\x00\x05\x00\x01\x00\x00\x00\x03\x00\x00\x00\x00\x00\x00\x00\
 \x02\x00\x00\x00\x37\x00\x03\x00\x01\x00\x00\x00\x04\x00\x00\x00\xf8\x00\x02\x00\
 \x05\x00\x00\x00\xfd\x00\x01\x00\x38\x00\x01\x00",
-    )?;
-    Ok(())
+    )
 }
 
 // Those that stand and have functions without a body.
@@ -162,8 +122,7 @@ fn early_declarations(rt: &impl Print) -> io::Result<()> {
 \x01\x00\x00\x00\x04\x00\x00\x00\x38\x00\x01\x00\x36\x00\x05\x00\x01\x00\x00\x00\
 \x05\x00\x00\x00\x00\x00\x00\x00\x02\x00\x00\x00\xf8\x00\x02\x00\x06\x00\x00\x00\
 \xfd\x00\x01\x00\x38\x00\x01\x00",
-    )?;
-    Ok(())
+    )
 }
 
 // Those whose sections or parameters are out of order.
@@ -199,8 +158,7 @@ fn out_of_order(rt: &impl Print) -> io::Result<()> {
 \x01\x00\x00\x00\x03\x00\x00\x00\x00\x00\x00\x00\x02\x00\x00\x00\xf8\x00\x02\x00\
 \x05\x00\x00\x00\x37\x00\x03\x00\x01\x00\x00\x00\x04\x00\x00\x00\xfd\x00\x01\x00\
 \x38\x00\x01\x00",
-    )?;
-    Ok(())
+    )
 }
 
 // Those that have not one MemoryModel.
@@ -228,8 +186,7 @@ fn not_one_model(rt: &impl Print) -> io::Result<()> {
 \x03\x02\x23\x07\x00\x00\x01\x00\x00\x00\x00\x00\x10\x00\x00\x00\x00\x00\x00\x00\
 \x0e\x00\x03\x00\x00\x00\x00\x00\x01\x00\x00\x00\x0e\x00\x03\x00\x00\x00\x00\x00\
 \x01\x00\x00\x00",
-    )?;
-    Ok(())
+    )
 }
 
 // Those that have a function without a body after one with a body.
@@ -262,8 +219,7 @@ fn late_declaration(rt: &impl Print) -> io::Result<()> {
 \x06\x00\x00\x00\x38\x00\x01\x00\x36\x00\x05\x00\x01\x00\x00\x00\x07\x00\x00\x00\
 \x00\x00\x00\x00\x02\x00\x00\x00\xf8\x00\x02\x00\x08\x00\x00\x00\xfd\x00\x01\x00\
 \x38\x00\x01\x00",
-    )?;
-    Ok(())
+    )
 }
 
 fn main(rt: HostRuntime) -> io::Result<()> {

@@ -1,9 +1,9 @@
--- The modules are within what was read, and their numbers within their bytes.
-use Rattle.std.proofs.Common.{length, ◌-◌, ◌≤◌, ◌≡◌, ◌+◌}
+-- A module's number is at most one more than the bytes before it, of 4,096; each turn takes some off.
+use Rattle.std.proofs.Common.{◌+◌, ◌≤◌, length}
 use Rattle.fittings.proofs.main.Given as goal
 
-abbrev pub invariant-loop-at : goal.invariant-loop-at
-invariant-loop-at l = (length l.text ≡ 4096) × (l.n ≤ length l.text) × (l.at ≤ l.n) × (l.index ≤ l.at + 1)
+abbrev pub invariant-loop-size : goal.invariant-loop-size
+invariant-loop-size l = l.index + length l.rest ≤ 4097
 
-abbrev pub decreases-loop-at : goal.decreases-loop-at
-decreases-loop-at l = l.n - l.at
+abbrev pub decreases-loop-size : goal.decreases-loop-size
+decreases-loop-size l = length l.rest
