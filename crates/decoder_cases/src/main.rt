@@ -2,7 +2,7 @@
 // bytes, the position and the limit; then what came, a value or a refusal's number, place and value, and the position and limit after.
 #![tactic(auto)]
 
-use decoder::{Answer, Decoder, TextGiven, WordGiven};
+use decoder::{Answer, Decoder, Text};
 use spec::Refusal;
 use std::io;
 
@@ -86,10 +86,10 @@ fn int64_lent(rt: &impl Print, s: &[u8], d: Decoder) -> io::Result<Decoder> {
 }
 
 // Writes a string's length, where it starts, and what breaks its padding.
-fn span(rt: &impl Print, start: usize, length: usize, breaks: usize) -> io::Result<()> {
-    print!(rt; "length {length} from {start}")?;
-    if breaks != 0 {
-        print!(rt; " breaks at {breaks}")?;
+fn span(rt: &impl Print, t: Text) -> io::Result<()> {
+    print!(rt; "length {} from {}", t.length, t.start)?;
+    if t.breaks != 0 {
+        print!(rt; " breaks at {}", t.breaks)?;
     }
     Ok(())
 }
@@ -98,9 +98,9 @@ fn span(rt: &impl Print, start: usize, length: usize, breaks: usize) -> io::Resu
 fn string(rt: &impl Print, s: &[u8], d: Decoder) -> io::Result<Decoder> {
     asked(rt, "string", s, d)?;
     match d.string(s) {
-        Ok(t) => {
-            span(rt, t.start, t.length, t.breaks)?;
-            after(rt, t.next)
+        Ok((t, e)) => {
+            span(rt, t)?;
+            after(rt, e)
         }
         Err((x, e)) => {
             refused(rt, x)?;
@@ -114,13 +114,13 @@ fn pair(rt: &impl Print, s: &[u8], offset: usize, words: usize) -> io::Result<()
     asked(rt, "lent", s, at(offset).set_limit(words))?;
     let r = decoder::word_and_string(s, offset, words);
     match r.word {
-        WordGiven::Got(w) => print!(rt; "{w:08x}")?,
-        WordGiven::Refused(x) => refused(rt, x)?,
+        Ok(w) => print!(rt; "{w:08x}")?,
+        Err(x) => refused(rt, x)?,
     }
     print!(rt; " then ")?;
     match r.text {
-        TextGiven::Got(start, length, breaks) => span(rt, start, length, breaks)?,
-        TextGiven::Refused(x) => refused(rt, x)?,
+        Ok(t) => span(rt, t)?,
+        Err(x) => refused(rt, x)?,
     }
     println!(rt; " position {}", r.next)
 }

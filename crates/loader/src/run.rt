@@ -8,7 +8,10 @@ ghost use Rattle.loader.specs.Loading.{LoadsFrom, LoadsWith};
 
 use room::room_in;
 use spec::{Loaded, Numbers, Refusal, State, refusals};
-use steps::{Ended, Progress, Taken, admit, decode, end_number, keep_operands, keep_record, no_instruction, stopped};
+use steps::{
+    Ended, Progress, Taken, admit, decode, end_number, keep_operands, keep_record, no_instruction,
+    stopped,
+};
 use tracker::TypeTracker;
 
 // How many hints there are of where the type of an id is, and how many for a short module.

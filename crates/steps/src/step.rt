@@ -110,21 +110,15 @@ pub fn admit(
     requires fair { Fair read }
     ensures { result ≡ judged room (entries_of p.tracker.count types.now) p read }
 {
-    match read {
-        Err(x) => Err(x),
-        Ok(d) => {
-            let state = p.state;
-            let cell = reflect::place(kinds, table, d.opcode, state);
-            match cell {
-                Err(n) => refused(n as u32, p.at),
-                Ok((tag, next)) => {
-                    let fault = room_fault(room, need_after(types, hints, room, p, d));
-                    if fault == refusals::ACCEPTED {
-                        return Ok((d, tag, next));
-                    }
-                    refused(fault, p.at)
-                }
+    let d = read?;
+    match reflect::place(kinds, table, d.opcode, p.state) {
+        Err(n) => refused(n as u32, p.at),
+        Ok((tag, next)) => {
+            let fault = room_fault(room, need_after(types, hints, room, p, d));
+            if fault == refusals::ACCEPTED {
+                return Ok((d, tag, next));
             }
+            refused(fault, p.at)
         }
     }
 }
@@ -195,7 +189,8 @@ pub fn keep_operands(
         place: d.place,
     };
     let used = unused(log_to, strings_to, 0, 0);
-    parse_body(
+    // It was read before, so the answer is known.
+    let _ = parse_body(
         module, rows, places, entries, guesses, tracker, frame, log, strings, used,
     );
 }
