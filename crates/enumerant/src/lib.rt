@@ -34,12 +34,9 @@ pub fn enumerant(d: Decoder, s: &[u8], g: &[u8], kind: u8) -> Answer<u32>
     if d.limit_reached() {
         return refused(refusals::STREAM_ENDED, at, 0, d);
     }
-    let word = d.word(s);
-    let Ok((value, next)) = word else {
-        return word;
-    };
+    let (value, next) = d.word(s)?;
     if is_known(g, &index, kind, value) {
-        return word;
+        return Ok((value, next));
     }
     refused(refusals::ENUMERANT_UNKNOWN, at, value, next)
 }
