@@ -54,8 +54,7 @@ fn look(g: &[u8], index: &[u16], kind: u8, value: u32) -> Option<usize>
     requires { Indexed g.now index.now }
     ensures { result ≡ found kind value (marks_of g.now) }
 {
-    let guess = guessed(g, index, kind, value);
-    match guess {
+    match guessed(g, index, kind, value) {
         Some(place) => Some(place),
         None => search(g, index, kind, value),
     }
@@ -67,14 +66,8 @@ pub fn find_row(g: &[u8], index: &[u16], opcode: u16) -> Option<usize>
     ensures result_value { row_found g.now result ≡ row_of opcode (grammar_of g.now).rows }
     ensures result_in_bounds { place_found result ≤ length g.now }
 {
-    let row = look(g, index, 0, opcode as u32);
-    match row {
-        Some(place) => {
-            let operands = place + 3;
-            Some(operands)
-        }
-        None => None,
-    }
+    let place = look(g, index, 0, opcode as u32)?;
+    Some(place + 3)
 }
 
 // The same where the guess says it, or nothing: short enough to stand where it is called.
@@ -83,14 +76,8 @@ pub fn guess_row(g: &[u8], index: &[u16], opcode: u16) -> Option<usize>
     ensures result_value { Sure result → row_found g.now result ≡ row_of opcode (grammar_of g.now).rows }
     ensures result_in_bounds { place_found result ≤ length g.now }
 {
-    let row = guessed(g, index, 0, opcode as u32);
-    match row {
-        Some(place) => {
-            let operands = place + 3;
-            Some(operands)
-        }
-        None => None,
-    }
+    let place = guessed(g, index, 0, opcode as u32)?;
+    Some(place + 3)
 }
 
 // Where the parameters of the enumerant of a kind and a value start.
@@ -102,14 +89,8 @@ pub fn find_enumerant(g: &[u8], index: &[u16], kind: u8, value: u32) -> Option<u
     if kind == 0 {
         return None;
     }
-    let enumerant = look(g, index, kind, value);
-    match enumerant {
-        Some(place) => {
-            let parameters = place + 6;
-            Some(parameters)
-        }
-        None => None,
-    }
+    let place = look(g, index, kind, value)?;
+    Some(place + 6)
 }
 
 // The same where the guess says it, or nothing.
@@ -121,14 +102,8 @@ pub fn guess_enumerant(g: &[u8], index: &[u16], kind: u8, value: u32) -> Option<
     if kind == 0 {
         return None;
     }
-    let enumerant = guessed(g, index, kind, value);
-    match enumerant {
-        Some(place) => {
-            let parameters = place + 6;
-            Some(parameters)
-        }
-        None => None,
-    }
+    let place = guessed(g, index, kind, value)?;
+    Some(place + 6)
 }
 
 // The operand that starts at a place, or the end of the row.
@@ -166,11 +141,7 @@ fn is_listed(g: &[u8], index: &[u16], kind: u8, value: u32) -> bool
     requires { Indexed g.now index.now }
     ensures { result ≡ is_listed (listed kind value (grammar_of g.now).enumerants) }
 {
-    let found = find_enumerant(g, index, kind, value);
-    match found {
-        Some(_) => true,
-        None => false,
-    }
+    find_enumerant(g, index, kind, value).is_some()
 }
 
 // Whether a bit is listed, where it is set.
