@@ -22,7 +22,7 @@ use Rattle.spec.specs.Numbers.{no_numbers}
 use Rattle.spec.specs.Records.{Instr, Placed, Entry, entry_words, operands_log, operands_strings, record_size, entry_size, fields_of, fields_from, record_words, records_with, numbered, instruction_store, log_from, string_store}
 use Rattle.spec.specs.Reader.{got, refusal, reader_at}
 use Rattle.spec.specs.Grammar.{Grammar, grammar_of}
-use Rattle.spec.specs.Layout.{layout_of, end_number}
+use Rattle.spec.specs.Layout.{Cell, layout_of, end_number}
 use Rattle.spec.specs.Types.{track}
 use Rattle.spec.specs.Match.{read_instr}
 use Rattle.spec.specs.Plain.{first_break, instr_break, kept_break, tail_break, module_break}
@@ -55,9 +55,9 @@ module _ (g : Grammar) (room : Counts) (h s : List ℕ) (at : ℕ) where
   load_ends : (n : ℕ) (b : Book) → length s - at < 4
       → load_from g room h n b (reader_at s at None) ≡ stop h b (end_number b.state) at 0
   unfolding load_from reader_at
-  load_ends zero b None = refl
-  load_ends (suc n) b None =
-      let no_word : has 4 (drop at s) ≡ false = has_leb 4 (drop at s) ∙ lt-leb 4 (length (drop at s)) (simp length-drop None) in
+  load_ends zero b end = refl
+  load_ends (suc n) b end =
+      let no_word : has 4 (drop at s) ≡ false = has_leb 4 (drop at s) ∙ lt-leb 4 (length (drop at s)) (simp length-drop end) in
       rw no_word
 
   -- an instruction behind which it goes on
@@ -204,11 +204,11 @@ module _ {s g : List ℕ} {room : Counts} {before now : Stores} {h₀ hs : List 
   -- no word is left
   pub ends : length s - p.at < 4 → (n : ℕ) → n ≡ end_number p.state
       → LoadsFrom g s before now (record { progress = p; refusal = refusal n p.at 0; breaks = p.breaks })
-  ends None n e =
+  ends end n e =
       let b = book_of r.kept (entries_of p.tracker.count now.types) p in
       stopped (refusal n p.at 0) p.breaks (λ z. refl)
       (λ h.
-      r.left h ∙ load_ends (grammar_of g) room h s p.at r.fuel b None ∙ ap (λ (m : ℕ). stop h b m p.at 0) (sym e))
+      r.left h ∙ load_ends (grammar_of g) room h s p.at r.fuel b end ∙ ap (λ (m : ℕ). stop h b m p.at 0) (sym e))
 
   module _ (more : 4 ≤ length s - p.at) where
     -- what is left, where there is fuel
@@ -216,10 +216,10 @@ module _ {s g : List ℕ} {room : Counts} {before now : Stores} {h₀ hs : List 
         → load_from (grammar_of g) (room_in before) h (length s / 4) empty_book (reader_at s 20 None)
         ≡ load_from (grammar_of g) room h (suc (r.fuel - 1)) (book_of r.kept (entries_of p.tracker.count now.types) p) (reader_at s p.at None)
     left_more h =
-        let Some : r.fuel ≡ suc (r.fuel - 1) = omega (arith, r.enough) in
+        let fuelled : r.fuel ≡ suc (r.fuel - 1) = omega (arith, r.enough) in
         r.left h
         ∙ ap (λ (n : ℕ). load_from (grammar_of g) room h n (book_of r.kept (entries_of p.tracker.count now.types) p) (reader_at s p.at None))
-        Some
+        fuelled
 
     -- the load stops at an instruction
     pub halts : (y : Refusal) → Stops s g now.types room p y
@@ -279,6 +279,7 @@ module _ {s g : List ℕ} {room : Counts} {before now : Stores} {h₀ hs : List 
           let pl = placed_as i t.tag in
           let es = entries_of f.tracker.count now.types in
           let laid = st i _ h.read in
+          let tagged : State → Cell = λ x. Ok (t.tag, x) in
           let one = ap (λ (c : Counts). c.instructions) k.used in
           let logged = ap (λ (c : Counts). c.log) k.used in
           let strung = ap (λ (c : Counts). c.strings) k.used in
@@ -304,7 +305,7 @@ module _ {s g : List ℕ} {room : Counts} {before now : Stores} {h₀ hs : List 
                 left_more here more z
                 ∙ load_goes (grammar_of g) room z s f.at (here.fuel - 1) (book_of ks es f) i q.at t.tag q.state (used_by q) more
                 (h.read ∙ ap (λ (n : ℕ). got i (reader_at s n None)) (sym k.at))
-                (placed_is a.shown _ a.placed ∙ ap (Tagged t.tag) (sym k.state)) (sym (need_is a.shown es) ∙ sym k.used)
+                (placed_is a.shown _ a.placed ∙ ap tagged (sym k.state)) (sym (need_is a.shown es) ∙ sym k.used)
                 (ap (room_fault room) k.used ∙ a.fits)
                 ∙ ap
                 (λ (fs : List Entry). load_from (grammar_of g) room z (here.fuel - 1) (book_of (ks ++ (pl ∷ [])) fs q) (reader_at s q.at None))

@@ -7,7 +7,7 @@ ghost use Rattle.loader.specs.Loading.{Loads};
 
 mod run;
 
-use run::{SHORT, load_few, load_many};
+use run::load_indexed;
 use spec::{Loaded, refusals};
 use steps::no_instruction;
 
@@ -28,10 +28,7 @@ pub fn load(
     if !formed::prepare(grammar, &mut index) {
         return no_instruction(refusals::BAD_GRAMMAR, 0);
     }
-    if module.len() <= SHORT {
-        return load_few(module, grammar, &index, instructions, log, strings, types);
-    }
-    load_many(module, grammar, &index, instructions, log, strings, types)
+    load_indexed(module, grammar, &index, instructions, log, strings, types)
 }
 
 // Loads a module by the built-in grammar, for which nothing is checked or indexed at run time.
@@ -48,8 +45,5 @@ pub fn load_builtin(
 {
     let table = builtin::table();
     let index = builtin::prepared();
-    if module.len() <= SHORT {
-        return load_few(module, &table, &index, instructions, log, strings, types);
-    }
-    load_many(module, &table, &index, instructions, log, strings, types)
+    load_indexed(module, &table, &index, instructions, log, strings, types)
 }

@@ -1,11 +1,11 @@
 // The instructions of a module, one after the other, and a load by a grammar that is indexed.
 ghost use Rattle.std.specs.Prelude.{◌≡◌, ◌≤◌, ◌<◌, length};
 ghost use Rattle.spec.specs.Load.{lent};
-ghost use Rattle.reflect.specs.Column.{layout_table, kind_table};
 ghost use Rattle.grammar.specs.Index.{Indexed};
 ghost use Rattle.tracker.specs.Hints.{Blank};
 ghost use Rattle.loader.specs.Loading.{LoadsFrom, LoadsWith};
 
+use reflect::Layout;
 use room::room_in;
 use spec::{Loaded, Numbers, Refusal, State, refusals};
 use steps::{
@@ -20,7 +20,7 @@ const HINTS: usize = 32768;
 const FEW_HINTS: usize = 2560;
 
 // A module of so many bytes or less is short.
-pub const SHORT: usize = 16384;
+const SHORT: usize = 16384;
 
 // A module has so many bytes at most.
 const LONGEST: usize = 67108864;
@@ -37,8 +37,7 @@ const SPARE: usize = 256;
 
 // The instructions after the header, to the first refusal or the end: each is decoded, placed in the layout, given room, and kept.
 fn load_from(
-    kinds: &[u8; 256],
-    table: &[[u8; 3]; 19],
+    layout: &Layout,
     s: &[u8],
     g: &[u8],
     index: &[u16],
@@ -52,7 +51,6 @@ fn load_from(
 ) -> Ended
     requires indexed { Indexed g.now index.now }
     requires in_bounds { (20 ≤ length s.now) × (length s.now ≤ 67108864) }
-    requires table_value { (table.now ≡ layout_table) × (kinds.now ≡ kind_table) }
     requires in_bounds_2 { (2048 ≤ length hints.old) × Blank hints.old }
     ensures loads_from { LoadsFrom g.now s.now
         (lent instructions.old log.old strings.old types.old)
@@ -61,25 +59,22 @@ fn load_from(
 {
     let room = room_in(instructions.len(), log.len(), strings.len(), types.len());
     let bound = words::word_at(s, BOUND);
-    let tracker = TypeTracker::new(bound, hints.len());
-    let numbers = Numbers {
-        function: 0,
-        block: 0,
-    };
     let mut p = Progress {
         at: HEADER,
         instructions: 0,
         log: 0,
         strings: 0,
-        tracker,
-        numbers,
+        tracker: TypeTracker::new(bound, hints.len()),
+        numbers: Numbers {
+            function: 0,
+            block: 0,
+        },
         state: State::Outside,
         breaks: 0,
     };
     while 4 <= s.len() - p.at {
         let read = decode(s, g, index, types, hints, scratch, spare, p);
-        let verdict = admit(kinds, table, types, hints, room, p, read);
-        match verdict {
+        match admit(layout, types, hints, room, p, read) {
             Err(x) => return Ended {
                 progress: p,
                 refusal: x,
@@ -97,9 +92,8 @@ fn load_from(
             }
         }
     }
-    let state = p.state;
     let refusal = Refusal {
-        number: end_number(state),
+        number: end_number(p.state),
         place: p.at,
         value: 0,
     };
@@ -112,8 +106,7 @@ fn load_from(
 
 // A load by the bytes of a grammar and its index, with everything lent that it works with.
 fn load_with(
-    kinds: &[u8; 256],
-    table: &[[u8; 3]; 19],
+    layout: &Layout,
     s: &[u8],
     g: &[u8],
     index: &[u16],
@@ -126,7 +119,6 @@ fn load_with(
     spare: &mut [u8; SPARE],
 ) -> Loaded
     requires indexed { Indexed g.now index.now }
-    requires table_value { (table.now ≡ layout_table) × (kinds.now ≡ kind_table) }
     requires in_bounds { (2048 ≤ length hints.old) × Blank hints.old }
     ensures { LoadsWith g.now s.now
         (lent instructions.old log.old strings.old types.old)
@@ -136,14 +128,11 @@ fn load_with(
         return no_instruction(refusals::MODULE_TOO_LONG, 0);
     }
     let header = decoder::header(s);
-    let refusal = header.refusal;
-    if refusal.number != refusals::ACCEPTED {
-        return no_instruction(refusal.number, refusal.place);
+    if header.refusal.number != refusals::ACCEPTED {
+        return no_instruction(header.refusal.number, header.refusal.place);
     }
-    let words = header.words;
     let ended = load_from(
-        kinds,
-        table,
+        layout,
         s,
         g,
         index,
@@ -155,20 +144,20 @@ fn load_with(
         scratch,
         spare,
     );
-    stopped(words, ended, s.len())
+    stopped(header.words, ended, s.len())
 }
 
 // THE STACK
 //
-// All that a load works with lies in the frame of one of the next two functions, which differ in their hints alone. They are two because
-// a frame has room for everything that its function declares, whichever branch is taken: one function for both would have a short
+// All that a load works with lies in the frame of the next function, of which there are two that differ in their hints alone. They are two
+// because a frame has room for everything that its function declares, whichever branch is taken: one function for both would have a short
 // module pay for the long hints. The compiler is told to keep them apart from their callers, and tools/stack sees to it that it does.
 // Scratch and spare are lent from here too: as locals of `load_from` they would be copied from by a call, which for a few bytes takes
 // longer than a loop.
 
-// A load of a short module: a long table of hints would take more time to clear than it saves.
+// A load with so many hints.
 #[inline(never)]
-pub fn load_few(
+fn load_sized<const SIZE: usize>(
     s: &[u8],
     g: &[u8],
     index: &[u16],
@@ -177,19 +166,18 @@ pub fn load_few(
     strings: &mut [u8],
     types: &mut [u32],
 ) -> Loaded
-    requires { Indexed g.now index.now }
+    requires size_bound { (2048 ≤ SIZE) × (SIZE ≤ 32768) }
+    requires indexed { Indexed g.now index.now }
     ensures { LoadsWith g.now s.now
         (lent instructions.old log.old strings.old types.old)
         (lent instructions.new log.new strings.new types.new) result }
 {
-    let kinds = reflect::kinds();
-    let table = reflect::table();
-    let mut hints = [0u16; FEW_HINTS];
+    let layout = Layout::new();
+    let mut hints = [0u16; SIZE];
     let mut scratch = [0u8; SCRATCH];
     let mut spare = [0u8; SPARE];
     load_with(
-        &kinds,
-        &table,
+        &layout,
         s,
         g,
         index,
@@ -203,9 +191,8 @@ pub fn load_few(
     )
 }
 
-// A load of any module.
-#[inline(never)]
-pub fn load_many(
+// A load by the length of the module: for a short one, a long table of hints would take more time to clear than it saves.
+pub fn load_indexed(
     s: &[u8],
     g: &[u8],
     index: &[u16],
@@ -219,23 +206,8 @@ pub fn load_many(
         (lent instructions.old log.old strings.old types.old)
         (lent instructions.new log.new strings.new types.new) result }
 {
-    let kinds = reflect::kinds();
-    let table = reflect::table();
-    let mut hints = [0u16; HINTS];
-    let mut scratch = [0u8; SCRATCH];
-    let mut spare = [0u8; SPARE];
-    load_with(
-        &kinds,
-        &table,
-        s,
-        g,
-        index,
-        instructions,
-        log,
-        strings,
-        types,
-        &mut hints,
-        &mut scratch,
-        &mut spare,
-    )
+    if s.len() <= SHORT {
+        return load_sized::<FEW_HINTS>(s, g, index, instructions, log, strings, types);
+    }
+    load_sized::<HINTS>(s, g, index, instructions, log, strings, types)
 }

@@ -6,12 +6,12 @@ ghost use Rattle.std.specs.Prelude.{◌≡◌, true, ◌+◌, ◌*◌, ◌≤◌
 ghost use Rattle.std.proofs.lemmas.List.Edits.{sets};
 ghost use Rattle.spec.specs.Records.{field_size, field_words, fields_at, record_size, record_words};
 ghost use Rattle.text.specs.AsciiText.{is_ascii_text};
-ghost use Rattle.reflect.specs.Column.{layout_table, kind_table};
 ghost use Rattle.spec.specs.Check.{take_operand, take_operands, fault_of};
 ghost use Rattle.records.specs.Steps.{given, checked_is, end_answer, left_at, fields_hold, offset_after, word_if, result_words, is_string, text_passed, passed_one, passed_all, operands_after, tag_after, is_outside, at_most, fault_in};
 ghost use Rattle.records.specs.Good.{numbers_at, Whole, Logged};
 
 use operand::{Parts, is_two};
+use reflect::Layout;
 use spec::{Cell, Fields, Numbers, State, kinds};
 
 // How many words the fields of an instruction record have, which were last season's whole record.
@@ -302,12 +302,10 @@ fn operands_after(
 // 3. TAGS
 
 // The state after a record that has the tag which the table gives for its opcode.
-fn tag_after(kinds: &[u8; 256], table: &[[u8; 3]; 19], s: State, f: Fields) -> Option<State>
-    requires { (table.now ≡ layout_table) × (kinds.now ≡ kind_table) }
+fn tag_after(layout: &Layout, s: State, f: Fields) -> Option<State>
     ensures { result ≡ tag_after s f }
 {
-    let cell = reflect::place(kinds, table, (f.head % 65536) as u16, s);
-    let Ok((tag, next)) = cell else {
+    let Ok((tag, next)) = layout.place((f.head % 65536) as u16, s) else {
         return None;
     };
     if f.tag == (tag as u32) {
@@ -350,14 +348,12 @@ struct Asked {
 // One pass over the records: each is held to its tag, its fields and offset, and its operands. Where all strings are ASCII text, no string
 // is looked at by itself: that loop is short.
 fn first_fault<const ASCII: bool>(
-    kinds: &[u8; 256],
-    table: &[[u8; 3]; 19],
+    layout: &Layout,
     asked: Asked,
     instructions: &[u32],
     log: &[u8],
     strings: &[u8],
 ) -> Option<usize>
-    requires table_value { (table.now ≡ layout_table) × (kinds.now ≡ kind_table) }
     requires field_size_le_size { field_size ≤ asked.size }
     requires strings_value { ASCII ≡ true → is_ascii_text strings.now ≡ true }
     ensures { checked_is result ≡ fault_in asked instructions.now log.now strings.now }
@@ -369,7 +365,7 @@ fn first_fault<const ASCII: bool>(
     let mut s = State::Outside;
     for i in 0..asked.count.min(there) {
         let f = fields_at(instructions, asked.size * i);
-        let Some(next_s) = tag_after(kinds, table, s, f) else {
+        let Some(next_s) = tag_after(layout, s, f) else {
             return Some(i + 1);
         };
         let Some(next_at) = offset_after(at, f) else {
@@ -414,8 +410,7 @@ pub fn check_of(
 {
     let log_end = log_count.min(log.len());
     let strings_end = string_count.min(strings.len());
-    let kinds = reflect::kinds();
-    let table = reflect::table();
+    let layout = Layout::new();
     let log = &log[..log_end];
     let strings = &strings[..strings_end];
     let asked = Asked {
@@ -426,9 +421,9 @@ pub fn check_of(
         strings: string_count,
     };
     if text::is_ascii_text(strings) {
-        return first_fault::<true>(&kinds, &table, asked, instructions, log, strings);
+        return first_fault::<true>(&layout, asked, instructions, log, strings);
     }
-    first_fault::<false>(&kinds, &table, asked, instructions, log, strings)
+    first_fault::<false>(&layout, asked, instructions, log, strings)
 }
 
 // Whether given records do, those of a load.

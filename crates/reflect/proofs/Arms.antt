@@ -25,9 +25,9 @@ among (keys ∷ arms) x = has_key keys x || among arms x
 
 -- none of the keys is not among them
 not_among : (arms : List (List ℕ)) (x : ℕ) → NoneOf arms x → T (among arms x) → ⊥
-not_among [] x None t = t
-not_among (keys ∷ arms) x None t =
-    ⊎_elim (λ h. None.1 (hit keys x h)) (not_among arms x None.0) (or_yes (has_key keys x) (among arms x) t)
+not_among [] x none t = t
+not_among (keys ∷ arms) x none t =
+    ⊎_elim (λ h. none.1 (hit keys x h)) (not_among arms x none.0) (or_yes (has_key keys x) (among arms x) t)
 
 -- from a up to b, does each number pass that is no key
 abbrev pub pass : List (List ℕ) → ℕ → ℕ → (ℕ → Bool) → Bool
@@ -37,18 +37,18 @@ pass arms a b f = all (λ y. among arms y || f y) a (b - a)
 abbrev pub clear : List (List ℕ) → ℕ → ℕ → List ℕ → Bool
 clear arms a b l = every (λ y. ltb y a || (leb b y || among arms y)) l
 
-module _ (arms : List (List ℕ)) {a b x : ℕ} (None : NoneOf arms x) (low : a ≤ x) (high : x < b) where
+module _ (arms : List (List ℕ)) {a b x : ℕ} (none : NoneOf arms x) (low : a ≤ x) (high : x < b) where
   -- a number that is left passes a test that the range passes
   pub passed : (f : ℕ → Bool) → pass arms a b f ≡ true → T (f x)
   passed f e =
-      ⊎_elim (λ h. absurd (not_among arms x None h)) (λ h. h)
+      ⊎_elim (λ h. absurd (not_among arms x none h)) (λ h. h)
       (or_yes (among arms x) (f x) (subst T (sym (each (λ y. among arms y || f y) a (b - a) e x low (omega arith))) tt))
 
   -- it lies in the range, and is no key
   not_here : T (ltb x a || (leb b x || among arms x)) → ⊥
   not_here t =
       ⊎_elim (λ h. let e : x < a = ltb→lt x a h in omega arith)
-      (λ h. ⊎_elim (λ g. let e : b ≤ x = leb→le b x g in omega arith) (not_among arms x None) (or_yes (leb b x) (among arms x) h))
+      (λ h. ⊎_elim (λ g. let e : b ≤ x = leb→le b x g in omega arith) (not_among arms x none) (or_yes (leb b x) (among arms x) h))
       (or_yes (ltb x a) (leb b x || among arms x) t)
 
   -- so it is in no list that is clear of the range

@@ -34,10 +34,10 @@ kind_of e = sym (ap opcode_kind e)
 abbrev pub all_clear : List (List ℕ) → ℕ → ℕ → List Line → Bool
 all_clear arms a b ls = every (λ l. clear arms a b l.opcodes) ls
 
-module _ (arms : List (List ℕ)) {a b x : ℕ} (None : NoneOf arms x) (low : a ≤ x) (high : x < b) where
+module _ (arms : List (List ℕ)) {a b x : ℕ} (none : NoneOf arms x) (low : a ≤ x) (high : x < b) where
   -- an opcode of a range whose opcodes, but for the keys, are all of one kind
   pub run_kind : {k : ℕ} → pass arms a b (λ y. eqb k (opcode_kind y)) ≡ true → k ≡ opcode_kind x
-  run_kind {k} e = eqb→eq k (opcode_kind x) (passed arms None low high (λ y. eqb k (opcode_kind y)) e)
+  run_kind {k} e = eqb→eq k (opcode_kind x) (passed arms none low high (λ y. eqb k (opcode_kind y)) e)
 
   -- an opcode that no line has is of the kind after them
   past : (n : ℕ) (ls : List Line) → T (all_clear arms a b ls) → kind_from x n ls ≡ n + length ls
@@ -45,7 +45,7 @@ module _ (arms : List (List ℕ)) {a b x : ℕ} (None : NoneOf arms x) (low : a 
   past n [] t = sym (add-zero n)
   past n (l ∷ ls) t =
       let u = and_yes (clear arms a b l.opcodes) (all_clear arms a b ls) t in
-      rw (absent arms None low high l.opcodes u.0) (past (suc n) ls u.1 ∙ suc-add n (length ls) ∙ sym (add-suc n (length ls)))
+      rw (absent arms none low high l.opcodes u.0) (past (suc n) ls u.1 ∙ suc-add n (length ls) ∙ sym (add-suc n (length ls)))
 
   -- kind 19 has "every opcode of no line above"
   pub other_kind : T (all_clear arms a b lines) → 19 ≡ opcode_kind x

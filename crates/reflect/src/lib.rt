@@ -19,7 +19,7 @@ const BLOCK: u8 = 2;
 const REFUSED: u8 = 3;
 
 // "A fixed table of nineteen kinds against three states": outside, in a function, in a block.
-// A constant is built anew wherever it is named: `table` names it once, and whoever looks up is lent what that gave.
+// A constant is built anew wherever it is named: `table` names it once.
 const LAYOUT: [[u8; 3]; 19] = [
     [4 * 1 + OUTSIDE, 4 * 1 + FUNCTION, 4 * 1 + BLOCK], // 1 Capability
     [4 * 2 + OUTSIDE, 4 * 2 + FUNCTION, 4 * 2 + BLOCK], // 2 Extension
@@ -69,7 +69,7 @@ pub fn opcode_kind(opcode: u16) -> u8
     }
 }
 
-// The kinds of the opcodes below 256, sixteen to a line, to be lent to `place`.
+// The kinds of the opcodes below 256, sixteen to a line.
 pub fn kinds() -> [u8; 256]
     ensures { result ≡ kind_table }
 {
@@ -92,17 +92,6 @@ pub fn kinds() -> [u8; 256]
 \x13\x13\x13\x13\x13\x13\x13\x13\x10\x11\x11\x11\x11\x11\x11\x11"
 }
 
-// The kind of an opcode, from the lent kinds where it is one of theirs.
-fn kind_by(kinds: &[u8; 256], opcode: u16) -> u8
-    requires { kinds.now ≡ kind_table }
-    ensures { result ≡ opcode_kind opcode }
-{
-    if opcode < 256 {
-        return kinds[opcode as usize];
-    }
-    opcode_kind(opcode)
-}
-
 // Does the opcode declare a type, as type tracking asks: the layout has a list of its own.
 pub fn is_type(opcode: u16) -> bool
     ensures { result ≡ is_type opcode }
@@ -121,7 +110,7 @@ fn column(s: State) -> usize
     }
 }
 
-// The layout table, to be lent to `place`.
+// The layout table.
 pub fn table() -> [[u8; 3]; 19]
     ensures { result ≡ layout_table }
 {
@@ -141,21 +130,38 @@ fn cell(code: u8) -> Cell
     }
 }
 
-// What the table says of a kind in a state.
-fn place_of(table: &[[u8; 3]; 19], kind: u8, s: State) -> Cell
-    requires table_value { table.now ≡ layout_table }
-    requires le_kind { (1 ≤ kind) × (kind ≤ 19) }
-    ensures { result ≡ layout_at kind s }
-{
-    let line = (kind - 1) as usize;
-    let c = column(s);
-    cell(table[line][c])
+// The kinds and the table, built once for a load or a check, and lent to whoever asks where an instruction goes.
+#[derive(Drop)]
+pub struct Layout {
+    kinds: [u8; 256],
+    cells: [[u8; 3]; 19],
+    ghost kinds_known: { kinds ≡ kind_table },
+    ghost cells_known: { cells ≡ layout_table },
 }
 
-// What the table says of an opcode in a state, by the lent kinds and table: the tag and the state after it, or the number of a refusal.
-pub fn place(kinds: &[u8; 256], table: &[[u8; 3]; 19], opcode: u16, s: State) -> Cell
-    requires { (table.now ≡ layout_table) × (kinds.now ≡ kind_table) }
-    ensures { result ≡ layout_of opcode s }
-{
-    place_of(table, kind_by(kinds, opcode), s)
+impl Layout {
+    pub fn new() -> Layout {
+        Layout {
+            kinds: kinds(),
+            cells: table(),
+        }
+    }
+
+    // The kind of an opcode, from the kinds where it is one of theirs.
+    fn kind(&self, opcode: u16) -> u8
+        ensures { result ≡ opcode_kind opcode }
+    {
+        if opcode < 256 {
+            return self.kinds[opcode as usize];
+        }
+        opcode_kind(opcode)
+    }
+
+    // What the layout says of an opcode in a state: the tag and the state after it, or the number of a refusal.
+    pub fn place(&self, opcode: u16, s: State) -> Cell
+        ensures { result ≡ layout_of opcode s }
+    {
+        let line = (self.kind(opcode) - 1) as usize;
+        cell(self.cells[line][column(s)])
+    }
 }

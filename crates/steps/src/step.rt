@@ -4,7 +4,6 @@ ghost use Rattle.std.proofs.lemmas.List.Edits.{sets};
 ghost use Rattle.spec.specs.Records.{record_size, entry_size};
 ghost use Rattle.spec.specs.Reader.{refusal};
 ghost use Rattle.spec.specs.Load.{room_fault};
-ghost use Rattle.reflect.specs.Column.{layout_table, kind_table};
 ghost use Rattle.grammar.specs.Index.{Indexed};
 ghost use Rattle.tracker.specs.Entries.{entries_of};
 ghost use Rattle.steps.specs.Steps.{Bounded, Typed, Moderate, Fair, Tells, need_of, judged, tracked, Shown, Shows, Stored, Recorded};
@@ -12,6 +11,7 @@ ghost use Rattle.steps.specs.Steps.{Bounded, Typed, Moderate, Fair, Tells, need_
 use crate::parts::{Progress, Taken, fields_of};
 use parser::{Decoded, parse_body, parse_inst};
 use records::RECORD;
+use reflect::Layout;
 use room::room_fault;
 use spec::{Cell, Counts, Refusal, State, refusals};
 use tracker::Told;
@@ -97,21 +97,19 @@ fn refused(number: u32, place: usize) -> Result<(Decoded, u8, State), Refusal>
 
 // An instruction by its layout and the room for it, where it was read.
 pub fn admit(
-    kinds: &[u8; 256],
-    table: &[[u8; 3]; 19],
+    layout: &Layout,
     types: &[u32],
     hints: &[u16],
     room: Counts,
     p: Progress,
     read: Result<Decoded, Refusal>,
 ) -> Result<(Decoded, u8, State), Refusal>
-    requires table_value { (table.now ≡ layout_table) × (kinds.now ≡ kind_table) }
     requires bounded { Bounded p × Typed types.now hints.now p }
     requires fair { Fair read }
     ensures { result ≡ judged room (entries_of p.tracker.count types.now) p read }
 {
     let d = read?;
-    match reflect::place(kinds, table, d.opcode, p.state) {
+    match layout.place(d.opcode, p.state) {
         Err(n) => refused(n as u32, p.at),
         Ok((tag, next)) => {
             let fault = room_fault(room, need_after(types, hints, room, p, d));
