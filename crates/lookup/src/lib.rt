@@ -30,7 +30,7 @@ fn wide_byte(x: u8) -> usize
 pub struct Names<'a> {
     pub run: &'a [u8],
     pub index: &'a [u16],
-    pub ghost indexed: { Indexed run.now index.now },
+    ghost indexed: { Indexed run.now index.now },
 }
 
 impl<'a> Names<'a> {
