@@ -408,10 +408,10 @@ pub put_id : Determined put-id-call.Kinds.ps put-id-call.Kinds.r put-id-call.Rea
 put_id = λ κs a x y after other ask p q. (both p.place q.place, and (both p.stored q.stored) refl)
 
 pub put_name : Determined put-name-call.Kinds.ps put-name-call.Kinds.r put-name-call.Reads.Asked put-name-call.Reads.Learnt
-put_name = λ κs a x y after other ask p q. (both p.place q.place, and refl (and refl (and refl (and refl (and (both p.stored q.stored) refl)))))
+put_name = λ κs a x y after other ask p q. (both p.place q.place, and refl (and refl (and refl (and (both p.stored q.stored) refl))))
 
 pub put_operands : Determined put-operands-call.Kinds.ps put-operands-call.Kinds.r put-operands-call.Reads.Asked put-operands-call.Reads.Learnt
-put_operands = λ κs a x y after other ask p q. (both p.place q.place, and refl (and refl (and refl (and refl (and refl (and refl (and (both p.stored q.stored) refl)))))))
+put_operands = λ κs a x y after other ask p q. (both p.place q.place, and refl (and refl (and refl (and refl (and refl (and (both p.stored q.stored) refl))))))
 
 -- the place after an operand
 pub operand_after : Determined after-call.Kinds.ps after-call.Kinds.r after-call.Reads.Asked after-call.Reads.Learnt
@@ -430,7 +430,7 @@ set_of = λ κs a x y after other ask p q. (both p q, refl)
 
 -- an instruction's line
 pub put_line : Determined put-line-call.Kinds.ps put-line-call.Kinds.r put-line-call.Reads.Asked put-line-call.Reads.Learnt
-put_line = λ κs a x y after other ask p q. (both p.place q.place, and refl (and refl (and refl (and refl (and refl (and refl (and refl (and (both p.stored q.stored) refl))))))))
+put_line = λ κs a x y after other ask p q. (both p.place q.place, and refl (and refl (and refl (and refl (and refl (and refl (and (both p.stored q.stored) refl)))))))
 
 -- a module's listing, written into a buffer
 pub listing : Determined listing-call.Kinds.ps listing-call.Kinds.r listing-call.Reads.Asked listing-call.Reads.Learnt

@@ -15,7 +15,7 @@ pub slice_bounds-put_bytes-end : goal.slice_bounds-put_bytes-end
 slice_bounds-put_bytes-end c = omega (arith, name_inside _ _ _ _ c.find-found.ensures.inside c.in-Some.is)
 
 pub put_bytes-requires : goal.put_bytes-requires
-put_bytes-requires c = room_as _ _ (sym (name_found _ _ _ _ _ _ c.find-found.ensures.result_value c.in-Some.is)) c.requires.room
+put_bytes-requires c = room_as _ _ (sym (name_found _ _ _ _ _ _ c.find-found.ensures.result_value c.in-Some.is)) c.requires
 
 pub returns : goal.returns
 returns c = wrote_as _ _ (name_found _ _ _ _ _ _ c.find-found.ensures.result_value c.in-Some.is) c.put_bytes.ensures
