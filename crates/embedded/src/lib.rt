@@ -97,10 +97,11 @@ fn push_opcode(log: &mut [u8], word: u32, at: usize, u: Used) -> Used
     ensures laid { Laid log.old u.log (record_of (parts 39 (word % 65536))) log.new }
     ensures breaks_value { result.breaks ≡ first_break u.breaks (if ltb 65535 word then at else 0) }
 {
-    let before = u.breaks;
-    let mut n = push(log, kinds::EMBEDDED, (word % 65536) as u64, u);
-    n.breaks = first_break(before, opcode_break(word, at));
-    n
+    let n = push(log, kinds::EMBEDDED, (word % 65536) as u64, u);
+    Used {
+        breaks: first_break(u.breaks, opcode_break(word, at)),
+        ..n
+    }
 }
 
 // An operation inside OpSpecConstantOp: 13 where it has no row, 14 where its row may not be embedded.

@@ -19,15 +19,15 @@ use spec::{Refusal, refusals};
 use tracker::TypeTracker;
 use used::{Frame, Used};
 
-// An instruction that was read: its opcode and word count, where its row's operands start, its results as `Used` has them, how many
+// An instruction that was read: its opcode and word count, where its row's operands start, its results, how many
 // operands, the first two, where log and strings go on after its records, and the lowest offset that breaks it, or 0.
 #[derive(Clone, Copy)]
 pub struct Decoded {
     pub opcode: u16,
     pub words: u16,
     pub place: usize,
-    pub rtype: u64,
-    pub rid: u64,
+    pub rtype: Option<u32>,
+    pub rid: Option<u32>,
     pub operands: usize,
     pub first: Parts,
     pub second: Parts,

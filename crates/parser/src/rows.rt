@@ -18,7 +18,7 @@ use embedded::parse_spec_constant_op;
 use spec::{kinds, refusals};
 use tracker::TypeTracker;
 use untyped::{next_place, parse_operand, read_word};
-use used::{Frame, Used, literal_for, refused, there, with_result};
+use used::{Frame, Used, literal_for, refused, with_result};
 
 // An operand that is no result, where a literal by type is of a kind.
 fn parse_kind(
@@ -66,7 +66,7 @@ fn parse_slot(
 {
     if grammar::is_result(kind) {
         let (id, e) = d.word(s)?;
-        return Ok((with_result(u, kind, there(id)), e));
+        return Ok((with_result(u, kind, id), e));
     }
     if (31 <= kind) & (kind <= 35) {
         return read_word(d, s, kind, log, u);

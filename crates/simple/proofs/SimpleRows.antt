@@ -18,7 +18,7 @@ use Rattle.decoder.specs.declared.Decoder.{Decoder}
 use Rattle.decoder.specs.Answer.{reader_of, word_from, limit_reached}
 use Rattle.used.specs.declared.used.Used.{Used}
 use Rattle.used.specs.declared.used.Frame.{Frame}
-use Rattle.used.specs.Parse.{word_is, left_of, Went, Few, Parses, kind_is, literal_for, kind_alone, slots_at, SlotWalks}
+use Rattle.used.specs.Parse.{left_of, Went, Few, Parses, kind_is, literal_for, kind_alone, slots_at, SlotWalks}
 use Rattle.used.specs.Fresh.{with_result}
 use Rattle.untyped.specs.Body.{Framed, start_of}
 use Rattle.simple.specs.Simple.{There, IfTaken}
@@ -36,9 +36,9 @@ no_result k x y = fails (is_result k) (λ e. omega (arith, in_range 46 k 47 e, x
 module _ (s : List ℕ) (g : Grammar) (j l : ℕ) (d : Decoder) (log strs : List ℕ) (u : Used) (t : Bool) (p : t ≡ is_result j) (types : List Entry)
     (f : kind_is l ≡ literal_for types u j) where
   -- a result
-  pub reads_result : t ≡ true → Few s d u → (v : ℕ) (e : Decoder) → Ok (v, e) ≡ word_from s d → (i : ℕ) → word_is i ≡ Some v → (n : Used) → n ≡ with_result j i u
+  pub reads_result : t ≡ true → Few s d u → (v : ℕ) (e : Decoder) → Ok (v, e) ≡ word_from s d → (n : Used) → n ≡ with_result j v u
       → IfTaken (SlotWalks s d j (λ x. read_slot g types x j (reader_of s d)) log strs log strs u) (Some (n, e))
-  reads_result q m v e h i o n z = take _ e n (walks_result s g j l d log strs u t p types f q m v e h i o n z)
+  reads_result q m v e h n z = take _ e n (walks_result s g j l d log strs u t p types f q m v e h n z)
 
   -- any other operand, by its read
   pub reads_as : t ≡ false → (log₁ strs₁ : List ℕ) (v : Option (Used × Decoder)) (y : Read (List Operand)) → kind_alone g (kind_is l) j (reader_of s d) ≡ y

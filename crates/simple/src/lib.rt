@@ -20,7 +20,7 @@ use decoder::{Answer, Decoder};
 use spec::kinds;
 use tracker::TypeTracker;
 use untyped::{next_place, parse_parameters};
-use used::{Frame, Used, id_of, literal_kind, push, push_text, there, with_result};
+use used::{Frame, Used, literal_kind, push, push_text, with_result};
 
 // A word, and the decoder after it.
 #[derive(Clone, Copy)]
@@ -82,8 +82,7 @@ fn simple_result(d: Decoder, s: &[u8], kind: u8, u: Used) -> Option<(Used, Decod
     ensures { (g : Grammar) (types : List Entry) (l t : List ℕ) → IfTaken (SlotWalks s.now d kind (λ x. read_slot g types x kind (reader_of s.now d)) l t l t u) result }
 {
     let x = next_word(d, s);
-    let e = x.after;
-    Some((with_result(u, kind, there(x.word)), e))
+    Some((with_result(u, kind, x.word), x.after))
 }
 
 // One record of a word.
@@ -93,9 +92,7 @@ fn simple_word(d: Decoder, s: &[u8], kind: u8, log: &mut [u8], u: Used) -> Optio
     ensures { (g : Grammar) (t : List ℕ) → IfTaken (Parses s.now d 4 (read_each g (kind ∷ []) (reader_of s.now d)) log.old t log.new t u) result }
 {
     let x = next_word(d, s);
-    let e = x.after;
-    let n = push(log, kind, x.word as u64, u);
-    Some((n, e))
+    Some((push(log, kind, x.word as u64, u), x.after))
 }
 
 // A string.
@@ -209,8 +206,7 @@ fn simple_slot(
         return simple_text(d, s, log, strings, u);
     }
     if kind == kinds::TYPED_LITERAL {
-        let id = id_of(u.rtype);
-        let literal = literal_kind(tracker.resolve(types, hints, id));
+        let literal = literal_kind(tracker.resolve(types, hints, u.rtype));
         return simple_literal(d, s, literal, log, u);
     }
     None

@@ -15,7 +15,7 @@ use reflect::Layout;
 use room::room_fault;
 use spec::{Cell, Counts, Refusal, State, refusals};
 use tracker::Told;
-use used::{Frame, id_of, unused};
+use used::{Frame, unused};
 
 // DECODING
 
@@ -47,17 +47,13 @@ fn told_of(d: Decoded) -> Told
     requires { Moderate d }
     ensures { Tells d result }
 {
-    let rtype = id_of(d.rtype);
-    let rid = id_of(d.rid);
-    let first = d.first;
-    let second = d.second;
     Told {
         opcode: d.opcode,
-        rtype,
-        rid,
+        rtype: d.rtype,
+        rid: d.rid,
         operands: d.operands,
-        first,
-        second,
+        first: d.first,
+        second: d.second,
     }
 }
 

@@ -7,9 +7,9 @@ ghost use Rattle.tracker.specs.Entries.{entries_of, known_of};
 ghost use Rattle.tracker.specs.Hints.{Hinted};
 ghost use Rattle.used.specs.Parse.{FirstFits, kind_is, is_literal, literal_for};
 
-use crate::used::{Used, id_of, selector_of};
+use crate::used::{Used, selector_of};
 use spec::kinds;
-use tracker::{Resolved, TypeTracker};
+use tracker::{Scalar, TypeTracker};
 
 // The kind of a float literal by width: 0 where the width is not supported.
 fn float_kind(width: u32) -> u8
@@ -38,18 +38,16 @@ fn integer_kind(width: u32) -> u8
 }
 
 // The kind of a literal by a type: one word where it is not known.
-pub fn literal_kind(known: Resolved) -> u8
+pub fn literal_kind(known: Option<Scalar>) -> u8
     ensures { ((i : Option ℕ) (es : List Entry) → known ≡ known_of i es → kind_is result ≡ literal_kind_of (type_of i es)) × (is_literal result ≡ true) }
 {
-    match known {
-        Resolved::Unknown => kinds::INT32,
-        Resolved::Type { width, sort } => {
-            if sort == 3 {
-                return float_kind(width);
-            }
-            integer_kind(width)
-        }
+    let Some(x) = known else {
+        return kinds::INT32;
+    };
+    if x.sort == 3 {
+        return float_kind(x.width);
     }
+    integer_kind(x.width)
 }
 
 // The kind of the literal that an operand of a row is read as: by the result type, by the first operand; for any other operand nothing.
@@ -60,12 +58,10 @@ pub fn literal_for(types: &[u32], hints: &[u16], tracker: TypeTracker, kind: u8,
     ensures { (kind_is result ≡ literal_for (entries_of tracker.count types.now) u kind) × (is_literal result ≡ true) }
 {
     if kind == kinds::TYPED_LITERAL {
-        let id = id_of(u.rtype);
-        return literal_kind(tracker.resolve(types, hints, id));
+        return literal_kind(tracker.resolve(types, hints, u.rtype));
     }
     if kind == kinds::LITERAL_AND_ID {
-        let id = selector_of(u);
-        return literal_kind(tracker.resolve(types, hints, id));
+        return literal_kind(tracker.resolve(types, hints, selector_of(u)));
     }
     0
 }

@@ -11,7 +11,7 @@ returns-in_err-id c types f =
 
 pub returns-then-is_result : goal.returns-then-is_result
 returns-then-is_result c types f =
-    walks_result _ _ _ _ _ _ _ _ _ c.is_result.ensures types f c.if-is_result.true c.requires.few.0 _ _ c.in_ok-id.ensures _ c.there.ensures _ c.with_result.ensures
+    walks_result _ _ _ _ _ _ _ _ _ c.is_result.ensures types f c.if-is_result.true c.requires.few.0 _ _ c.in_ok-id.ensures _ c.with_result.ensures
 
 pub read_word-requires : goal.read_word-requires
 read_word-requires c = (c.requires.few.0, number_word _ c.if-kind.true)
