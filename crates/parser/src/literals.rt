@@ -1,10 +1,10 @@
 // Literals of a kind, read.
 ghost use Rattle.std.specs.Prelude.{◌≡◌, true};
 ghost use Rattle.decoder.specs.Answer.{reader_of};
-ghost use Rattle.grammar.specs.Index.{Indexed};
 ghost use Rattle.used.specs.Parse.{Few, Parses, kind_is, is_literal, literal_alone, pair_alone};
 
 use decoder::{Answer, Decoder};
+use grammar::Rows;
 use spec::{kinds, refusals};
 use untyped::read_one;
 use used::{Used, push, refused};
@@ -13,15 +13,13 @@ use used::{Used, push, refused};
 pub fn parse_literal(
     d: Decoder,
     s: &[u8],
-    g: &[u8],
-    index: &[u16],
+    rows: Rows,
     literal: u8,
     log: &mut [u8],
     strings: &mut [u8],
     u: Used,
 ) -> Answer<Used>
-    requires indexed { Indexed g.now index.now }
-    requires few { Few s.now d u × (is_literal literal ≡ true) }
+    requires { Few s.now d u × (is_literal literal ≡ true) }
     ensures { Parses s.now d 4 (literal_alone (kind_is literal) (reader_of s.now d)) log.old strings.old log.new strings.new u result }
 {
     if literal == 0 {
@@ -31,24 +29,22 @@ pub fn parse_literal(
         let (v, e) = d.int64(s)?;
         return Ok((push(log, literal, v, u), e));
     }
-    read_one(d, s, g, index, literal, log, strings, u)
+    read_one(d, s, rows, literal, log, strings, u)
 }
 
 // A literal of a kind, then an id.
 pub fn parse_literal_pair(
     d: Decoder,
     s: &[u8],
-    g: &[u8],
-    index: &[u16],
+    rows: Rows,
     literal: u8,
     log: &mut [u8],
     strings: &mut [u8],
     u: Used,
 ) -> Answer<Used>
-    requires indexed { Indexed g.now index.now }
-    requires few { Few s.now d u × (is_literal literal ≡ true) }
+    requires { Few s.now d u × (is_literal literal ≡ true) }
     ensures { Parses s.now d 4 (pair_alone (kind_is literal) (reader_of s.now d)) log.old strings.old log.new strings.new u result }
 {
-    let (n, e) = parse_literal(d, s, g, index, literal, log, strings, u)?;
-    read_one(e, s, g, index, kinds::ID_REF, log, strings, n)
+    let (n, e) = parse_literal(d, s, rows, literal, log, strings, u)?;
+    read_one(e, s, rows, kinds::ID_REF, log, strings, n)
 }

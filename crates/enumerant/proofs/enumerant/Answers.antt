@@ -20,14 +20,14 @@ returns-in_err-value c =
     passed_on _ c.from_residual.ensures
     ∙ read_none _ _ _ _ (sym c.prepare.ensures.value ∙ not-false _ (not_from_true _ c.if-not-prepare.false)) (sym c.limit_reached.ensures ∙ c.if-limit_reached.false) _ _ c.in_err-value.ensures
 
-pub is_known-requires : goal.is_known-requires
-is_known-requires c = c.prepare.ensures.indexed (not-false _ (not_from_true _ c.if-not-prepare.false))
+pub new-rows-requires : goal.new-rows-requires
+new-rows-requires c = c.prepare.ensures.indexed (not-false _ (not_from_true _ c.if-not-prepare.false))
 
 pub returns-then-is_known : goal.returns-then-is_known
 returns-then-is_known c =
-    read_known _ _ _ _ (sym c.prepare.ensures.value ∙ not-false _ (not_from_true _ c.if-not-prepare.false)) (sym c.limit_reached.ensures ∙ c.if-limit_reached.false) _ _ c.in_ok-value.ensures (sym c.is_known.ensures ∙ c.if-is_known.true)
+    read_known _ _ _ _ (sym c.prepare.ensures.value ∙ not-false _ (not_from_true _ c.if-not-prepare.false)) (sym c.limit_reached.ensures ∙ c.if-limit_reached.false) _ _ c.in_ok-value.ensures (sym (rw c.new-rows.ensures.0 at c.is_known.ensures) ∙ c.if-is_known.true)
 
 pub returns : goal.returns
 returns c =
     c.refused-2.ensures
-    ∙ rw c.offset-at.ensures (read_unknown _ _ _ _ (sym c.prepare.ensures.value ∙ not-false _ (not_from_true _ c.if-not-prepare.false)) (sym c.limit_reached.ensures ∙ c.if-limit_reached.false) _ _ c.in_ok-value.ensures (sym c.is_known.ensures ∙ c.if-is_known.false))
+    ∙ rw c.offset-at.ensures (read_unknown _ _ _ _ (sym c.prepare.ensures.value ∙ not-false _ (not_from_true _ c.if-not-prepare.false)) (sym c.limit_reached.ensures ∙ c.if-limit_reached.false) _ _ c.in_ok-value.ensures (sym (rw c.new-rows.ensures.0 at c.is_known.ensures) ∙ c.if-is_known.false))

@@ -15,20 +15,20 @@ returns-in_err-v c =
     deny _ _ _ _ _ _ _ _ _ _ _ _ (passed_on _ c.from_residual.ensures) (long_bad _ _ _ c.if-literal.true _ _ c.in_err-v.ensures)
 
 pub push-requires : goal.push-requires
-push-requires c = may_push c.requires.few.0 (long_fits _ _ c.if-literal.true)
+push-requires c = may_push c.requires.0 (long_fits _ _ c.if-literal.true)
 
 pub returns-then-literal : goal.returns-then-literal
 returns-then-literal c =
-    let f = c.requires.few.0 in
+    let f = c.requires.0 in
     let t = step_long _ _ _ _ c.in_ok-v.ensures in
     accept _ _ _ _ _ _ _ _ _ _ _ _ (long_good _ _ _ c.if-literal.true _ _ c.in_ok-v.ensures)
     (held_wide _ _ _ _ _ _ _ c.if-literal.true c.push.ensures.pushed c.push.ensures.laid)
     (few_pushed _ _ _ _ _ _ _ _ f t (omega arith) c.push.ensures.pushed) (long_went _ _ _ _ t f.limited)
     (spotted_long _ _ _ _ _ _ _ t c.push.ensures.breaks_value)
 
-pub read_one-requires-clause-few : goal.read_one-requires-clause-few
-read_one-requires-clause-few c = (c.requires.few.0, word_single _ (literal_word _ c.requires.few.1 c.if-literal-eq0.false c.if-literal.false))
+pub read_one-requires : goal.read_one-requires
+read_one-requires c = (c.requires.0, word_single _ (literal_word _ c.requires.1 c.if-literal-eq0.false c.if-literal.false))
 
 pub returns : goal.returns
 returns c =
-    same_read _ _ _ _ _ _ _ _ _ _ _ (literal_one _ _ _ _ (literal_word _ c.requires.few.1 c.if-literal-eq0.false c.if-literal.false)) c.read_one.ensures
+    same_read _ _ _ _ _ _ _ _ _ _ _ (literal_one _ _ _ _ (literal_word _ c.requires.1 c.if-literal-eq0.false c.if-literal.false)) c.read_one.ensures

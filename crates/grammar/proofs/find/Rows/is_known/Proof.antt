@@ -1,9 +1,9 @@
--- `grammar::find::is_known` meets its contract.
+-- `grammar::find::Rows::is_known` meets its contract.
 use Rattle.grammar.proofs.KnownLaws.{known_mask, known_value}
 use mathlib.Core.Path.{sym, ◌∙◌}
 use borrow.Author.Rules.{rules}
-use Rattle.grammar.proofs.find.is_known.Statement.{statement}
-use Rattle.grammar.proofs.find.is_known.Tie as tie
+use Rattle.grammar.proofs.find.Rows.is_known.Statement.{statement}
+use Rattle.grammar.proofs.find.Rows.is_known.Tie as tie
 
 returns : tie.Need-returns-then-is_mask
 returns c =

@@ -1,8 +1,8 @@
--- `grammar::find::bit_listed` meets its contract.
+-- `grammar::find::Rows::bit_listed` meets its contract.
 use Rattle.grammar.proofs.KnownLaws.{bit_set, bit_clear}
 use borrow.Author.Rules.{rules}
-use Rattle.grammar.proofs.find.bit_listed.Statement.{statement}
-use Rattle.grammar.proofs.find.bit_listed.Tie as tie
+use Rattle.grammar.proofs.find.Rows.bit_listed.Statement.{statement}
+use Rattle.grammar.proofs.find.Rows.bit_listed.Tie as tie
 
 returns : tie.Need-returns-then-set-eq1
 returns c = bit_set _ _ _ _ _ c.before.if-set-eq1.true c.is_listed.ensures
