@@ -21,7 +21,7 @@ overflow_sub-s c = c.loop-p.invariant.inside
 
 pub decode-read-requires : goal.decode-read-requires
 decode-read-requires c = let running = c.loop-p.invariant in
-    record { indexed = c.args.rows.indexed; s_len_bound = (running.short, omega (arith, running.inside, c.loop-p-test.true)); bounded = (running.bounded, running.typed) }
+    record { s_len_bound = (running.short, omega (arith, running.inside, c.loop-p-test.true)); bounded = (running.bounded, running.typed) }
 
 pub admit-requires : goal.admit-requires
 admit-requires c = let running = c.loop-p.invariant in
@@ -51,7 +51,7 @@ keep_operands-requires c = let running = c.loop-p.invariant in
     let word = c.loop-p-test.true in
     let goes_in = verdict _ _ _ _ _ _ _ c.args.rows.indexed _ c.decode-read.ensures _ c.admit.ensures _ c.in-Ok.is in
     let stands = here running goes_in in
-    record { indexed = c.args.rows.indexed; s_len_bound = (stands.short, omega (arith, stands.inside, more running goes_in word)); bounded = (stands.bounded, stands.typed); log_in_bounds = operands_fit running goes_in; shown = goes_in.shown }
+    record { s_len_bound = (stands.short, omega (arith, stands.inside, more running goes_in word)); bounded = (stands.bounded, stands.typed); log_in_bounds = operands_fit running goes_in; shown = goes_in.shown }
 
 pub keep_record-p-requires : goal.keep_record-p-requires
 keep_record-p-requires c = let running = c.loop-p.invariant in
