@@ -17,7 +17,6 @@ use Rattle.tracker.specs.Track.{id_is}
 use Rattle.used.specs.Parse.{kind_is}
 use Rattle.steps.specs.declared.parts.Progress.{Progress}
 use Rattle.steps.specs.Steps.{read_at, Stored}
-use Rattle.records.proofs.Good.{same_answer}
 use Rattle.words.proofs.word_at as word-at-call
 use Rattle.reflect.proofs.place as place-call
 use Rattle.grammar.proofs.item_at as item-at-call
@@ -291,7 +290,7 @@ put_record = λ κs a x y after other ask p q. (refl, and (both p q) refl)
 
 -- the first record of a length that breaks the store layout, or none
 pub check_of : Determined check-of-call.Kinds.ps check-of-call.Kinds.r check-of-call.Reads.Asked check-of-call.Reads.Learnt
-check_of = λ κs a x y after other ask p q. (same_answer x y (both p q), refl)
+check_of = λ κs a x y after other ask p q. (both p q, refl)
 
 -- a record counted
 pub count : Determined count-call.Kinds.ps count-call.Kinds.r count-call.Reads.Asked count-call.Reads.Learnt

@@ -5,7 +5,6 @@ use mathlib.Core.Path.{◌≡◌, refl, ap, ap₂, sym}
 use mathlib.Core.Bool.{Bool, true, false}
 use mathlib.Core.List.{List}
 use Rattle.spec.specs.Load.{Stores}
-use Rattle.records.proofs.Good.{same_answer}
 use Rattle.text.proofs.zero as zero-call
 use Rattle.text.proofs.is_ascii_text as is-ascii-text-call
 use Rattle.text.proofs.utf8 as utf8-call
@@ -205,7 +204,7 @@ builtin_table = record { free = λ κs a. tt; one = λ κs a x y after other p q
 
 -- the first record that breaks the store layout, or none
 pub check : Offered check-call.Kinds.ps check-call.Kinds.r check-call.Reads.Asked check-call.Reads.Learnt
-check = record { free = λ κs a. tt; one = λ κs a x y after other p q. (same_answer x y (both p q), refl) }
+check = record { free = λ κs a. tt; one = λ κs a x y after other p q. (both p q, refl) }
 
 -- LOADING AND WRITING
 
