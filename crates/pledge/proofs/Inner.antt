@@ -360,10 +360,10 @@ module_end = λ κs a x y after other ask p q. (both p q, refl)
 
 -- the instructions put into an output, as read and in module order
 pub put_read : Determined put-read-call.Kinds.ps put-read-call.Kinds.r put-read-call.Reads.Asked put-read-call.Reads.Learnt
-put_read = λ κs a x y after other ask p q. (refl, and refl (and refl (and refl (and refl (and (both p q) refl)))))
+put_read = λ κs a x y after other ask p q. (refl, and refl (and (both p q) refl))
 
 pub put_module : Determined put-module-call.Kinds.ps put-module-call.Kinds.r put-module-call.Reads.Asked put-module-call.Reads.Learnt
-put_module = λ κs a x y after other ask p q. (refl, and refl (and refl (and refl (and refl (and refl (and refl (and (both p q) refl)))))))
+put_module = λ κs a x y after other ask p q. (refl, and refl (and refl (and (both p q) refl)))
 
 -- the names as one run of bytes
 pub names_table : Determined names-table-call.Kinds.ps names-table-call.Kinds.r names-table-call.Reads.Asked names-table-call.Reads.Learnt
