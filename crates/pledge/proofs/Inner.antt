@@ -18,7 +18,7 @@ use Rattle.used.specs.Parse.{kind_is}
 use Rattle.steps.specs.declared.parts.Progress.{Progress}
 use Rattle.steps.specs.Steps.{read_at, Stored}
 use Rattle.words.proofs.word_at as word-at-call
-use Rattle.reflect.proofs.place as place-call
+use Rattle.reflect.proofs.Layout.place as layout-place-call
 use Rattle.grammar.proofs.item_at as item-at-call
 use Rattle.grammar.proofs.item_length as item-length-call
 use Rattle.grammar.proofs.slot_at as slot-at-call
@@ -44,7 +44,6 @@ use Rattle.used.proofs.unused as unused-call
 use Rattle.used.proofs.first_break as first-break-call
 use Rattle.used.proofs.refused as refused-call
 use Rattle.used.proofs.with_result as with-result-call
-use Rattle.used.proofs.id_of as id-of-call
 use Rattle.used.proofs.literal_for as literal-for-call
 use Rattle.untyped.proofs.next_place as next-place-call
 use Rattle.records.proofs.fields_at as fields-at-call
@@ -155,8 +154,8 @@ pub word_at : Determined word-at-call.Kinds.ps word-at-call.Kinds.r word-at-call
 word_at = λ κs a x y after other ask p q. (both p q, refl)
 
 -- the cell of the layout table
-pub place : Determined place-call.Kinds.ps place-call.Kinds.r place-call.Reads.Asked place-call.Reads.Learnt
-place = λ κs a x y after other ask p q. (both p q, refl)
+pub layout_place : Determined layout-place-call.Kinds.ps layout-place-call.Kinds.r layout-place-call.Reads.Asked layout-place-call.Reads.Learnt
+layout_place = λ κs a x y after other ask p q. (both p q, refl)
 
 -- the item at a place of a grammar
 pub item_at : Determined item-at-call.Kinds.ps item-at-call.Kinds.r item-at-call.Reads.Asked item-at-call.Reads.Learnt
@@ -254,10 +253,6 @@ refused = λ κs a x y after other ask p q. (both p q, refl)
 -- a result more
 pub with_result : Determined with-result-call.Kinds.ps with-result-call.Kinds.r with-result-call.Reads.Asked with-result-call.Reads.Learnt
 with_result = λ κs a x y after other ask p q. (both p q, refl)
-
--- the id that a word is
-pub id_of : Determined id-of-call.Kinds.ps id-of-call.Kinds.r id-of-call.Reads.Asked id-of-call.Reads.Learnt
-id_of = λ κs a x y after other ask p q. (same_id x y (both p q), refl)
 
 -- the kind of a literal for an operand
 pub literal_for : Determined literal-for-call.Kinds.ps literal-for-call.Kinds.r literal-for-call.Reads.Asked literal-for-call.Reads.Learnt
