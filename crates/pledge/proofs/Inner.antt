@@ -13,7 +13,6 @@ use Rattle.spec.specs.Grammar.{Slot}
 use Rattle.spec.proofs.Choice.{cases}
 use Rattle.grammar.specs.Find.{slots_then, parameters_then}
 use Rattle.tracker.specs.declared.TypeTracker.{TypeTracker}
-use Rattle.tracker.specs.Track.{id_is}
 use Rattle.used.specs.Parse.{kind_is}
 use Rattle.steps.specs.declared.parts.Progress.{Progress}
 use Rattle.steps.specs.Steps.{read_at, Stored}
@@ -116,14 +115,6 @@ same_tracker : {x y : TypeTracker} → x.count ≡ y.count → x.greatest ≡ y.
 same_tracker e f h =
     let by : ℕ → ℕ → ℕ → TypeTracker = λ n g m. record { count = n; greatest = g; marks = m } in
     ap₂ (λ (t : ℕ → TypeTracker) (m : ℕ). t m) (ap₂ by e f) h
-
--- ids that may be missing
-same_id : (x y : Option ℕ) → id_is x ≡ id_is y → x ≡ y
-unfolding id_is
-same_id None None e = refl
-same_id None (Some j) e = let z : ◌≡◌ {A = ℕ} 0 1 = cc in absurd (omega arith)
-same_id (Some i) None e = let z : ◌≡◌ {A = ℕ} 0 1 = cc in absurd (omega arith)
-same_id (Some i) (Some j) e = cc
 
 -- no kind is one
 some_none : (k : ℕ) → ◌≡◌ {A = Option ℕ} (Some k) None → ⊥
