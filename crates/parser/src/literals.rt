@@ -1,7 +1,7 @@
 // Literals of a kind, read.
 ghost use Rattle.std.specs.Prelude.{◌≡◌, true};
 ghost use Rattle.decoder.specs.Answer.{reader_of};
-ghost use Rattle.used.specs.Parse.{Few, Parses, kind_is, is_literal, literal_alone, pair_alone};
+ghost use Rattle.used.specs.Parse.{Few, Parses, is_literal, literal_alone, pair_alone};
 
 use decoder::{Answer, Decoder};
 use grammar::Rows;
@@ -14,22 +14,22 @@ pub fn parse_literal(
     d: Decoder,
     s: &[u8],
     rows: Rows,
-    literal: u8,
+    literal: Option<u8>,
     log: &mut [u8],
     strings: &mut [u8],
     u: Used,
 ) -> Answer<Used>
     requires { Few s.now d u × (is_literal literal ≡ true) }
-    ensures { Parses s.now d 4 (literal_alone (kind_is literal) (reader_of s.now d)) log.old strings.old log.new strings.new u result }
+    ensures { Parses s.now d 4 (literal_alone literal (reader_of s.now d)) log.old strings.old log.new strings.new u result }
 {
-    if literal == 0 {
+    let Some(kind) = literal else {
         return refused(refusals::WIDTH_UNSUPPORTED, d.offset, d);
-    }
-    if (literal == kinds::INT64) | (literal == kinds::FLOAT64) {
+    };
+    if (kind == kinds::INT64) | (kind == kinds::FLOAT64) {
         let (v, e) = d.int64(s)?;
-        return Ok((push(log, literal, v, u), e));
+        return Ok((push(log, kind, v, u), e));
     }
-    read_one(d, s, rows, literal, log, strings, u)
+    read_one(d, s, rows, kind, log, strings, u)
 }
 
 // A literal of a kind, then an id.
@@ -37,13 +37,13 @@ pub fn parse_literal_pair(
     d: Decoder,
     s: &[u8],
     rows: Rows,
-    literal: u8,
+    literal: Option<u8>,
     log: &mut [u8],
     strings: &mut [u8],
     u: Used,
 ) -> Answer<Used>
     requires { Few s.now d u × (is_literal literal ≡ true) }
-    ensures { Parses s.now d 4 (pair_alone (kind_is literal) (reader_of s.now d)) log.old strings.old log.new strings.new u result }
+    ensures { Parses s.now d 4 (pair_alone literal (reader_of s.now d)) log.old strings.old log.new strings.new u result }
 {
     let (n, e) = parse_literal(d, s, rows, literal, log, strings, u)?;
     read_one(e, s, rows, kinds::ID_REF, log, strings, n)

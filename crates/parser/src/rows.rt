@@ -7,7 +7,7 @@ ghost use Rattle.spec.specs.Match.{read_slot};
 ghost use Rattle.decoder.specs.Answer.{reader_of};
 ghost use Rattle.tracker.specs.Entries.{entries_of};
 ghost use Rattle.tracker.specs.Hints.{Hinted};
-ghost use Rattle.used.specs.Parse.{Few, Parses, Walks, SlotWalks, kind_is, is_literal, literal_for, kind_alone};
+ghost use Rattle.used.specs.Parse.{Few, Parses, Walks, SlotWalks, is_literal, literal_for, kind_alone};
 ghost use Rattle.used.specs.Fresh.{Fresh};
 ghost use Rattle.untyped.specs.Body.{Framed, start_of, row_read};
 
@@ -26,13 +26,13 @@ fn parse_kind(
     s: &[u8],
     rows: Rows,
     kind: u8,
-    literal: u8,
+    literal: Option<u8>,
     log: &mut [u8],
     strings: &mut [u8],
     u: Used,
 ) -> Answer<Used>
     requires { Few s.now d u × (may_be_operand kind ≡ true) × (is_result kind ≡ false) × (is_literal literal ≡ true) }
-    ensures { Parses s.now d 4 (kind_alone (grammar_of rows.entry.bytes.now) (kind_is literal) kind (reader_of s.now d)) log.old strings.old log.new strings.new u result }
+    ensures { Parses s.now d 4 (kind_alone (grammar_of rows.entry.bytes.now) literal kind (reader_of s.now d)) log.old strings.old log.new strings.new u result }
 {
     if kind == kinds::TYPED_LITERAL {
         return parse_literal(d, s, rows, literal, log, strings, u);
@@ -52,13 +52,13 @@ fn parse_slot(
     s: &[u8],
     rows: Rows,
     kind: u8,
-    literal: u8,
+    literal: Option<u8>,
     log: &mut [u8],
     strings: &mut [u8],
     u: Used,
 ) -> Answer<Used>
     requires { Few s.now d u × (may_be_operand kind ≡ true) × (is_literal literal ≡ true) }
-    ensures { (types : List Entry) → kind_is literal ≡ literal_for types u kind → SlotWalks s.now d kind (λ x. read_slot (grammar_of rows.entry.bytes.now) types x kind (reader_of s.now d)) log.old strings.old log.new strings.new u result }
+    ensures { (types : List Entry) → literal ≡ literal_for types u kind → SlotWalks s.now d kind (λ x. read_slot (grammar_of rows.entry.bytes.now) types x kind (reader_of s.now d)) log.old strings.old log.new strings.new u result }
 {
     if grammar::is_result(kind) {
         let (id, e) = d.word(s)?;

@@ -13,13 +13,11 @@ use Rattle.spec.specs.Grammar.{Slot}
 use Rattle.spec.proofs.Choice.{cases}
 use Rattle.grammar.specs.Find.{slots_then, parameters_then}
 use Rattle.tracker.specs.declared.TypeTracker.{TypeTracker}
-use Rattle.tracker.specs.Track.{id_is}
 use Rattle.used.specs.Parse.{kind_is}
 use Rattle.steps.specs.declared.parts.Progress.{Progress}
 use Rattle.steps.specs.Steps.{read_at, Stored}
-use Rattle.records.proofs.Good.{same_answer}
 use Rattle.words.proofs.word_at as word-at-call
-use Rattle.reflect.proofs.place as place-call
+use Rattle.reflect.proofs.Layout.place as layout-place-call
 use Rattle.grammar.proofs.item_at as item-at-call
 use Rattle.grammar.proofs.item_length as item-length-call
 use Rattle.grammar.proofs.slot_at as slot-at-call
@@ -45,7 +43,6 @@ use Rattle.used.proofs.unused as unused-call
 use Rattle.used.proofs.first_break as first-break-call
 use Rattle.used.proofs.refused as refused-call
 use Rattle.used.proofs.with_result as with-result-call
-use Rattle.used.proofs.id_of as id-of-call
 use Rattle.used.proofs.literal_for as literal-for-call
 use Rattle.untyped.proofs.next_place as next-place-call
 use Rattle.records.proofs.fields_at as fields-at-call
@@ -119,14 +116,6 @@ same_tracker e f h =
     let by : ℕ → ℕ → ℕ → TypeTracker = λ n g m. record { count = n; greatest = g; marks = m } in
     ap₂ (λ (t : ℕ → TypeTracker) (m : ℕ). t m) (ap₂ by e f) h
 
--- ids that may be missing
-same_id : (x y : Option ℕ) → id_is x ≡ id_is y → x ≡ y
-unfolding id_is
-same_id None None e = refl
-same_id None (Some j) e = let z : ◌≡◌ {A = ℕ} 0 1 = cc in absurd (omega arith)
-same_id (Some i) None e = let z : ◌≡◌ {A = ℕ} 0 1 = cc in absurd (omega arith)
-same_id (Some i) (Some j) e = cc
-
 -- no kind is one
 some_none : (k : ℕ) → ◌≡◌ {A = Option ℕ} (Some k) None → ⊥
 some_none k e = let z : ◌≡◌ {A = ℕ} 0 1 = cc in absurd (omega arith)
@@ -156,8 +145,8 @@ pub word_at : Determined word-at-call.Kinds.ps word-at-call.Kinds.r word-at-call
 word_at = λ κs a x y after other ask p q. (both p q, refl)
 
 -- the cell of the layout table
-pub place : Determined place-call.Kinds.ps place-call.Kinds.r place-call.Reads.Asked place-call.Reads.Learnt
-place = λ κs a x y after other ask p q. (both p q, refl)
+pub layout_place : Determined layout-place-call.Kinds.ps layout-place-call.Kinds.r layout-place-call.Reads.Asked layout-place-call.Reads.Learnt
+layout_place = λ κs a x y after other ask p q. (both p q, refl)
 
 -- the item at a place of a grammar
 pub item_at : Determined item-at-call.Kinds.ps item-at-call.Kinds.r item-at-call.Reads.Asked item-at-call.Reads.Learnt
@@ -256,10 +245,6 @@ refused = λ κs a x y after other ask p q. (both p q, refl)
 pub with_result : Determined with-result-call.Kinds.ps with-result-call.Kinds.r with-result-call.Reads.Asked with-result-call.Reads.Learnt
 with_result = λ κs a x y after other ask p q. (both p q, refl)
 
--- the id that a word is
-pub id_of : Determined id-of-call.Kinds.ps id-of-call.Kinds.r id-of-call.Reads.Asked id-of-call.Reads.Learnt
-id_of = λ κs a x y after other ask p q. (same_id x y (both p q), refl)
-
 -- the kind of a literal for an operand
 pub literal_for : Determined literal-for-call.Kinds.ps literal-for-call.Kinds.r literal-for-call.Reads.Asked literal-for-call.Reads.Learnt
 literal_for = λ κs a x y after other ask p q. (same_kind x y (both p.0 q.0), refl)
@@ -291,7 +276,7 @@ put_record = λ κs a x y after other ask p q. (refl, and (both p q) refl)
 
 -- the first record of a length that breaks the store layout, or none
 pub check_of : Determined check-of-call.Kinds.ps check-of-call.Kinds.r check-of-call.Reads.Asked check-of-call.Reads.Learnt
-check_of = λ κs a x y after other ask p q. (same_answer x y (both p q), refl)
+check_of = λ κs a x y after other ask p q. (both p q, refl)
 
 -- a record counted
 pub count : Determined count-call.Kinds.ps count-call.Kinds.r count-call.Reads.Asked count-call.Reads.Learnt
@@ -361,10 +346,10 @@ module_end = λ κs a x y after other ask p q. (both p q, refl)
 
 -- the instructions put into an output, as read and in module order
 pub put_read : Determined put-read-call.Kinds.ps put-read-call.Kinds.r put-read-call.Reads.Asked put-read-call.Reads.Learnt
-put_read = λ κs a x y after other ask p q. (refl, and refl (and refl (and refl (and refl (and (both p q) refl)))))
+put_read = λ κs a x y after other ask p q. (refl, and refl (and (both p q) refl))
 
 pub put_module : Determined put-module-call.Kinds.ps put-module-call.Kinds.r put-module-call.Reads.Asked put-module-call.Reads.Learnt
-put_module = λ κs a x y after other ask p q. (refl, and refl (and refl (and refl (and refl (and refl (and refl (and (both p q) refl)))))))
+put_module = λ κs a x y after other ask p q. (refl, and refl (and refl (and (both p q) refl)))
 
 -- the names as one run of bytes
 pub names_table : Determined names-table-call.Kinds.ps names-table-call.Kinds.r names-table-call.Reads.Asked names-table-call.Reads.Learnt

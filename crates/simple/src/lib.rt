@@ -10,7 +10,7 @@ ghost use Rattle.spec.specs.Match.{read_each, read_operand, read_slot};
 ghost use Rattle.decoder.specs.Answer.{reader_of, word_from};
 ghost use Rattle.tracker.specs.Entries.{entries_of};
 ghost use Rattle.tracker.specs.Hints.{Hinted};
-ghost use Rattle.used.specs.Parse.{Few, Parses, Walks, SlotWalks, left_of, is_word, kind_is, literal_alone};
+ghost use Rattle.used.specs.Parse.{Few, Parses, Walks, SlotWalks, left_of, is_word, literal_alone};
 ghost use Rattle.used.specs.Fresh.{Fresh};
 ghost use Rattle.untyped.specs.Body.{Framed, start_of, row_read};
 ghost use Rattle.simple.specs.Simple.{There, IfTaken};
@@ -118,16 +118,17 @@ fn simple_text(
 fn simple_literal(
     d: Decoder,
     s: &[u8],
-    literal: u8,
+    literal: Option<u8>,
     log: &mut [u8],
     u: Used,
 ) -> Option<(Used, Decoder)>
     requires few { Few s.now d u }
     requires there { There s.now d }
-    ensures { (t : List ℕ) → IfTaken (Parses s.now d 4 (literal_alone (kind_is literal) (reader_of s.now d)) log.old t log.new t u) result }
+    ensures { (t : List ℕ) → IfTaken (Parses s.now d 4 (literal_alone literal (reader_of s.now d)) log.old t log.new t u) result }
 {
-    if (literal == kinds::INT32) | (literal == kinds::FLOAT32) {
-        return simple_word(d, s, literal, log, u);
+    let kind = literal?;
+    if (kind == kinds::INT32) | (kind == kinds::FLOAT32) {
+        return simple_word(d, s, kind, log, u);
     }
     None
 }

@@ -21,7 +21,7 @@ use Rattle.decoder.specs.Answer.{reader_of, word_from}
 use Rattle.decoder.proofs.Laws.{word_got, word_refused}
 use Rattle.tracker.specs.Track.{literal_of}
 use Rattle.used.specs.declared.used.Used.{Used}
-use Rattle.used.specs.Parse.{Notes, selector_of, notes_of, note_as, note, notes, no_notes, Step, Few, Held, Parses, is_word, is_untyped, kind_is, literal_for, literal_alone, pair_alone, kind_alone, Walked, SlotRead, SlotWalk, SlotWalks}
+use Rattle.used.specs.Parse.{Notes, selector_of, notes_of, note_as, note, notes, no_notes, Step, Few, Held, Parses, is_word, is_untyped, literal_for, literal_alone, pair_alone, kind_alone, Walked, SlotRead, SlotWalk, SlotWalks}
 use Rattle.used.specs.Fresh.{unused, with_results, with_result}
 use Rattle.untyped.proofs.KindLaws.{not_kind, word_no_enum, number_word, number_untyped, result_else}
 use Rattle.untyped.proofs.One.{step_word, spotted_id}
@@ -109,8 +109,8 @@ module _ {log₀ strs₀ log strs : List ℕ} {u₀ u : Used} {x : Seen} (w : Wa
   selector_is = ap (λ n. n.id) w.noted ∙ noted_id x.operands
 
   -- the read of an operand that is no result, by its kind and that of a literal
-  kind_by_lem : (g : Grammar) (types : List Entry) (j l : ℕ) (r : Reader) → kind_is l ≡ literal_for types u j → (a b : Bool) → eqb j 48 ≡ a → eqb j 49 ≡ b
-      → read_kind g types x j r ≡ kind_alone g (kind_is l) j r
+  kind_by_lem : (g : Grammar) (types : List Entry) (j : ℕ) (l : Option ℕ) (r : Reader) → l ≡ literal_for types u j → (a b : Bool) → eqb j 48 ≡ a → eqb j 49 ≡ b
+      → read_kind g types x j r ≡ kind_alone g l j r
   unfolding read_kind kind_alone literal_alone pair_alone read_pair read_literal literal_for
   kind_by_lem g types j l r f true b p q =
       simp p (ap (λ (o : Option ℕ). after (read_literal_as o r) (λ z. give (z ∷ [])))
@@ -184,9 +184,9 @@ module _ {log₀ strs₀ log strs : List ℕ} {u₀ u : Used} {x : Seen} (w : Wa
   -- READS
 
   module _ (s : List ℕ) (g : Grammar) (types : List Entry) (j : ℕ) (d : Decoder) where
-    module _ (l : ℕ) (f : kind_is l ≡ literal_for types u j) (h : is_result j ≡ false) where
+    module _ (l : Option ℕ) (f : l ≡ literal_for types u j) (h : is_result j ≡ false) where
       -- what is read is added to what was seen
-      more_by : (y : Read (List Operand)) → kind_alone g (kind_is l) j (reader_of s d) ≡ y
+      more_by : (y : Read (List Operand)) → kind_alone g l j (reader_of s d) ≡ y
           → read_slot g types x j (reader_of s d) ≡ after y (λ os. give (with_operands x os))
       unfolding read_slot
       more_by y e =
@@ -198,7 +198,7 @@ module _ {log₀ strs₀ log strs : List ℕ} {u₀ u : Used} {x : Seen} (w : Wa
           (kind_by_lem g types j l (reader_of s d) f (eqb j 48) (eqb j 49) refl refl ∙ e))
 
       -- an operand that is no result
-      slot_more : (log₁ strs₁ : List ℕ) (v : Answered Used) → Parses s d 4 (kind_alone g (kind_is l) j (reader_of s d)) log strs log₁ strs₁ u v
+      slot_more : (log₁ strs₁ : List ℕ) (v : Answered Used) → Parses s d 4 (kind_alone g l j (reader_of s d)) log strs log₁ strs₁ u v
           → SlotWalk s d j x (read_slot g types x j (reader_of s d)) log₀ strs₀ log₁ strs₁ u₀ u v
       unfolding Parses SlotWalk
       slot_more log₁ strs₁ (Ok (n, e)) p = record {
@@ -255,8 +255,8 @@ module _ {log₀ strs₀ log strs : List ℕ} {u₀ u : Used} {x : Seen} (w : Wa
       slot_none : (y : Refusal) (e : Decoder) → Err (y, e) ≡ word_from s d → read_slot g types x j (reader_of s d) ≡ refused y (reader_of s e)
       slot_none y e p = result_by _ (word_refused s d e y p) (eqb j 46) refl
 
-module _ (s : List ℕ) (g : Grammar) (j l : ℕ) (d : Decoder) (log strs : List ℕ) (u : Used) (t : Bool) (p : t ≡ is_result j) (types : List Entry)
-    (f : kind_is l ≡ literal_for types u j) where
+module _ (s : List ℕ) (g : Grammar) (j : ℕ) (l : Option ℕ) (d : Decoder) (log strs : List ℕ) (u : Used) (t : Bool) (p : t ≡ is_result j) (types : List Entry)
+    (f : l ≡ literal_for types u j) where
   -- the walk goes on with a result
   pub walks_result : t ≡ true → Few s d u → (v : ℕ) (e : Decoder) → Ok (v, e) ≡ word_from s d → (n : Used) → n ≡ with_result j v u
       → SlotWalks s d j (λ x. read_slot g types x j (reader_of s d)) log strs log strs u (Ok (n, e))
@@ -271,13 +271,13 @@ module _ (s : List ℕ) (g : Grammar) (j l : ℕ) (d : Decoder) (log strs : List
 
   module _ (q : t ≡ false) (log₁ strs₁ : List ℕ) (v : Answered Used) where
     -- it goes on with operands, or ends where they are refused
-    pub walks_more : Parses s d 4 (kind_alone g (kind_is l) j (reader_of s d)) log strs log₁ strs₁ u v
+    pub walks_more : Parses s d 4 (kind_alone g l j (reader_of s d)) log strs log₁ strs₁ u v
         → SlotWalks s d j (λ x. read_slot g types x j (reader_of s d)) log strs log₁ strs₁ u v
     unfolding SlotWalks
     walks_more h log₀ strs₀ u₀ x w = slot_more w s g types j d l f (sym p ∙ q) log₁ strs₁ v h
 
     -- so it does by the read that is meant
-    pub walks_as : (y : Read (List Operand)) → kind_alone g (kind_is l) j (reader_of s d) ≡ y → Parses s d 4 y log strs log₁ strs₁ u v
+    pub walks_as : (y : Read (List Operand)) → kind_alone g l j (reader_of s d) ≡ y → Parses s d 4 y log strs log₁ strs₁ u v
         → SlotWalks s d j (λ x. read_slot g types x j (reader_of s d)) log strs log₁ strs₁ u v
     walks_as y e h = walks_more (same_read s d 4 _ y log strs log₁ strs₁ u v e h)
 

@@ -1,5 +1,5 @@
 -- Laws of what is in use: one record more.
-use Prim.Native.Nat.{ℕ, ◌+◌, ◌-◌, ◌<◌, ◌≤◌}
+use Prim.Native.Nat.{ℕ, ◌+◌, ◌-◌, ◌≤◌}
 use mathlib.Core.Path.{◌≡◌, refl, ap, sym, ◌∙◌}
 use mathlib.Core.List.{List}
 use Rattle.std.specs.Prelude.{None, Some}
@@ -9,12 +9,12 @@ use lib.Dec.{leb}
 use lib.ListN.{length, take, drop}
 use lib.Seq.{slice, take-add, drop_at, length-take-le}
 use Rattle.spec.specs.Plain.{first_break}
-use Rattle.operand.specs.Parts.{parts, is_two, Fits}
+use Rattle.operand.specs.Parts.{parts, Fits}
 use Rattle.operand.specs.Log.{record_length, length_by, kept, Laid}
 use Rattle.operand.proofs.LogLaws.{laid_kept}
 use Rattle.tracker.specs.Track.{literal_of}
 use Rattle.used.specs.declared.used.Used.{Used}
-use Rattle.used.specs.Parse.{id_ref_of, selector_of, notes_of, note_as, FirstFits, Pushed, Copied}
+use Rattle.used.specs.Parse.{id_ref_of, selector_of, notes_of, note_as, Pushed, Copied}
 use Rattle.used.specs.Fresh.{with_results, with_result}
 
 -- THE ID THAT THE FIRST OPERAND IS

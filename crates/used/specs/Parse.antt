@@ -205,13 +205,10 @@ if_set k b v es = if eqb (v % 2) 1 then or_none (listed k b es) else []
 
 -- LITERALS BY TYPE
 
--- the kind that a number is, 0 for none
-unfoldable pub kind_is : ℕ → Option ℕ
-kind_is k = if eqb k 0 then None else Some k
-
 -- none, or a kind of a literal by type
-unfoldable pub is_literal : ℕ → Bool
-is_literal k = eqb k 0 || eqb k 34 || within 36 k 38
+unfoldable pub is_literal : Option ℕ → Bool
+is_literal None = true
+is_literal (Some k) = eqb k 34 || within 36 k 38
 
 -- the kind of the literal that an operand is read as: by the type of the result type for 48, of the first operand for 49, none for others
 unfoldable pub literal_for : List Entry → Used → ℕ → Option ℕ
