@@ -1,7 +1,7 @@
 // One pass over good records that finds the range of each section; and where the instructions end, as read and in module order.
 #![tactic(auto)]
 
-ghost use Rattle.std.specs.Prelude.{◌≡◌, ◌+◌, ◌*◌, ◌<◌, ◌≤◌, eqb, length, take, drop, get_or, set, replicate, if◌then◌else◌};
+ghost use Rattle.std.specs.Prelude.{◌≡◌, ◌+◌, ◌*◌, ◌<◌, ◌≤◌, eqb, length, take, drop, get_or, set, if◌then◌else◌};
 ghost use Rattle.spec.specs.Write.{bytes_of_all, section_of, module_order};
 ghost use Rattle.spelled.specs.Placing.{tagged, AllRanged, begins_at};
 ghost use Rattle.spelled.specs.Said.{said};
