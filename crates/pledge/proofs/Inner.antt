@@ -5,16 +5,11 @@ use mathlib.Core.Path.{◌≡◌, refl, ap₂, sym, ◌∙◌}
 use mathlib.Core.List.{List}
 use Rattle.std.specs.Prelude.{Option, None, Some}
 use native.Mathlib.Omega.{arith}
-use borrow.Author.Tests.{eqb-true}
-use lib.Dec.{eqb}
 use Rattle.spec.specs.Records.{Instr}
 use Rattle.spec.specs.Reader.{Reader, got}
 use Rattle.spec.specs.Grammar.{Slot}
-use Rattle.spec.proofs.Choice.{cases}
 use Rattle.grammar.specs.Find.{slots_then, parameters_then}
 use Rattle.tracker.specs.declared.TypeTracker.{TypeTracker}
-use Rattle.tracker.specs.Track.{id_is}
-use Rattle.used.specs.Parse.{kind_is}
 use Rattle.steps.specs.declared.parts.Progress.{Progress}
 use Rattle.steps.specs.Steps.{read_at, Stored}
 use Rattle.records.proofs.Good.{same_answer}
@@ -45,7 +40,6 @@ use Rattle.used.proofs.unused as unused-call
 use Rattle.used.proofs.first_break as first-break-call
 use Rattle.used.proofs.refused as refused-call
 use Rattle.used.proofs.with_result as with-result-call
-use Rattle.used.proofs.id_of as id-of-call
 use Rattle.used.proofs.literal_for as literal-for-call
 use Rattle.untyped.proofs.next_place as next-place-call
 use Rattle.records.proofs.fields_at as fields-at-call
@@ -118,30 +112,6 @@ same_tracker : {x y : TypeTracker} → x.count ≡ y.count → x.greatest ≡ y.
 same_tracker e f h =
     let by : ℕ → ℕ → ℕ → TypeTracker = λ n g m. record { count = n; greatest = g; marks = m } in
     ap₂ (λ (t : ℕ → TypeTracker) (m : ℕ). t m) (ap₂ by e f) h
-
--- ids that may be missing
-same_id : (x y : Option ℕ) → id_is x ≡ id_is y → x ≡ y
-unfolding id_is
-same_id None None e = refl
-same_id None (Some j) e = let z : ◌≡◌ {A = ℕ} 0 1 = cc in absurd (omega arith)
-same_id (Some i) None e = let z : ◌≡◌ {A = ℕ} 0 1 = cc in absurd (omega arith)
-same_id (Some i) (Some j) e = cc
-
--- no kind is one
-some_none : (k : ℕ) → ◌≡◌ {A = Option ℕ} (Some k) None → ⊥
-some_none k e = let z : ◌≡◌ {A = ℕ} 0 1 = cc in absurd (omega arith)
-
--- kinds of a literal, 0 for none
-same_kind : (j k : ℕ) → kind_is j ≡ kind_is k → j ≡ k
-unfolding kind_is
-same_kind j k e =
-    cases (eqb j 0)
-    (λ a.
-    cases (eqb k 0) (λ b. eqb-true j 0 a ∙ sym (eqb-true k 0 b))
-    (λ b. let f : ◌≡◌ {A = Option ℕ} None (Some k) = rw (a, b) at e in absurd (some_none k (sym f))))
-    (λ a.
-    cases (eqb k 0) (λ b. let f : ◌≡◌ {A = Option ℕ} (Some j) None = rw (a, b) at e in absurd (some_none j f))
-    (λ b. let f : ◌≡◌ {A = Option ℕ} (Some j) (Some k) = rw (a, b) at e in cc))
 
 -- what is stored of an instruction that was read
 same_stored : (s g types l₀ s₀ l₁ s₁ l₂ s₂ : List ℕ) (p : Progress) (i : Instr) (r : Reader) → read_at s g types p ≡ got i r
@@ -256,13 +226,9 @@ refused = λ κs a x y after other ask p q. (both p q, refl)
 pub with_result : Determined with-result-call.Kinds.ps with-result-call.Kinds.r with-result-call.Reads.Asked with-result-call.Reads.Learnt
 with_result = λ κs a x y after other ask p q. (both p q, refl)
 
--- the id that a word is
-pub id_of : Determined id-of-call.Kinds.ps id-of-call.Kinds.r id-of-call.Reads.Asked id-of-call.Reads.Learnt
-id_of = λ κs a x y after other ask p q. (same_id x y (both p q), refl)
-
 -- the kind of a literal for an operand
 pub literal_for : Determined literal-for-call.Kinds.ps literal-for-call.Kinds.r literal-for-call.Reads.Asked literal-for-call.Reads.Learnt
-literal_for = λ κs a x y after other ask p q. (same_kind x y (both p.0 q.0), refl)
+literal_for = λ κs a x y after other ask p q. (both p.0 q.0, refl)
 
 -- the place of the operand that comes next
 pub next_place : Determined next-place-call.Kinds.ps next-place-call.Kinds.r next-place-call.Reads.Asked next-place-call.Reads.Learnt
