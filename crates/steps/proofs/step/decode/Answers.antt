@@ -1,0 +1,20 @@
+-- `steps::step::decode` meets its contract: the parser's, from scratch and spare on.
+use native.Mathlib.Omega.{arith}
+use Rattle.untyped.proofs.RowLaws.{fresh_unused}
+use Rattle.steps.proofs.Judging.{shows}
+use Rattle.steps.proofs.step.decode.Goals as goal
+
+pub parse_inst-requires : goal.parse_inst-requires
+parse_inst-requires c = record {
+  indexed = c.requires.indexed;
+  s_len_bound = (
+    c.requires.s_len_bound.0,
+    omega (arith, c.requires.s_len_bound.1),
+    fresh_unused _ _ _ _ _ _ c.unused-used.ensures (omega arith) (omega (arith, c.requires.bounded.0.few_strings)),
+  );
+  count_in_bounds = c.requires.bounded.1.inside;
+  hinted = c.requires.bounded.1.hinted;
+}
+
+pub returns : goal.returns
+returns c = shows _ _ _ _ _ _ _ c.unused-used.ensures _ c.parse_inst.ensures.decodes_over c.parse_inst.ensures.row_is
