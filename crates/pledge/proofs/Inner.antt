@@ -5,15 +5,11 @@ use mathlib.Core.Path.{◌≡◌, refl, ap₂, sym, ◌∙◌}
 use mathlib.Core.List.{List}
 use Rattle.std.specs.Prelude.{Option, None, Some}
 use native.Mathlib.Omega.{arith}
-use borrow.Author.Tests.{eqb-true}
-use lib.Dec.{eqb}
 use Rattle.spec.specs.Records.{Instr}
 use Rattle.spec.specs.Reader.{Reader, got}
 use Rattle.spec.specs.Grammar.{Slot}
-use Rattle.spec.proofs.Choice.{cases}
 use Rattle.grammar.specs.Find.{slots_then, parameters_then}
 use Rattle.tracker.specs.declared.TypeTracker.{TypeTracker}
-use Rattle.used.specs.Parse.{kind_is}
 use Rattle.steps.specs.declared.parts.Progress.{Progress}
 use Rattle.steps.specs.Steps.{read_at, Stored}
 use Rattle.words.proofs.word_at as word-at-call
@@ -115,22 +111,6 @@ same_tracker : {x y : TypeTracker} → x.count ≡ y.count → x.greatest ≡ y.
 same_tracker e f h =
     let by : ℕ → ℕ → ℕ → TypeTracker = λ n g m. record { count = n; greatest = g; marks = m } in
     ap₂ (λ (t : ℕ → TypeTracker) (m : ℕ). t m) (ap₂ by e f) h
-
--- no kind is one
-some_none : (k : ℕ) → ◌≡◌ {A = Option ℕ} (Some k) None → ⊥
-some_none k e = let z : ◌≡◌ {A = ℕ} 0 1 = cc in absurd (omega arith)
-
--- kinds of a literal, 0 for none
-same_kind : (j k : ℕ) → kind_is j ≡ kind_is k → j ≡ k
-unfolding kind_is
-same_kind j k e =
-    cases (eqb j 0)
-    (λ a.
-    cases (eqb k 0) (λ b. eqb-true j 0 a ∙ sym (eqb-true k 0 b))
-    (λ b. let f : ◌≡◌ {A = Option ℕ} None (Some k) = rw (a, b) at e in absurd (some_none k (sym f))))
-    (λ a.
-    cases (eqb k 0) (λ b. let f : ◌≡◌ {A = Option ℕ} (Some j) None = rw (a, b) at e in absurd (some_none j f))
-    (λ b. let f : ◌≡◌ {A = Option ℕ} (Some j) (Some k) = rw (a, b) at e in cc))
 
 -- what is stored of an instruction that was read
 same_stored : (s g types l₀ s₀ l₁ s₁ l₂ s₂ : List ℕ) (p : Progress) (i : Instr) (r : Reader) → read_at s g types p ≡ got i r
@@ -247,7 +227,7 @@ with_result = λ κs a x y after other ask p q. (both p q, refl)
 
 -- the kind of a literal for an operand
 pub literal_for : Determined literal-for-call.Kinds.ps literal-for-call.Kinds.r literal-for-call.Reads.Asked literal-for-call.Reads.Learnt
-literal_for = λ κs a x y after other ask p q. (same_kind x y (both p.0 q.0), refl)
+literal_for = λ κs a x y after other ask p q. (both p.0 q.0, refl)
 
 -- the place of the operand that comes next
 pub next_place : Determined next-place-call.Kinds.ps next-place-call.Kinds.r next-place-call.Reads.Asked next-place-call.Reads.Learnt

@@ -33,11 +33,10 @@ pub fn decode(
     requires bounded { Bounded p × Typed types.now hints.now p }
     ensures { Shows s.now rows.entry.bytes.now types.now scratch.new spare.new p result }
 {
-    let at = p.at;
-    let base = p.strings;
-    let tracker = p.tracker;
-    let used = unused(0, 0, base, p.breaks);
-    parse_inst(s, at, rows, types, hints, tracker, scratch, spare, used)
+    let used = unused(0, 0, p.strings, p.breaks);
+    parse_inst(
+        s, p.at, rows, types, hints, p.tracker, scratch, spare, used,
+    )
 }
 
 // What type tracking is told of a decoded instruction.
@@ -65,9 +64,7 @@ fn need_after(types: &[u32], hints: &[u16], room: Counts, p: Progress, d: Decode
 {
     let mut entries = p.tracker.count + 1;
     if room.types < entries {
-        let tracker = p.tracker;
-        let told = told_of(d);
-        entries = tracker.after(types, hints, told);
+        entries = p.tracker.after(types, hints, told_of(d));
     }
     Counts {
         instructions: p.instructions + 1,
@@ -199,24 +196,17 @@ pub fn keep_record(
 {
     let p = t.from;
     let d = t.read;
+    let counted = numbers::count(t.tag as u32, p.numbers);
     let fields = fields_of(p, d, t.tag);
-    let begun = p.numbers;
-    let counted = numbers::count(t.tag as u32, begun);
-    let own = counted.own;
-    records::put_record(instructions, RECORD * p.instructions, fields, own);
-    let tracker = p.tracker;
-    let told = told_of(d);
-    let tracked = tracker.track(types, hints, told);
-    let numbers = counted.begun;
-    let state = t.state;
+    records::put_record(instructions, RECORD * p.instructions, fields, counted.own);
     Progress {
         at: p.at + 4 * (d.words as usize),
         instructions: p.instructions + 1,
         log: p.log + d.log,
         strings: p.strings + d.strings,
-        tracker: tracked,
-        numbers,
-        state,
+        tracker: p.tracker.track(types, hints, told_of(d)),
+        numbers: counted.begun,
+        state: t.state,
         breaks: d.breaks,
     }
 }

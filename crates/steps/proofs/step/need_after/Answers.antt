@@ -8,6 +8,6 @@ use Rattle.steps.proofs.step.need_after.Goals as goal
 pub returns : goal.returns
 returns c =
     elim c.if-room-entries.branch [
-      | then-room-entries w ↦ room_by _ _ _ _ _ (w.entries-is ∙ w.after-entries.ensures ∙ ap length (w.told_of-told.ensures.tracks _))
+      | then-room-entries w ↦ room_by _ _ _ _ _ (w.entries-is ∙ w.after-entries.ensures ∙ ap length (w.told_of.ensures.tracks _))
       | else-room-entries w ↦ room_spare _ _ _ _ _ w.entries-is w.if-room-entries.false
     ]
