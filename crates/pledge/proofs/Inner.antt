@@ -3,15 +3,19 @@
 use Prim.Native.Nat.{ℕ}
 use mathlib.Core.Path.{◌≡◌, refl, ap₂, sym, ◌∙◌}
 use mathlib.Core.List.{List}
+use mathlib.Core.HLevel.{is_prop→PathP}
 use Rattle.std.specs.Prelude.{Option, None, Some}
 use native.Mathlib.Omega.{arith}
 use borrow.Author.Tests.{eqb-true}
 use lib.Dec.{eqb}
+use base.Stored.{Coded-set, coded_ℕ, coded_list}
 use Rattle.spec.specs.Records.{Instr}
 use Rattle.spec.specs.Reader.{Reader, got}
 use Rattle.spec.specs.Grammar.{Slot}
 use Rattle.spec.proofs.Choice.{cases}
 use Rattle.grammar.specs.Find.{slots_then, parameters_then}
+use Rattle.reflect.specs.Column.{kind_table, layout_table}
+use Rattle.reflect.specs.declared.Layout.{Layout}
 use Rattle.tracker.specs.declared.TypeTracker.{TypeTracker}
 use Rattle.tracker.specs.Track.{id_is}
 use Rattle.used.specs.Parse.{kind_is}
@@ -19,7 +23,8 @@ use Rattle.steps.specs.declared.parts.Progress.{Progress}
 use Rattle.steps.specs.Steps.{read_at, Stored}
 use Rattle.records.proofs.Good.{same_answer}
 use Rattle.words.proofs.word_at as word-at-call
-use Rattle.reflect.proofs.place as place-call
+use Rattle.reflect.proofs.Layout.new as layout-new-call
+use Rattle.reflect.proofs.Layout.place as layout-place-call
 use Rattle.grammar.proofs.item_at as item-at-call
 use Rattle.grammar.proofs.item_length as item-length-call
 use Rattle.grammar.proofs.slot_at as slot-at-call
@@ -119,6 +124,20 @@ same_tracker e f h =
     let by : ℕ → ℕ → ℕ → TypeTracker = λ n g m. record { count = n; greatest = g; marks = m } in
     ap₂ (λ (t : ℕ → TypeTracker) (m : ℕ). t m) (ap₂ by e f) h
 
+-- layouts, of which all is known
+same_layout : (x y : Layout) → x ≡ y
+same_layout x y =
+    let k : x.kinds ≡ y.kinds = both x.kinds_known y.kinds_known in
+    let c : x.cells ≡ y.cells = both x.cells_known y.cells_known in
+    λ j.
+    record {
+      kinds = k j;
+      cells = c j;
+      kinds_known = is_prop→PathP (λ i. k i ≡ kind_table) (λ i. Coded-set (coded_list coded_ℕ) (k i) kind_table) x.kinds_known y.kinds_known j;
+      cells_known =
+          is_prop→PathP (λ i. c i ≡ layout_table) (λ i. Coded-set (coded_list (coded_list coded_ℕ)) (c i) layout_table) x.cells_known y.cells_known j;
+    }
+
 -- ids that may be missing
 same_id : (x y : Option ℕ) → id_is x ≡ id_is y → x ≡ y
 unfolding id_is
@@ -155,9 +174,13 @@ same_stored s g types l₀ s₀ l₁ s₁ l₂ s₂ p i r e x y = (both (x i r e
 pub word_at : Determined word-at-call.Kinds.ps word-at-call.Kinds.r word-at-call.Reads.Asked word-at-call.Reads.Learnt
 word_at = λ κs a x y after other ask p q. (both p q, refl)
 
--- the cell of the layout table
-pub place : Determined place-call.Kinds.ps place-call.Kinds.r place-call.Reads.Asked place-call.Reads.Learnt
-place = λ κs a x y after other ask p q. (both p q, refl)
+-- the layout
+pub layout_new : Determined layout-new-call.Kinds.ps layout-new-call.Kinds.r layout-new-call.Reads.Asked layout-new-call.Reads.Learnt
+layout_new = λ κs a x y after other ask p q. (same_layout x y, refl)
+
+-- what it says of an opcode in a state
+pub layout_place : Determined layout-place-call.Kinds.ps layout-place-call.Kinds.r layout-place-call.Reads.Asked layout-place-call.Reads.Learnt
+layout_place = λ κs a x y after other ask p q. (both p q, refl)
 
 -- the item at a place of a grammar
 pub item_at : Determined item-at-call.Kinds.ps item-at-call.Kinds.r item-at-call.Reads.Asked item-at-call.Reads.Learnt
