@@ -126,14 +126,7 @@ struct Passed {
 fn is_string(s: &[u8]) -> bool
     ensures { result ≡ is_string s.now }
 {
-    if text::is_ascii_text(s) {
-        return true;
-    }
-    let found = text::zero(s);
-    let None = found else {
-        return false;
-    };
-    text::utf8(s)
+    text::is_ascii_text(s) || (text::zero(s).is_none() && text::utf8(s))
 }
 
 // A string of the log: it starts where the strings go on, and lies in them. Where they all are ASCII text, so is it.
@@ -291,8 +284,7 @@ fn operands_after(
     if (f.start as usize) != log_at {
         return None;
     }
-    let count = f.count as usize;
-    let passed = pass_operands(ascii, log, strings, count, log_at, strings_at)?;
+    let passed = pass_operands(ascii, log, strings, f.count as usize, log_at, strings_at)?;
     if (f.words as usize) == 1 + result_words(f) + passed.words {
         return Some(passed);
     }
