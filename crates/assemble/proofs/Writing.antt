@@ -18,7 +18,7 @@ use Rattle.spec.specs.Load.{laid_over}
 use Rattle.spec.specs.Check.{Given, lower, missing, fields_fault, Scan, scan_from, scan_of, tags_fault, records_of, fault_of, Checked, good, check}
 use Rattle.spec.specs.Write.{bytes_of_all, parse_bytes, module_header, module_order, module_bytes, Writing, unwritten, write_by, write_parse, write_module}
 use Rattle.spec.proofs.Store.{sets_append}
-use Rattle.records.specs.Steps.{given, checked_is}
+use Rattle.records.specs.Steps.{given}
 use Rattle.records.specs.Good.{Good}
 use Rattle.records.proofs.Good.{good_by, good_counts, check_is_good, check_is_bad}
 use Rattle.spelled.specs.Placing.{full_stores, GoodStores, instrs_of, ordered, order_bytes, written_over, write_order}
@@ -164,7 +164,7 @@ module _ (ws log strings : List ℕ) (count lc sc : ℕ) (in_log : lc ≤ length
       cut_scan
       ∙ g
 
-module _ (whole : Bool) (ws log strings : List ℕ) (count lc sc : ℕ) (r : Option ℕ) (e : checked_is r ≡ fault_of record_size whole (given ws log strings count lc sc)) where
+module _ (whole : Bool) (ws log strings : List ℕ) (count lc sc : ℕ) (r : Option ℕ) (e : r ≡ fault_of record_size whole (given ws log strings count lc sc)) where
   module _ (q : r ≡ None) where
     -- the log's count lies in the log
     pub cut_log : lc ≡ length (take lc log)

@@ -5,12 +5,14 @@ ghost use Rattle.spec.specs.Base.{joined};
 ghost use Rattle.spec.specs.Words.{bytes_of};
 ghost use Rattle.spec.specs.Write.{module_header, write_parse, write_module};
 ghost use Rattle.records.specs.Steps.{given};
-ghost use Rattle.spelled.specs.Placing.{GoodStores, instrs_of, written_over, order_bytes, write_order};
+ghost use Rattle.spelled.specs.Placing.{written_over, order_bytes, write_order};
+ghost use Rattle.spelled.specs.Said.{said};
 ghost use Rattle.assemble.specs.Writes.{Writes};
 
 use order::{put_module, put_read};
-use ranges::{TAGS, end_of, module_end, survey};
+use ranges::{end_of, module_end, survey};
 use spec::{Written, refusals, tags};
+use spelled::Good;
 use words::put_word;
 
 // The five header words.
@@ -50,23 +52,15 @@ fn too_short() -> Written
 }
 
 // Good stores, as read: each record says where its instruction goes.
-fn write_read(
-    header: [u32; 5],
-    instructions: &[u32],
-    log: &[u8],
-    strings: &[u8],
-    count: usize,
-    out: &mut [u8],
-) -> Written
-    requires { GoodStores instructions.now log.now strings.now count }
-    ensures { Writes (written_over out.old (order_bytes false header (instrs_of instructions.now log.now strings.now count))) out.new result }
+fn write_read(header: [u32; 5], good: Good, out: &mut [u8]) -> Written
+    ensures { Writes (written_over out.old (order_bytes false header (said good.entry))) out.new result }
 {
-    let bytes = end_of(instructions, log, strings, count);
+    let bytes = end_of(good);
     if out.len() < bytes {
         return too_short();
     }
     put_header(header, out);
-    put_read(instructions, log, strings, count, out);
+    put_read(good, out);
     Written {
         number: refusals::ACCEPTED,
         index: 0,
@@ -75,27 +69,17 @@ fn write_read(
 }
 
 // Good stores in module order: each section from the range that the survey finds.
-fn write_whole(
-    header: [u32; 5],
-    instructions: &[u32],
-    log: &[u8],
-    strings: &[u8],
-    count: usize,
-    out: &mut [u8],
-) -> Written
-    requires { GoodStores instructions.now log.now strings.now count }
-    ensures { Writes (written_over out.old (order_bytes true header (instrs_of instructions.now log.now strings.now count))) out.new result }
+fn write_whole(header: [u32; 5], good: Good, out: &mut [u8]) -> Written
+    ensures { Writes (written_over out.old (order_bytes true header (said good.entry))) out.new result }
 {
-    let mut first = [0; TAGS];
-    let mut end = [0; TAGS];
-    survey(instructions, log, strings, count, &mut first, &mut end);
-    let model = first[tags::MEMORY_MODEL as usize];
-    let need = module_end(instructions, log, strings, count, model);
+    let ranges = survey(good);
+    let model = ranges.first[tags::MEMORY_MODEL as usize];
+    let need = module_end(good, model);
     if out.len() < need {
         return too_short();
     }
     put_header(header, out);
-    put_module(instructions, log, strings, count, &first, &end, out);
+    put_module(good, &ranges, out);
     Written {
         number: refusals::ACCEPTED,
         index: 0,
@@ -104,22 +88,13 @@ fn write_whole(
 }
 
 // Good stores, in module order (whole) or as read.
-fn write_good(
-    whole: bool,
-    header: [u32; 5],
-    instructions: &[u32],
-    log: &[u8],
-    strings: &[u8],
-    count: usize,
-    out: &mut [u8],
-) -> Written
-    requires { GoodStores instructions.now log.now strings.now count }
-    ensures { Writes (written_over out.old (order_bytes whole header (instrs_of instructions.now log.now strings.now count))) out.new result }
+fn write_good(whole: bool, header: [u32; 5], good: Good, out: &mut [u8]) -> Written
+    ensures { Writes (written_over out.old (order_bytes whole header (said good.entry))) out.new result }
 {
     if whole {
-        return write_whole(header, instructions, log, strings, count, out);
+        return write_whole(header, good, out);
     }
-    write_read(header, instructions, log, strings, count, out)
+    write_read(header, good, out)
 }
 
 // The records checked, then written under a header.
@@ -146,9 +121,13 @@ fn write_order(
         strings_end,
     );
     let Some(index) = checked else {
-        let log = &log[..log_end];
-        let strings = &strings[..strings_end];
-        return write_good(whole, header, instructions, log, strings, count, out);
+        let good = Good {
+            instructions,
+            log: &log[..log_end],
+            strings: &strings[..strings_end],
+            count,
+        };
+        return write_good(whole, header, good, out);
     };
     Written {
         number: refusals::BAD_RECORDS,

@@ -18,7 +18,6 @@ use Rattle.spec.specs.Check.{Given, records_of, missing, records_in, fault_of}
 use Rattle.spec.specs.Books.{unfit, misnumbered, new_book, old_book}
 use Rattle.spec.proofs.Faultless.{none_if, no_faults}
 use Rattle.demands.proofs.Indices.{WordsFit, good_few}
-use Rattle.records.specs.Steps.{checked_is}
 use Rattle.records.proofs.Operands.{has_true}
 use Rattle.books.specs.Turns.{Turns}
 
@@ -51,16 +50,14 @@ good_count size x e =
     eqb-true _ _ (none_if (length (records_in size x) + 1) (eqb (length (records_in size x)) x.count) None (no_faults size false x e).present).0
 
 -- the answer of a check that finds none
-pub checked_good : {r : (Option ℕ)} {o : Option ℕ} → checked_is r ≡ o → r ≡ None → o ≡ None
-unfolding checked_is
-checked_good e q = sym e ∙ ap checked_is q
+pub checked_good : {r : (Option ℕ)} {o : Option ℕ} → r ≡ o → r ≡ None → o ≡ None
+checked_good e q = sym e ∙ q
 
 -- and of one that does
-checked_bad : {r : (Option ℕ)} {o : Option ℕ} {i : ℕ} → checked_is r ≡ o → r ≡ Some i → o ≡ Some i
-unfolding checked_is
-checked_bad e q = sym e ∙ ap checked_is q
+checked_bad : {r : (Option ℕ)} {o : Option ℕ} {i : ℕ} → r ≡ o → r ≡ Some i → o ≡ Some i
+checked_bad e q = sym e ∙ q
 
-module _ (size : ℕ) (x : Given) {r : (Option ℕ)} (e : checked_is r ≡ fault_of size false x) (q : r ≡ None) where
+module _ (size : ℕ) (x : Given) {r : (Option ℕ)} (e : r ≡ fault_of size false x) (q : r ≡ None) where
   -- the records of a book that passes lie in its store
   pub book_held : size * x.count ≤ length x.instructions
   book_held = records_held size x.count x.instructions (good_count size x (checked_good e q))
@@ -83,13 +80,13 @@ room_told size count words h e = by (ltb (words / size) count) refl e
 
 -- INTO A NEW BOOK
 
-module _ (x : Given) (out : List ℕ) {c : (Option ℕ)} (e : checked_is c ≡ fault_of field_size false x) where
+module _ (x : Given) (out : List ℕ) {c : (Option ℕ)} (e : c ≡ fault_of field_size false x) where
   -- 30
   pub new_bad : {i : ℕ} → c ≡ Some i → {r : Turned} → r ≡ record { number = 30; index = i; records = 0 } → Turns (new_book x out) out r
   unfolding new_book
   new_bad q s = rw (checked_bad e q) (record { said = s; output = refl })
 
-  module _ (q : c ≡ None) {d : (Option ℕ)} (f : checked_is d ≡ (if ltb (length out / record_size) x.count then Some (length out / record_size + 1) else None)) where
+  module _ (q : c ≡ None) {d : (Option ℕ)} (f : d ≡ (if ltb (length out / record_size) x.count then Some (length out / record_size + 1) else None)) where
     -- 25
     pub new_short : {i : ℕ} → d ≡ Some i → {r : Turned} → r ≡ record { number = 25; index = i; records = 0 } → Turns (new_book x out) out r
     unfolding new_book unfit
@@ -103,19 +100,19 @@ module _ (x : Given) (out : List ℕ) {c : (Option ℕ)} (e : checked_is c ≡ f
 
 -- INTO AN OLD BOOK
 
-module _ (x : Given) (out : List ℕ) {c : (Option ℕ)} (e : checked_is c ≡ fault_of record_size false x) where
+module _ (x : Given) (out : List ℕ) {c : (Option ℕ)} (e : c ≡ fault_of record_size false x) where
   -- 30
   pub old_bad : {i : ℕ} → c ≡ Some i → {r : Turned} → r ≡ record { number = 30; index = i; records = 0 } → Turns (old_book x out) out r
   unfolding old_book
   old_bad q s = rw (checked_bad e q) (record { said = s; output = refl })
 
-  module _ (q : c ≡ None) {b : (Option ℕ)} (g : checked_is b ≡ misnumbered 1 (called_for (records_in record_size x)) x.instructions) where
+  module _ (q : c ≡ None) {b : (Option ℕ)} (g : b ≡ misnumbered 1 (called_for (records_in record_size x)) x.instructions) where
     -- 33
     pub old_wrong : {i : ℕ} → b ≡ Some i → {r : Turned} → r ≡ record { number = 33; index = i; records = 0 } → Turns (old_book x out) out r
     unfolding old_book
     old_wrong p s = rw (checked_good e q, checked_bad g p) (record { said = s; output = refl })
 
-    module _ (p : b ≡ None) {d : (Option ℕ)} (f : checked_is d ≡ (if ltb (length out / field_size) x.count then Some (length out / field_size + 1) else None)) where
+    module _ (p : b ≡ None) {d : (Option ℕ)} (f : d ≡ (if ltb (length out / field_size) x.count then Some (length out / field_size + 1) else None)) where
       -- 25
       pub old_short : {i : ℕ} → d ≡ Some i → {r : Turned} → r ≡ record { number = 25; index = i; records = 0 } → Turns (old_book x out) out r
       unfolding old_book unfit

@@ -24,7 +24,6 @@ use Rattle.demands.proofs.Stores.{numbered_length}
 use Rattle.numbers.specs.declared.Step.{Step}
 use Rattle.numbers.specs.Counting.{step_of, counted, begun}
 use Rattle.numbers.proofs.Laws.{onward_few, begun_more, numbered_more}
-use Rattle.records.specs.Steps.{checked_is}
 use Rattle.records.specs.Good.{numbers_at}
 use Rattle.records.proofs.Operands.{has_yes}
 use Rattle.records.proofs.Pass.{records_by, records_end}
@@ -195,8 +194,7 @@ module _ {ws : List ℕ} {count : ℕ} {n : Numbers} {i : ℕ} (r : Matching ws 
     test_is = rw (d, q)
 
     -- it has not those called for
-    pub match_stops : (eqb m.function x.own.function && eqb m.block x.own.block) ≡ false → checked_is (Some (i + 1)) ≡ misnumbered 1 (called_for (records_of record_size count ws)) ws
-    unfolding checked_is
+    pub match_stops : (eqb m.function x.own.function && eqb m.block x.own.block) ≡ false → Some (i + 1) ≡ misnumbered 1 (called_for (records_of record_size count ws)) ws
     match_stops u =
         sym (r.same
         ∙ ap (λ (fs : List Fields). wrong_from (suc i) n fs (drop (record_size * i) ws)) next_is
@@ -224,8 +222,8 @@ module _ {ws : List ℕ} {count : ℕ} {n : Numbers} {i : ℕ} (r : Matching ws 
         }
 
   -- all have
-  pub match_ends : count ≤ i → checked_is None ≡ misnumbered 1 (called_for (records_of record_size count ws)) ws
-  unfolding checked_is misnumbered numbers_from
+  pub match_ends : count ≤ i → None ≡ misnumbered 1 (called_for (records_of record_size count ws)) ws
+  unfolding misnumbered numbers_from
   match_ends h =
       sym (r.same
       ∙ ap (λ (fs : List Fields). wrong_from (suc i) n fs (drop (record_size * i) ws))

@@ -8,7 +8,7 @@ ghost use Rattle.spec.specs.Records.{field_size, field_words, record_size, calle
 ghost use Rattle.spec.specs.Load.{laid_over};
 ghost use Rattle.spec.specs.Check.{records_of};
 ghost use Rattle.spec.specs.Books.{misnumbered, new_book, old_book};
-ghost use Rattle.records.specs.Steps.{given, checked_is};
+ghost use Rattle.records.specs.Steps.{given};
 ghost use Rattle.books.specs.Turns.{Turns};
 
 use records::{FIELDS, RECORD};
@@ -28,10 +28,9 @@ fn refused(number: u32, index: usize) -> Turned
 }
 
 // Whether an output of so many words has room for so many records of a length, or the first that does not fit.
-#[tactic(auto, unfolding(records::specs::Steps::checked_is))]
 fn check_room(size: usize, count: usize, words: usize) -> Option<usize>
     requires { field_size ≤ size }
-    ensures { checked_is result ≡ (if ltb (words / size) count then Some (words / size + 1) else None) }
+    ensures { result ≡ (if ltb (words / size) count then Some (words / size + 1) else None) }
 {
     let room = words / size;
     if room < count {
@@ -44,7 +43,7 @@ fn check_room(size: usize, count: usize, words: usize) -> Option<usize>
 fn check_numbers(new: &[u32], count: usize) -> Option<usize>
     requires count_in_bounds { record_size * count ≤ length new.now }
     requires count_bound { count < 4294967295 }
-    ensures { checked_is result ≡ misnumbered 1 (called_for (records_of record_size count new.now)) new.now }
+    ensures { result ≡ misnumbered 1 (called_for (records_of record_size count new.now)) new.now }
 {
     let mut begun = Numbers {
         function: 0,

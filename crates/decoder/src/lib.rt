@@ -163,96 +163,91 @@ impl Decoder {
     }
 
     // At most `n` words from here on.
-    pub fn set_limit(mut self, n: usize) -> Decoder
+    #[tactic(auto, unfolding(crate::specs::Answer::set_limit))]
+    pub fn set_limit(self, n: usize) -> Decoder
         ensures { result ≡ set_limit n self }
     {
-        let offset = self.offset;
-        self = Decoder {
-            offset,
+        Decoder {
             limit: Some(n),
-        };
-        self
-    }
-
-    // No limit from here on.
-    pub fn clear_limit(mut self) -> Decoder
-        ensures { result ≡ clear_limit self }
-    {
-        let offset = self.offset;
-        self = Decoder {
-            offset,
-            limit: None,
-        };
-        self
-    }
-
-    // Whether there is a limit.
-    pub fn has_limit(self) -> bool
-        ensures { result ≡ has_limit self }
-    {
-        let limit = self.limit;
-        match limit {
-            None => false,
-            Some(_) => true,
+            ..self
         }
     }
 
+    // No limit from here on.
+    #[tactic(auto, unfolding(crate::specs::Answer::clear_limit))]
+    pub fn clear_limit(self) -> Decoder
+        ensures { result ≡ clear_limit self }
+    {
+        Decoder {
+            limit: None,
+            ..self
+        }
+    }
+
+    // Whether there is a limit.
+    #[tactic(auto, unfolding(crate::specs::Answer::has_limit))]
+    pub fn has_limit(self) -> bool
+        ensures { result ≡ has_limit self }
+    {
+        self.limit.is_some()
+    }
+
     // Whether there is a limit and no word is left of it.
+    #[tactic(auto, unfolding(crate::specs::Answer::limit_reached))]
     pub fn limit_reached(self) -> bool
         ensures { result ≡ limit_reached self }
     {
-        let limit = self.limit;
-        match limit {
+        match self.limit {
             None => false,
             Some(n) => n == 0,
         }
     }
 
-    // A word that is refused at the position.
-    fn no_word(self, number: u32) -> Answer<u32>
-        ensures { result ≡ Err (refusal number self.offset 0, self) }
+    // A refusal: nothing moves.
+    fn refused<T>(self, number: u32, place: usize) -> Answer<T>
+        ensures { result ≡ Err (refusal number place 0, self) }
     {
         let refusal = Refusal {
             number,
-            place: self.offset,
+            place,
             value: 0,
         };
         Err((refusal, self))
     }
 
     // One word less in the limit, where there is one.
-    fn take_one(mut self) -> Decoder
+    fn take_one(self) -> Decoder
         requires { limit_reached self ≡ false }
         ensures { result ≡ take_one self }
     {
-        let offset = self.offset;
-        let limit = self.limit;
-        let Some(n) = limit else {
-            return self;
-        };
-        self = Decoder {
-            offset,
-            limit: Some(n - 1),
-        };
-        self
+        match self.limit {
+            None => self,
+            Some(n) => Decoder {
+                limit: Some(n - 1),
+                ..self
+            },
+        }
     }
 
     // A word: the limit is tested first, then the stream; a stream refusal has taken one from the limit.
-    pub fn word(mut self, s: &[u8]) -> Answer<u32>
+    pub fn word(self, s: &[u8]) -> Answer<u32>
         ensures { result ≡ word_from s.now self }
     {
         let at = self.offset;
         let spent = self.limit_reached();
         let ended = stream_ends(s, at);
         if spent {
-            return self.no_word(refusals::LIMIT_REACHED);
+            return self.refused(refusals::LIMIT_REACHED, at);
         }
-        self = self.take_one();
+        let taken = self.take_one();
         if ended {
-            return self.no_word(refusals::STREAM_ENDED);
+            return taken.refused(refusals::STREAM_ENDED, taken.offset);
         }
-        self.offset = at + 4;
-        Ok((word_at(s, at), self))
+        let next = Decoder {
+            offset: at + 4,
+            ..taken
+        };
+        Ok((word_at(s, at), next))
     }
 
     // A 64-bit literal: two words, low first.
@@ -262,18 +257,6 @@ impl Decoder {
         let (low, d) = self.word(s)?;
         let (high, e) = d.word(s)?;
         Ok(((low as u64) + 4294967296 * (high as u64), e))
-    }
-
-    // A string that is refused: nothing moves.
-    fn no_text(self, number: u32, place: usize) -> Answer<Text>
-        ensures { result ≡ Err (refusal number place 0, self) }
-    {
-        let refusal = Refusal {
-            number,
-            place,
-            value: 0,
-        };
-        Err((refusal, self))
     }
 
     // A string in all bytes from the position on: no zero byte is 9 at its start.
@@ -293,8 +276,8 @@ impl Decoder {
                 };
                 Ok((text, self))
             }
-            Err(NoString::NoZero) => self.no_text(refusals::STREAM_ENDED, at),
-            Err(NoString::NotUtf8) => self.no_text(refusals::NOT_UTF8, at),
+            Err(NoString::NoZero) => self.refused(refusals::STREAM_ENDED, at),
+            Err(NoString::NotUtf8) => self.refused(refusals::NOT_UTF8, at),
         }
     }
 
@@ -305,7 +288,7 @@ impl Decoder {
     {
         let at = self.offset;
         if (s.len() - at) / 4 < m {
-            return self.no_text(refusals::STREAM_ENDED, at);
+            return self.refused(refusals::STREAM_ENDED, at);
         }
         let to = at + 4 * m;
         match string_end(&s[at..to]) {
@@ -323,8 +306,8 @@ impl Decoder {
                 };
                 Ok((text, self))
             }
-            Err(NoString::NoZero) => self.no_text(refusals::LIMIT_REACHED, to),
-            Err(NoString::NotUtf8) => self.no_text(refusals::NOT_UTF8, at),
+            Err(NoString::NoZero) => self.refused(refusals::LIMIT_REACHED, to),
+            Err(NoString::NotUtf8) => self.refused(refusals::NOT_UTF8, at),
         }
     }
 
@@ -335,7 +318,7 @@ impl Decoder {
         let at = self.offset;
         let limit = self.limit;
         if s.len() < at {
-            return self.no_text(refusals::STREAM_ENDED, at);
+            return self.refused(refusals::STREAM_ENDED, at);
         }
         match limit {
             None => self.free_string(s),

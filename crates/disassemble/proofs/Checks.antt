@@ -22,7 +22,7 @@ use Rattle.spec.specs.Check.{Given, lower, records_of, missing, fields_good, fie
 use Rattle.spec.specs.Disassembly.{is_named, unnamed, check_named, disassemble, module_text}
 use Rattle.spec.proofs.Choice.{IfSome}
 use Rattle.spec.proofs.Faultless.{none_if, no_faults, Said, record_said}
-use Rattle.records.specs.Steps.{given, checked_is, left_at, at_most}
+use Rattle.records.specs.Steps.{given, left_at, at_most}
 use Rattle.records.proofs.Operands.{has_true, Inside, left_inside, said_reach, operands_taken}
 use Rattle.records.proofs.Lowest.{AtLeast, fields_late, scan_late, tags_late}
 use Rattle.spelled.specs.Spelled.{AllReadable, operand_after, operands_from, said_by}
@@ -361,8 +361,8 @@ unfolding disassemble check_named text_over
 good_writes h x out out' w is e s p = rw e (subst (λ (l : List Placed). Writes (text_over out (module_text h l)) out' w) (sym s) p)
 
 -- an index from 1 on
-pub from_one : (x : Given) (r : Option ℕ) → checked_is r ≡ fault_of record_size true x → BadFromOne r
-unfolding BadFromOne checked_is AtLeast
+pub from_one : (x : Given) (r : Option ℕ) → r ≡ fault_of record_size true x → BadFromOne r
+unfolding BadFromOne AtLeast
 from_one x None e = tt
 from_one x (Some i) e = subst (AtLeast 1) (sym e) (all_late x)
 
@@ -371,26 +371,26 @@ abbrev instrs_in : Checked → List Placed
 instrs_in (good is) = is
 instrs_in (bad i) = []
 
-module _ (ws log strings : List ℕ) (count lc sc : ℕ) (r : Option ℕ) (e : checked_is r ≡ fault_of record_size true (given ws log strings count lc sc)) (log' strings' : List ℕ)
+module _ (ws log strings : List ℕ) (count lc sc : ℕ) (r : Option ℕ) (e : r ≡ fault_of record_size true (given ws log strings count lc sc)) (log' strings' : List ℕ)
     (el : log' ≡ take lc log) (es : strings' ≡ take sc strings) (n : ℕ) (q : n ≡ before_bad r count) where
   abbrev x : Given
   x = given ws log strings count lc sc
 
   -- the fault is past the first n records
   fault_past : AtLeast (n + 1) (fault_of record_size true x)
-  unfolding AtLeast checked_is before_bad BadFromOne
+  unfolding AtLeast before_bad BadFromOne
   fault_past = subst (AtLeast (n + 1)) e (by r (from_one x r e) q)
     where
-      by : (r : Option ℕ) → BadFromOne r → n ≡ before_bad r count → AtLeast (n + 1) (checked_is r)
+      by : (r : Option ℕ) → BadFromOne r → n ≡ before_bad r count → AtLeast (n + 1) r
       by None h q = tt
       by (Some i) h q = omega (arith, q, h)
 
   -- they lie in the store
   few_records : n ≤ length (records_in record_size x)
-  unfolding AtMost checked_is before_bad missing
+  unfolding AtMost before_bad missing
   few_records = by r e q
     where
-      by : (r : Option ℕ) → checked_is r ≡ fault_of record_size true x → n ≡ before_bad r count → n ≤ length (records_in record_size x)
+      by : (r : Option ℕ) → r ≡ fault_of record_size true x → n ≡ before_bad r count → n ≤ length (records_in record_size x)
       by None e q = omega (arith, q, eqb-true (length (records_in record_size x)) count (none_if (length (records_in record_size x) + 1) (eqb (length (records_in record_size x)) count) None (no_faults record_size true x (sym e)).present).0)
       by (Some i) e q = omega (arith, q, subst (AtMost (1 + length (records_in record_size x))) (sym e) (most_fault true x))
 
@@ -438,26 +438,26 @@ module _ (ws log strings : List ℕ) (count lc sc : ℕ) (r : Option ℕ) (e : c
 
     -- a record is bad
     pub call_bad : (h out : List ℕ) (w : Written) (i : ℕ) → n ≤ m → r ≡ Some i → w ≡ record { number = 30; index = i; bytes = 0 } → Writes (disassemble h x out) out w
-    unfolding checked_is before_bad BadFromOne
+    unfolding before_bad BadFromOne
     call_bad h out w i g b s =
         let is = (scan_of record_size x).instrs in
         let before : n ≡ i - 1 = q ∙ ap (λ (a : Option ℕ). before_bad a count) b in
         let some-index : 1 ≤ i = subst BadFromOne b (from_one x r e) in
         bad_writes h x out i w
-        (ap (λ (o : Option ℕ). lower o (unnamed 1 is)) (sym e ∙ ap checked_is b)
+        (ap (λ (o : Option ℕ). lower o (unnamed 1 is)) (sym e ∙ b)
         ∙ lower_first i (unnamed 1 is) (late_less i (1 + n) (unnamed 1 is) (omega arith) (unnamed_late n 1 is (omega (arith, counted)))))
         s
 
     -- all is good
     pub call_good : (h out out' : List ℕ) (w : Written) → n ≤ m → r ≡ None → Writes (text_over out (module_text h (instrs_of ws log' strings' count))) out' w → Writes (disassemble h x out) out' w
-    unfolding checked_is before_bad
+    unfolding before_bad
     call_good h out out' w g b p =
         let is = (scan_of record_size x).instrs in
         let long : length is ≡ count = good_length x (good_by true x r e b) in
         let before : n ≡ count = q ∙ ap (λ (a : Option ℕ). before_bad a count) b in
         let all : take n is ≡ is = take_all n is (omega arith) in
         good_writes h x out out' w (instrs_of ws log' strings' count)
-        (ap (λ (o : Option ℕ). lower o (unnamed 1 is)) (sym e ∙ ap checked_is b) ∙ unnamed_none 1 is (omega (arith, counted, ap named_count all)))
+        (ap (λ (o : Option ℕ). lower o (unnamed 1 is)) (sym e ∙ b) ∙ unnamed_none 1 is (omega (arith, counted, ap named_count all)))
         (stores_say b) p
 
 -- a part of a store up to a count that lies in it

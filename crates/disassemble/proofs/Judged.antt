@@ -27,19 +27,15 @@ use Rattle.pieces.specs.Putting.{bit_named, has_bits}
 use Rattle.pieces.proofs.Texts.{readable_more}
 use Rattle.disassemble.specs.Listed.{said_from, Told, named_count}
 use Rattle.pieces.proofs.Texts.{no_bits, half_twice, own_set, bits_in_lem, value_in_lem}
-use Rattle.std.specs.Prelude.{None, Option, Some}
+use Rattle.std.specs.Prelude.{None, Option, Some, is_some}
 
 -- A NAME
 
--- a name that is found
-pub name_there : (run : List ℕ) (set n start end : ℕ) (r : Option (ℕ × ℕ)) → text_found run r ≡ name_of set n → r ≡ Some (start, end) → true ≡ is_there (name_of set n)
+-- it is there where its text was found
+pub name_there : (run : List ℕ) (set n : ℕ) (r : Option (ℕ × ℕ)) → text_found run r ≡ name_of set n → is_some r ≡ is_there (name_of set n)
 unfolding text_found
-name_there run set n start end r e q = ap is_there (sym (ap (text_found run) q) ∙ e)
-
--- one that is not
-pub name_lacks : (run : List ℕ) (set n : ℕ) (r : Option (ℕ × ℕ)) → text_found run r ≡ name_of set n → r ≡ None → false ≡ is_there (name_of set n)
-unfolding text_found
-name_lacks run set n r e q = ap is_there (sym (ap (text_found run) q) ∙ e)
+name_there run set n (Some (start, end)) e = ap is_there e
+name_there run set n None e = ap is_there e
 
 -- MASKS
 

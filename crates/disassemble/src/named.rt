@@ -5,49 +5,42 @@ ghost use Rattle.spec.specs.Words.{bits_of};
 ghost use Rattle.spec.specs.Records.{narrow};
 ghost use Rattle.spec.specs.Names.{name_of};
 ghost use Rattle.spec.specs.Disassembly.{is_there, operand_named, is_named as named_of};
-ghost use Rattle.lookup.specs.Run.{Indexed};
 ghost use Rattle.records.specs.Good.{operand_at};
 ghost use Rattle.spelled.specs.Spelled.{Readable, AllReadable, operands_from, said_by};
 ghost use Rattle.pieces.specs.Putting.{bit_named};
 ghost use Rattle.disassemble.specs.Listed.{said_from, Told, named_count};
 
+use lookup::Names;
 use operand::is_two;
 use pieces::{after, has_bits, set_of_kind};
 use records::record_at;
 use spec::Fields;
 
 // Whether a number has a name in a set.
-fn has_name(run: &[u8], index: &[u16], set: u8, number: u32) -> bool
-    requires { Indexed run.now index.now }
+fn has_name(names: Names, set: u8, number: u32) -> bool
     ensures { result ≡ is_there (name_of set number) }
 {
-    let found = lookup::find(run, index, set, number);
-    match found {
-        Some((_, _)) => true,
-        None => false,
-    }
+    names.find(set, number).is_some()
 }
 
 // Whether a bit has a name, where it is set.
-fn bit_named(run: &[u8], index: &[u16], kind: u8, set: u32, bit: u32) -> bool
-    requires { Indexed run.now index.now }
+fn bit_named(names: Names, kind: u8, set: u32, bit: u32) -> bool
     ensures { result ≡ bit_named kind set bit }
 {
     if set == 1 {
-        return has_name(run, index, kind, bit);
+        return has_name(names, kind, bit);
     }
     true
 }
 
 // Whether each bit that is set in a mask has a name.
-fn bits_named(run: &[u8], index: &[u16], kind: u8, mask: u32) -> bool
-    requires { Indexed run.now index.now }
+fn bits_named(names: Names, kind: u8, mask: u32) -> bool
     ensures { result ≡ every (λ n. is_there (name_of kind n)) (bits_of mask) }
 {
     let mut rest = mask;
     let mut bit: u64 = 1;
     while rest != 0 {
-        if !bit_named(run, index, kind, rest % 2, bit as u32) {
+        if !bit_named(names, kind, rest % 2, bit as u32) {
             return false;
         }
         rest = rest / 2;
@@ -57,47 +50,37 @@ fn bits_named(run: &[u8], index: &[u16], kind: u8, mask: u32) -> bool
 }
 
 // Whether an operand of one word has its names.
-fn narrow_named(run: &[u8], index: &[u16], kind: u8, value: u32) -> bool
-    requires { Indexed run.now index.now }
+fn narrow_named(names: Names, kind: u8, value: u32) -> bool
     ensures { result ≡ operand_named (narrow kind value) }
 {
     if (31 <= kind) & (kind <= 38) {
         return true;
     }
     if has_bits(kind, value) {
-        return bits_named(run, index, kind, value);
+        return bits_named(names, kind, value);
     }
-    has_name(run, index, set_of_kind(kind), value)
+    has_name(names, set_of_kind(kind), value)
 }
 
 // Whether the operand at a place of the log has its names.
-fn operand_named(run: &[u8], index: &[u16], log: &[u8], strings: &[u8], a: usize) -> bool
-    requires indexed { Indexed run.now index.now }
-    requires readable { Readable log.now strings.now a }
+fn operand_named(names: Names, log: &[u8], strings: &[u8], a: usize) -> bool
+    requires { Readable log.now strings.now a }
     ensures { result ≡ operand_named (operand_at log.now strings.now a) }
 {
     if is_two(log[a]) {
         return true;
     }
-    narrow_named(run, index, log[a], words::word_at(log, a + 1))
+    narrow_named(names, log[a], words::word_at(log, a + 1))
 }
 
 // Whether each of so many operands from a place of the log on has its names.
-fn operands_named(
-    run: &[u8],
-    index: &[u16],
-    log: &[u8],
-    strings: &[u8],
-    first: usize,
-    count: usize,
-) -> bool
-    requires indexed { Indexed run.now index.now }
-    requires all_readable { AllReadable count log.now strings.now first }
+fn operands_named(names: Names, log: &[u8], strings: &[u8], first: usize, count: usize) -> bool
+    requires { AllReadable count log.now strings.now first }
     ensures { result ≡ every operand_named (operands_from count log.now strings.now first) }
 {
     let mut a = first;
     for _ in 0..count {
-        if !operand_named(run, index, log, strings, a) {
+        if !operand_named(names, log, strings, a) {
             return false;
         }
         a = after(log, a);
@@ -106,32 +89,29 @@ fn operands_named(
 }
 
 // Whether the instruction of a record has its names.
-fn is_named(run: &[u8], index: &[u16], log: &[u8], strings: &[u8], f: Fields) -> bool
-    requires indexed { Indexed run.now index.now }
-    requires all_readable { AllReadable f.count log.now strings.now f.start }
+fn is_named(names: Names, log: &[u8], strings: &[u8], f: Fields) -> bool
+    requires { AllReadable f.count log.now strings.now f.start }
     ensures { result ≡ named_of (said_by log.now strings.now f) }
 {
-    if has_name(run, index, lookup::OPCODES, f.head % 65536) {
-        return operands_named(run, index, log, strings, f.start as usize, f.count as usize);
+    if has_name(names, lookup::OPCODES, f.head % 65536) {
+        return operands_named(names, log, strings, f.start as usize, f.count as usize);
     }
     false
 }
 
 // How many of the first records have their names, up to the first that lacks one.
 pub fn named_count(
-    run: &[u8],
-    index: &[u16],
+    names: Names,
     instructions: &[u32],
     log: &[u8],
     strings: &[u8],
     count: usize,
 ) -> usize
-    requires indexed { Indexed run.now index.now }
-    requires told { Told count instructions.now log.now strings.now }
+    requires { Told count instructions.now log.now strings.now }
     ensures { result ≡ named_count (said_from count instructions.now log.now strings.now) }
 {
     for i in 0..count {
-        if !is_named(run, index, log, strings, record_at(instructions, i)) {
+        if !is_named(names, log, strings, record_at(instructions, i)) {
             return i;
         }
     }

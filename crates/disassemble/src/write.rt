@@ -2,7 +2,6 @@
 ghost use Rattle.std.specs.Prelude.{◌≡◌, ◌∷◌, [], ◌≤◌};
 ghost use Rattle.spec.specs.Write.{module_order};
 ghost use Rattle.spec.specs.Disassembly.{header_text, lines_text, module_text, disassemble as disassemble_of};
-ghost use Rattle.lookup.specs.Run.{Indexed};
 ghost use Rattle.records.specs.Steps.{given};
 ghost use Rattle.spelled.specs.Placing.{GoodStores, instrs_of};
 ghost use Rattle.assemble.specs.Writes.{Writes};
@@ -14,6 +13,7 @@ use crate::named::named_count;
 use crate::walk::{Cursor, advance};
 use imports::imports_end;
 use line::{Asked, put_line};
+use lookup::Names;
 use pieces::{put_bytes, put_number};
 use records::{at_most, record_at};
 use spec::{Written, refusals};
@@ -33,8 +33,7 @@ fn put_header(version: u32, bound: u32, out: &mut [u8], at: usize, keep: bool) -
 
 // The lines of all instructions, in module order.
 fn put_lines(
-    run: &[u8],
-    index: &[u16],
+    names: Names,
     instructions: &[u32],
     log: &[u8],
     strings: &[u8],
@@ -42,7 +41,6 @@ fn put_lines(
     out: &mut [u8],
     start: usize,
 ) -> usize
-    requires indexed { Indexed run.now index.now }
     requires good_stores { GoodStores instructions.now log.now strings.now asked.count }
     requires imports_le_count { (asked.imports ≤ asked.count) × ImportsEnd instructions.now asked.count asked.imports }
     requires room { Room asked.keep out.old start (lines_text (instrs_of instructions.now log.now strings.now asked.count) (module_order (instrs_of instructions.now log.now strings.now asked.count))) }
@@ -56,8 +54,7 @@ fn put_lines(
     let mut at = start;
     while let Some((i, after)) = advance(instructions, log, strings, asked.count, c) {
         at = put_line(
-            run,
-            index,
+            names,
             instructions,
             log,
             strings,
@@ -73,8 +70,7 @@ fn put_lines(
 
 // The whole text, kept or only measured.
 fn put_text(
-    run: &[u8],
-    index: &[u16],
+    names: Names,
     header: [u32; 5],
     instructions: &[u32],
     log: &[u8],
@@ -82,20 +78,18 @@ fn put_text(
     asked: Asked,
     out: &mut [u8],
 ) -> usize
-    requires indexed { Indexed run.now index.now }
     requires good_stores { GoodStores instructions.now log.now strings.now asked.count }
     requires imports_le_count { (asked.imports ≤ asked.count) × ImportsEnd instructions.now asked.count asked.imports }
     requires room { Room asked.keep out.old 0 (module_text header (instrs_of instructions.now log.now strings.now asked.count)) }
     ensures { Wrote asked.keep out.old 0 (module_text header (instrs_of instructions.now log.now strings.now asked.count)) result out.new }
 {
     let at = put_header(header[1], header[3], out, 0, asked.keep);
-    put_lines(run, index, instructions, log, strings, asked, out, at)
+    put_lines(names, instructions, log, strings, asked, out, at)
 }
 
 // Good records that have their names: measured against the output, then written.
 fn write_good(
-    run: &[u8],
-    index: &[u16],
+    names: Names,
     header: [u32; 5],
     instructions: &[u32],
     log: &[u8],
@@ -103,8 +97,7 @@ fn write_good(
     count: usize,
     out: &mut [u8],
 ) -> Written
-    requires indexed { Indexed run.now index.now }
-    requires good_stores { GoodStores instructions.now log.now strings.now count }
+    requires { GoodStores instructions.now log.now strings.now count }
     ensures { Writes (text_over out.old (module_text header (instrs_of instructions.now log.now strings.now count))) out.new result }
 {
     let imports = imports_end(instructions, count);
@@ -113,16 +106,7 @@ fn write_good(
         imports,
         keep: false,
     };
-    let need = put_text(
-        run,
-        index,
-        header,
-        instructions,
-        log,
-        strings,
-        measured,
-        out,
-    );
+    let need = put_text(names, header, instructions, log, strings, measured, out);
     if out.len() < need {
         return Written {
             number: refusals::TEXT_LONG,
@@ -135,7 +119,7 @@ fn write_good(
         imports,
         keep: true,
     };
-    let bytes = put_text(run, index, header, instructions, log, strings, kept, out);
+    let bytes = put_text(names, header, instructions, log, strings, kept, out);
     Written {
         number: refusals::ACCEPTED,
         index: 0,
@@ -180,6 +164,7 @@ pub fn disassemble(
 {
     let run = names::table();
     let index = names::prepared();
+    let names = Names::new(&run, &index);
     let checked = records::check(
         true,
         instructions,
@@ -194,14 +179,13 @@ pub fn disassemble(
     let strings_end = at_most(string_count, strings.len());
     let log = &log[..log_end];
     let strings = &strings[..strings_end];
-    let named = named_count(&run, &index, instructions, log, strings, count);
+    let named = named_count(names, instructions, log, strings, count);
     if named < count {
         return bad_record(named + 1);
     }
     let Some(first) = checked else {
         return write_good(
-            &run,
-            &index,
+            names,
             header,
             instructions,
             log,

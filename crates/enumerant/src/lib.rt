@@ -7,7 +7,7 @@ ghost use Rattle.enumerant.specs.Read.{enumerant_from};
 
 use decoder::{Answer, Decoder};
 use formed::prepare;
-use grammar::{SIZE, is_known};
+use grammar::{Rows, SIZE};
 use spec::{Refusal, refusals};
 
 // A refusal, with the decoder after it.
@@ -30,16 +30,14 @@ pub fn enumerant(d: Decoder, s: &[u8], g: &[u8], kind: u8) -> Answer<u32>
     if !prepare(g, &mut index) {
         return refused(refusals::BAD_GRAMMAR, 0, 0, d);
     }
+    let rows = Rows::new(g, &index);
     let at = d.offset();
     if d.limit_reached() {
         return refused(refusals::STREAM_ENDED, at, 0, d);
     }
-    let word = d.word(s);
-    let Ok((value, next)) = word else {
-        return word;
-    };
-    if is_known(g, &index, kind, value) {
-        return word;
+    let (value, next) = d.word(s)?;
+    if rows.is_known(kind, value) {
+        return Ok((value, next));
     }
     refused(refusals::ENUMERANT_UNKNOWN, at, value, next)
 }

@@ -32,6 +32,7 @@ fn operands_end(g: &[u8], op: u16, from: usize) -> Option<usize>
         lead: NO_LEAD,
     };
     let mut at = from;
+    // Items are looked at, and not operands alone: what follows the last is what a row must be followed by.
     while at < g.len() {
         let x = item_at(g, at);
         let Item::Operand(k, q) = x else {
@@ -129,6 +130,7 @@ fn pass(g: &[u8], index: &mut [u16], owners: &mut [bool; 256], used: &mut [bool;
     };
     let mut count: usize = 0;
     let mut at: usize = 0;
+    // Rows and enumerants differ in length: the place moves by each one's, which no `for` counts.
     while at < g.len() {
         let x = item_at(g, at);
         let end = enter(g, index, count, last, x, at, owners, used);

@@ -88,9 +88,9 @@ unfolding Sure
 guess_silent s = absurd s
 
 -- nor is its place past any end
-pub guess_nothing : {A : Type 0} (n : ℕ) → (Sure None → A) × (place_found None ≤ n)
+pub guess_far : {n : ℕ} → place_found None ≤ n
 unfolding place_found
-guess_nothing n = (guess_silent, omega arith)
+guess_far = omega arith
 
 -- READING ON
 

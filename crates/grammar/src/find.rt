@@ -9,125 +9,154 @@ use crate::index::{guess_at, mark_at, mark_count, rises_to};
 use crate::items::{Item, item_at};
 use crate::kinds::is_mask;
 
-// Searches the rows and enumerants by halves.
-fn search(g: &[u8], index: &[u16], kind: u8, value: u32) -> Option<usize>
-    requires { Indexed g.now index.now }
-    ensures { result ≡ found kind value (marks_of g.now) }
-{
-    let mut low: usize = 0;
-    let mut high = mark_count(index);
-    while low < high {
-        let middle = low + (high - low) / 2;
-        let m = mark_at(g, index, middle);
-        if rises_to(m.kind, m.value, kind, value) {
-            low = middle + 1;
-        } else {
-            if rises_to(kind, value, m.kind, m.value) {
-                high = middle;
+// A well-formed grammar's bytes, with an index of them.
+#[derive(Clone, Copy)]
+pub struct Rows<'a> {
+    pub bytes: &'a [u8],
+    pub index: &'a [u16],
+    pub ghost indexed: { Indexed bytes.now index.now },
+}
+
+impl<'a> Rows<'a> {
+    // The rows of a grammar and its index.
+    pub fn new(bytes: &'a [u8], index: &'a [u16]) -> Rows<'a>
+        requires { Indexed bytes.now index.now }
+        ensures { (result.bytes.now ≡ bytes.now) × (result.index.now ≡ index.now) }
+    {
+        Rows { bytes, index }
+    }
+
+    // Searches the rows and enumerants by halves.
+    fn search(self, kind: u8, value: u32) -> Option<usize>
+        ensures { result ≡ found kind value (marks_of self.entry.bytes.now) }
+    {
+        let mut low: usize = 0;
+        let mut high = mark_count(self.index);
+        while low < high {
+            let middle = low + (high - low) / 2;
+            let m = mark_at(self.bytes, self.index, middle);
+            if rises_to(m.kind, m.value, kind, value) {
+                low = middle + 1;
             } else {
-                return Some(m.place);
+                if rises_to(kind, value, m.kind, m.value) {
+                    high = middle;
+                } else {
+                    return Some(m.place);
+                }
             }
         }
+        None
     }
-    None
-}
 
-// Looks where the guess says.
-fn guessed(g: &[u8], index: &[u16], kind: u8, value: u32) -> Option<usize>
-    requires { Indexed g.now index.now }
-    ensures { Sure result → result ≡ found kind value (marks_of g.now) }
-{
-    let guess = guess_at(index, kind, value);
-    if guess < mark_count(index) {
-        let m = mark_at(g, index, guess);
-        if m.kind == kind {
-            if m.value == value {
-                return Some(m.place);
+    // Looks where the guess says.
+    fn guessed(self, kind: u8, value: u32) -> Option<usize>
+        ensures { Sure result → result ≡ found kind value (marks_of self.entry.bytes.now) }
+    {
+        let guess = guess_at(self.index, kind, value);
+        if guess < mark_count(self.index) {
+            let m = mark_at(self.bytes, self.index, guess);
+            if m.kind == kind {
+                if m.value == value {
+                    return Some(m.place);
+                }
             }
         }
+        None
     }
-    None
-}
 
-// Looks where the guess says, and else searches.
-fn look(g: &[u8], index: &[u16], kind: u8, value: u32) -> Option<usize>
-    requires { Indexed g.now index.now }
-    ensures { result ≡ found kind value (marks_of g.now) }
-{
-    let guess = guessed(g, index, kind, value);
-    match guess {
-        Some(place) => Some(place),
-        None => search(g, index, kind, value),
-    }
-}
-
-// Where the operands of an opcode's row start.
-pub fn find_row(g: &[u8], index: &[u16], opcode: u16) -> Option<usize>
-    requires { Indexed g.now index.now }
-    ensures result_value { row_found g.now result ≡ row_of opcode (grammar_of g.now).rows }
-    ensures result_in_bounds { place_found result ≤ length g.now }
-{
-    let row = look(g, index, 0, opcode as u32);
-    match row {
-        Some(place) => {
-            let operands = place + 3;
-            Some(operands)
+    // Looks where the guess says, and else searches.
+    fn look(self, kind: u8, value: u32) -> Option<usize>
+        ensures { result ≡ found kind value (marks_of self.entry.bytes.now) }
+    {
+        match self.guessed(kind, value) {
+            Some(place) => Some(place),
+            None => self.search(kind, value),
         }
-        None => None,
     }
-}
 
-// The same where the guess says it, or nothing: short enough to stand where it is called.
-pub fn guess_row(g: &[u8], index: &[u16], opcode: u16) -> Option<usize>
-    requires { Indexed g.now index.now }
-    ensures result_value { Sure result → row_found g.now result ≡ row_of opcode (grammar_of g.now).rows }
-    ensures result_in_bounds { place_found result ≤ length g.now }
-{
-    let row = guessed(g, index, 0, opcode as u32);
-    match row {
-        Some(place) => {
-            let operands = place + 3;
-            Some(operands)
-        }
-        None => None,
+    // Where the operands of an opcode's row start.
+    pub fn find_row(self, opcode: u16) -> Option<usize>
+        ensures result_value { row_found self.entry.bytes.now result ≡ row_of opcode (grammar_of self.entry.bytes.now).rows }
+        ensures result_in_bounds { place_found result ≤ length self.entry.bytes.now }
+    {
+        let place = self.look(0, opcode as u32)?;
+        Some(place + 3)
     }
-}
 
-// Where the parameters of the enumerant of a kind and a value start.
-pub fn find_enumerant(g: &[u8], index: &[u16], kind: u8, value: u32) -> Option<usize>
-    requires { Indexed g.now index.now }
-    ensures result_value { parameters_found g.now result ≡ listed kind value (grammar_of g.now).enumerants }
-    ensures result_in_bounds { place_found result ≤ length g.now }
-{
-    if kind == 0 {
-        return None;
+    // The same where the guess says it, or nothing: short enough to stand where it is called.
+    pub fn guess_row(self, opcode: u16) -> Option<usize>
+        ensures result_value { Sure result → row_found self.entry.bytes.now result ≡ row_of opcode (grammar_of self.entry.bytes.now).rows }
+        ensures result_in_bounds { place_found result ≤ length self.entry.bytes.now }
+    {
+        let place = self.guessed(0, opcode as u32)?;
+        Some(place + 3)
     }
-    let enumerant = look(g, index, kind, value);
-    match enumerant {
-        Some(place) => {
-            let parameters = place + 6;
-            Some(parameters)
-        }
-        None => None,
-    }
-}
 
-// The same where the guess says it, or nothing.
-pub fn guess_enumerant(g: &[u8], index: &[u16], kind: u8, value: u32) -> Option<usize>
-    requires { Indexed g.now index.now }
-    ensures result_value { Sure result → parameters_found g.now result ≡ listed kind value (grammar_of g.now).enumerants }
-    ensures result_in_bounds { place_found result ≤ length g.now }
-{
-    if kind == 0 {
-        return None;
-    }
-    let enumerant = guessed(g, index, kind, value);
-    match enumerant {
-        Some(place) => {
-            let parameters = place + 6;
-            Some(parameters)
+    // Where the parameters of the enumerant of a kind and a value start.
+    pub fn find_enumerant(self, kind: u8, value: u32) -> Option<usize>
+        ensures result_value { parameters_found self.entry.bytes.now result ≡ listed kind value (grammar_of self.entry.bytes.now).enumerants }
+        ensures result_in_bounds { place_found result ≤ length self.entry.bytes.now }
+    {
+        if kind == 0 {
+            return None;
         }
-        None => None,
+        let place = self.look(kind, value)?;
+        Some(place + 6)
+    }
+
+    // The same where the guess says it, or nothing.
+    pub fn guess_enumerant(self, kind: u8, value: u32) -> Option<usize>
+        ensures result_value { Sure result → parameters_found self.entry.bytes.now result ≡ listed kind value (grammar_of self.entry.bytes.now).enumerants }
+        ensures result_in_bounds { place_found result ≤ length self.entry.bytes.now }
+    {
+        if kind == 0 {
+            return None;
+        }
+        let place = self.guessed(kind, value)?;
+        Some(place + 6)
+    }
+
+    // Whether the enumerant of a kind and a value is listed.
+    fn is_listed(self, kind: u8, value: u32) -> bool
+        ensures { result ≡ is_listed (listed kind value (grammar_of self.entry.bytes.now).enumerants) }
+    {
+        self.find_enumerant(kind, value).is_some()
+    }
+
+    // Whether a bit is listed, where it is set.
+    fn bit_listed(self, kind: u8, set: u32, bit: u32) -> bool
+        ensures { result ≡ bit_listed (grammar_of self.entry.bytes.now).enumerants kind set bit }
+    {
+        if set == 1 {
+            return self.is_listed(kind, bit);
+        }
+        true
+    }
+
+    // Whether each bit that is set in a mask is listed, lowest first.
+    fn bits_listed(self, kind: u8, mask: u32) -> bool
+        ensures { result ≡ is_listed (bits_listed kind (bits_of mask) (grammar_of self.entry.bytes.now).enumerants) }
+    {
+        let mut rest = mask;
+        let mut bit: u64 = 1;
+        while rest != 0 {
+            if !self.bit_listed(kind, rest % 2, bit as u32) {
+                return false;
+            }
+            rest = rest / 2;
+            bit = 2 * bit;
+        }
+        true
+    }
+
+    // "A value must be listed. A mask is known when each set bit is listed; zero always is."
+    pub fn is_known(self, kind: u8, value: u32) -> bool
+        ensures { result ≡ is_listed (parameters_for kind value (grammar_of self.entry.bytes.now)) }
+    {
+        if is_mask(kind) {
+            return self.bits_listed(kind, value);
+        }
+        self.is_listed(kind, value)
     }
 }
 
@@ -159,55 +188,4 @@ pub fn parameter_at(g: &[u8], at: usize) -> Option<u8>
         return None;
     };
     Some(kind)
-}
-
-// Whether the enumerant of a kind and a value is listed.
-fn is_listed(g: &[u8], index: &[u16], kind: u8, value: u32) -> bool
-    requires { Indexed g.now index.now }
-    ensures { result ≡ is_listed (listed kind value (grammar_of g.now).enumerants) }
-{
-    let found = find_enumerant(g, index, kind, value);
-    match found {
-        Some(_) => true,
-        None => false,
-    }
-}
-
-// Whether a bit is listed, where it is set.
-fn bit_listed(g: &[u8], index: &[u16], kind: u8, set: u32, bit: u32) -> bool
-    requires { Indexed g.now index.now }
-    ensures { result ≡ bit_listed (grammar_of g.now).enumerants kind set bit }
-{
-    if set == 1 {
-        return is_listed(g, index, kind, bit);
-    }
-    true
-}
-
-// Whether each bit that is set in a mask is listed, lowest first.
-fn bits_listed(g: &[u8], index: &[u16], kind: u8, mask: u32) -> bool
-    requires { Indexed g.now index.now }
-    ensures { result ≡ is_listed (bits_listed kind (bits_of mask) (grammar_of g.now).enumerants) }
-{
-    let mut rest = mask;
-    let mut bit: u64 = 1;
-    while rest != 0 {
-        if !bit_listed(g, index, kind, rest % 2, bit as u32) {
-            return false;
-        }
-        rest = rest / 2;
-        bit = 2 * bit;
-    }
-    true
-}
-
-// "A value must be listed. A mask is known when each set bit is listed; zero always is."
-pub fn is_known(g: &[u8], index: &[u16], kind: u8, value: u32) -> bool
-    requires { Indexed g.now index.now }
-    ensures { result ≡ is_listed (parameters_for kind value (grammar_of g.now)) }
-{
-    if is_mask(kind) {
-        return bits_listed(g, index, kind, value);
-    }
-    is_listed(g, index, kind, value)
 }

@@ -47,6 +47,7 @@ fn piece_end(g: &[u8], at: usize) -> usize
     ensures { Stretch g.now at result }
 {
     let mut end = at + grammar::item_length(g, at);
+    // Items differ in length: the place moves by each one's, which no `for` counts.
     while end < g.len() {
         if !is_part(grammar::item_at(g, end)) {
             return end;

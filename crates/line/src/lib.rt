@@ -5,7 +5,6 @@ ghost use Rattle.std.specs.Prelude.{◌≡◌, ◌++◌, ◌≤◌, length};
 ghost use Rattle.spec.specs.Base.{ascii};
 ghost use Rattle.spec.specs.Check.{field_in};
 ghost use Rattle.spec.specs.Disassembly.{result_text, operands_text, instr_text};
-ghost use Rattle.lookup.specs.Run.{Indexed};
 ghost use Rattle.lookup.specs.Find.{text_found, Inside};
 ghost use Rattle.spelled.specs.Spelled.{AllReadable, said_by};
 ghost use Rattle.spelled.specs.Placing.{GoodStores, instrs_of};
@@ -14,6 +13,7 @@ ghost use Rattle.imports.specs.Imports.{ImportsEnd};
 ghost use Rattle.line.specs.Named.{name_in};
 
 use imports::set_of;
+use lookup::Names;
 use pieces::{put_byte, put_bytes, put_id, put_name, put_operands};
 use spec::{Fields, kinds, opcodes, tags};
 
@@ -55,20 +55,18 @@ fn put_type(out: &mut [u8], at: usize, id: u32, there: bool, more: bool, keep: b
 
 // The name that takes the place of the second operand: where it stands in the run of names.
 fn ext_name(
-    run: &[u8],
-    index: &[u16],
+    names: Names,
     instructions: &[u32],
     log: &[u8],
     strings: &[u8],
     asked: Asked,
     f: Fields,
 ) -> Option<(usize, usize)>
-    requires indexed { Indexed run.now index.now }
     requires good_stores { GoodStores instructions.now log.now strings.now asked.count }
     requires imports_le_count { (asked.imports ≤ asked.count) × ImportsEnd instructions.now asked.count asked.imports }
     requires all_readable { AllReadable f.count log.now strings.now f.start }
-    ensures result_value { text_found run.now result ≡ name_in (instrs_of instructions.now log.now strings.now asked.count) (said_by log.now strings.now f) }
-    ensures inside { Inside result (length run.now) }
+    ensures result_value { text_found names.entry.run.now result ≡ name_in (instrs_of instructions.now log.now strings.now asked.count) (said_by log.now strings.now f) }
+    ensures inside { Inside result (length names.entry.run.now) }
 {
     if (((f.head % 65536) as u16) != opcodes::EXT_INST) | (f.tag != tags::BLOCK) | (f.count < 2) {
         return None;
@@ -88,13 +86,12 @@ fn ext_name(
     if set == 0 {
         return None;
     }
-    lookup::find(run, index, set, words::word_at(log, a + 6))
+    names.find(set, words::word_at(log, a + 6))
 }
 
 // An instruction's operands.
 fn put_all(
-    run: &[u8],
-    index: &[u16],
+    names: Names,
     instructions: &[u32],
     log: &[u8],
     strings: &[u8],
@@ -103,7 +100,6 @@ fn put_all(
     out: &mut [u8],
     at: usize,
 ) -> usize
-    requires indexed { Indexed run.now index.now }
     requires good_stores { GoodStores instructions.now log.now strings.now asked.count }
     requires imports_le_count { (asked.imports ≤ asked.count) × ImportsEnd instructions.now asked.count asked.imports }
     requires all_readable { AllReadable f.count log.now strings.now f.start }
@@ -112,31 +108,20 @@ fn put_all(
 {
     let a = f.start as usize;
     let n = f.count as usize;
-    let name = ext_name(run, index, instructions, log, strings, asked, f);
+    let name = ext_name(names, instructions, log, strings, asked, f);
     let Some((start, end)) = name else {
-        return put_operands(run, index, log, strings, a, n, out, at, asked.keep);
+        return put_operands(names, log, strings, a, n, out, at, asked.keep);
     };
     let third = a + 10;
-    let first = put_operands(run, index, log, strings, a, 1, out, at, asked.keep);
+    let first = put_operands(names, log, strings, a, 1, out, at, asked.keep);
     let blank = put_byte(out, first, b' ', asked.keep);
-    let second = put_bytes(out, blank, &run[start..end], asked.keep);
-    put_operands(
-        run,
-        index,
-        log,
-        strings,
-        third,
-        n - 2,
-        out,
-        second,
-        asked.keep,
-    )
+    let second = put_bytes(out, blank, &names.run[start..end], asked.keep);
+    put_operands(names, log, strings, third, n - 2, out, second, asked.keep)
 }
 
 // An instruction's line, behind a line feed.
 pub fn put_line(
-    run: &[u8],
-    index: &[u16],
+    names: Names,
     instructions: &[u32],
     log: &[u8],
     strings: &[u8],
@@ -145,7 +130,6 @@ pub fn put_line(
     out: &mut [u8],
     at: usize,
 ) -> usize
-    requires indexed { Indexed run.now index.now }
     requires good_stores { GoodStores instructions.now log.now strings.now asked.count }
     requires imports_le_count { (asked.imports ≤ asked.count) × ImportsEnd instructions.now asked.count asked.imports }
     requires all_readable { AllReadable f.count log.now strings.now f.start }
@@ -156,15 +140,7 @@ pub fn put_line(
     let feed = put_byte(out, at, b'\n', asked.keep);
     let id = put_result(out, feed, f.rid, 2 <= bits, asked.keep);
     let op = put_bytes(out, id, b"Op", asked.keep);
-    let name = put_name(
-        run,
-        index,
-        lookup::OPCODES,
-        f.head % 65536,
-        out,
-        op,
-        asked.keep,
-    );
+    let name = put_name(names, lookup::OPCODES, f.head % 65536, out, op, asked.keep);
     let ty = put_type(out, name, f.rtype, bits % 2 == 1, 0 < f.count, asked.keep);
-    put_all(run, index, instructions, log, strings, asked, f, out, ty)
+    put_all(names, instructions, log, strings, asked, f, out, ty)
 }

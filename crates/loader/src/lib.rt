@@ -7,6 +7,7 @@ ghost use Rattle.loader.specs.Loading.{Loads};
 
 mod run;
 
+use grammar::Rows;
 use run::load_indexed;
 use spec::{Loaded, refusals};
 use steps::no_instruction;
@@ -28,7 +29,8 @@ pub fn load(
     if !formed::prepare(grammar, &mut index) {
         return no_instruction(refusals::BAD_GRAMMAR, 0);
     }
-    load_indexed(module, grammar, &index, instructions, log, strings, types)
+    let rows = Rows::new(grammar, &index);
+    load_indexed(module, rows, instructions, log, strings, types)
 }
 
 // Loads a module by the built-in grammar, for which nothing is checked or indexed at run time.
@@ -45,5 +47,6 @@ pub fn load_builtin(
 {
     let table = builtin::table();
     let index = builtin::prepared();
-    load_indexed(module, &table, &index, instructions, log, strings, types)
+    let rows = Rows::new(&table, &index);
+    load_indexed(module, rows, instructions, log, strings, types)
 }

@@ -1,10 +1,10 @@
 // The instructions of a module, one after the other, and a load by a grammar that is indexed.
 ghost use Rattle.std.specs.Prelude.{◌≡◌, ◌≤◌, ◌<◌, length};
 ghost use Rattle.spec.specs.Load.{lent};
-ghost use Rattle.grammar.specs.Index.{Indexed};
 ghost use Rattle.tracker.specs.Hints.{Blank};
 ghost use Rattle.loader.specs.Loading.{LoadsFrom, LoadsWith};
 
+use grammar::Rows;
 use reflect::Layout;
 use room::room_in;
 use spec::{Loaded, Numbers, Refusal, State, refusals};
@@ -39,8 +39,7 @@ const SPARE: usize = 256;
 fn load_from(
     layout: &Layout,
     s: &[u8],
-    g: &[u8],
-    index: &[u16],
+    rows: Rows,
     instructions: &mut [u32],
     log: &mut [u8],
     strings: &mut [u8],
@@ -49,10 +48,9 @@ fn load_from(
     scratch: &mut [u8; SCRATCH],
     spare: &mut [u8; SPARE],
 ) -> Ended
-    requires indexed { Indexed g.now index.now }
     requires in_bounds { (20 ≤ length s.now) × (length s.now ≤ 67108864) }
     requires in_bounds_2 { (2048 ≤ length hints.old) × Blank hints.old }
-    ensures loads_from { LoadsFrom g.now s.now
+    ensures loads_from { LoadsFrom rows.entry.bytes.now s.now
         (lent instructions.old log.old strings.old types.old)
         (lent instructions.new log.new strings.new types.new) result }
     ensures instructions_bound { result.progress.instructions < 67108864 }
@@ -73,7 +71,7 @@ fn load_from(
         breaks: 0,
     };
     while 4 <= s.len() - p.at {
-        let read = decode(s, g, index, types, hints, scratch, spare, p);
+        let read = decode(s, rows, types, hints, scratch, spare, p);
         match admit(layout, types, hints, room, p, read) {
             Err(x) => return Ended {
                 progress: p,
@@ -87,7 +85,7 @@ fn load_from(
                     tag,
                     state,
                 };
-                keep_operands(s, g, index, log, strings, types, hints, scratch, spare, t);
+                keep_operands(s, rows, log, strings, types, hints, scratch, spare, t);
                 p = keep_record(instructions, types, hints, t);
             }
         }
@@ -104,12 +102,11 @@ fn load_from(
     }
 }
 
-// A load by the bytes of a grammar and its index, with everything lent that it works with.
+// A load by the rows of a grammar, with everything lent that it works with.
 fn load_with(
     layout: &Layout,
     s: &[u8],
-    g: &[u8],
-    index: &[u16],
+    rows: Rows,
     instructions: &mut [u32],
     log: &mut [u8],
     strings: &mut [u8],
@@ -118,9 +115,8 @@ fn load_with(
     scratch: &mut [u8; SCRATCH],
     spare: &mut [u8; SPARE],
 ) -> Loaded
-    requires indexed { Indexed g.now index.now }
-    requires in_bounds { (2048 ≤ length hints.old) × Blank hints.old }
-    ensures { LoadsWith g.now s.now
+    requires { (2048 ≤ length hints.old) × Blank hints.old }
+    ensures { LoadsWith rows.entry.bytes.now s.now
         (lent instructions.old log.old strings.old types.old)
         (lent instructions.new log.new strings.new types.new) result }
 {
@@ -134,8 +130,7 @@ fn load_with(
     let ended = load_from(
         layout,
         s,
-        g,
-        index,
+        rows,
         instructions,
         log,
         strings,
@@ -159,16 +154,14 @@ fn load_with(
 #[inline(never)]
 fn load_sized<const SIZE: usize>(
     s: &[u8],
-    g: &[u8],
-    index: &[u16],
+    rows: Rows,
     instructions: &mut [u32],
     log: &mut [u8],
     strings: &mut [u8],
     types: &mut [u32],
 ) -> Loaded
-    requires size_bound { (2048 ≤ SIZE) × (SIZE ≤ 32768) }
-    requires indexed { Indexed g.now index.now }
-    ensures { LoadsWith g.now s.now
+    requires { (2048 ≤ SIZE) × (SIZE ≤ 32768) }
+    ensures { LoadsWith rows.entry.bytes.now s.now
         (lent instructions.old log.old strings.old types.old)
         (lent instructions.new log.new strings.new types.new) result }
 {
@@ -180,8 +173,7 @@ fn load_sized<const SIZE: usize>(
     load_with(
         &layout,
         s,
-        g,
-        index,
+        rows,
         instructions,
         log,
         strings,
@@ -195,20 +187,18 @@ fn load_sized<const SIZE: usize>(
 // A load by the length of the module: for a short one, a long table of hints would take more time to clear than it saves.
 pub fn load_indexed(
     s: &[u8],
-    g: &[u8],
-    index: &[u16],
+    rows: Rows,
     instructions: &mut [u32],
     log: &mut [u8],
     strings: &mut [u8],
     types: &mut [u32],
 ) -> Loaded
-    requires { Indexed g.now index.now }
-    ensures { LoadsWith g.now s.now
+    ensures { LoadsWith rows.entry.bytes.now s.now
         (lent instructions.old log.old strings.old types.old)
         (lent instructions.new log.new strings.new types.new) result }
 {
     if s.len() <= SHORT {
-        return load_sized::<FEW_HINTS>(s, g, index, instructions, log, strings, types);
+        return load_sized::<FEW_HINTS>(s, rows, instructions, log, strings, types);
     }
-    load_sized::<HINTS>(s, g, index, instructions, log, strings, types)
+    load_sized::<HINTS>(s, rows, instructions, log, strings, types)
 }

@@ -25,29 +25,45 @@ fn wide_byte(x: u8) -> usize
     x as usize
 }
 
-// The place in the run of the one name that can be that of a number in a set.
-fn place_of(index: &[u16], set: u8, number: u32) -> usize
-    requires { length index.now ≡ 3069 }
-    ensures { (result ≡ place_in index.now set number) × (result < 65536) }
-{
-    let shift = index[set as usize] as usize;
-    index[SETS + (shift + number as usize) % SLOTS] as usize
+// The names in one run of bytes, and an index of it.
+#[derive(Clone, Copy)]
+pub struct Names<'a> {
+    pub run: &'a [u8],
+    pub index: &'a [u16],
+    ghost indexed: { Indexed run.now index.now },
 }
 
-// Where the text of a number in a set stands: there can be one place alone, and what stands there is tested before it is believed.
-pub fn find(run: &[u8], index: &[u16], set: u8, number: u32) -> Option<(usize, usize)>
-    requires { Indexed run.now index.now }
-    ensures result_value { text_found run.now result ≡ name_of set number }
-    ensures inside { Inside result (length run.now) }
-{
-    let at = place_of(index, set, number);
-    let there = words::word_at(run, at + 1);
-    if run[at] == set {
-        if there == number {
-            let start = at + 6;
-            let end = start + wide_byte(run[at + 5]);
-            return Some((start, end));
-        }
+impl<'a> Names<'a> {
+    // The names of a run and its index.
+    pub fn new(run: &'a [u8], index: &'a [u16]) -> Names<'a>
+        requires { Indexed run.now index.now }
+        ensures { (result.run.now ≡ run.now) × (result.index.now ≡ index.now) }
+    {
+        Names { run, index }
     }
-    None
+
+    // The place in the run of the one name that can be that of a number in a set.
+    fn place_of(self, set: u8, number: u32) -> usize
+        ensures { (result ≡ place_in self.entry.index.now set number) × (result < 65536) }
+    {
+        let shift = self.index[set as usize] as usize;
+        self.index[SETS + (shift + number as usize) % SLOTS] as usize
+    }
+
+    // Where the text of a number in a set stands: there can be one place alone, and what stands there is tested before it is believed.
+    pub fn find(self, set: u8, number: u32) -> Option<(usize, usize)>
+        ensures result_value { text_found self.entry.run.now result ≡ name_of set number }
+        ensures inside { Inside result (length self.entry.run.now) }
+    {
+        let at = self.place_of(set, number);
+        let there = words::word_at(self.run, at + 1);
+        if self.run[at] == set {
+            if there == number {
+                let start = at + 6;
+                let end = start + wide_byte(self.run[at + 5]);
+                return Some((start, end));
+            }
+        }
+        None
+    }
 }

@@ -23,7 +23,7 @@ use Rattle.grammar.specs.Find.{Sure, place_found, row_found, row_good}
 use Rattle.tracker.specs.Track.{literal_of, Literals}
 use Rattle.used.specs.declared.used.Used.{Used}
 use Rattle.used.specs.declared.used.Frame.{Frame}
-use Rattle.used.specs.Parse.{word_is, Notes, first_of, second_of, notes_of, note_as, note, notes, no_notes, left_of, slots_at, RowRead, Walks}
+use Rattle.used.specs.Parse.{Notes, first_of, second_of, notes_of, note_as, note, notes, no_notes, left_of, slots_at, RowRead, Walks}
 use Rattle.parser.specs.Inst.{Ended, Decodes, DecodesOver, ShapeIs, RowIs}
 use Rattle.untyped.specs.Body.{Framed, start_of, row_read, body_read}
 use Rattle.untyped.proofs.Carried.{row_good_lem}
@@ -132,8 +132,8 @@ module _ (g : List ℕ) (types : List Entry) (s : List ℕ) (f : Frame) where
             words = sym k.words;
             moves = omega (arith, h, k.words);
             opcode = sym k.opcode;
-            rtype = sym (ap word_is k.rtype ∙ d.walked.rtype);
-            rid = sym (ap word_is k.rid ∙ d.walked.rid);
+            rtype = sym (k.rtype ∙ d.walked.rtype);
+            rid = sym (k.rid ∙ d.walked.rid);
             operands = used_count n _ d.walked.noted ∙ sym k.operands;
             few = omega (arith, to, d.few.operands, k.operands);
             literals = rw (k.first, k.second) (used_literals n _ d.walked.noted);

@@ -9,7 +9,7 @@ use Rattle.grammar.specs.Find.{row_good}
 use Rattle.decoder.specs.declared.Decoder.{Decoder}
 use Rattle.decoder.specs.Answer.{limit_reached}
 use Rattle.tracker.specs.Track.{FirstFit, literal_of, Literals}
-use Rattle.used.specs.Parse.{word_is, first_of, second_of, slots_at}
+use Rattle.used.specs.Parse.{first_of, second_of, slots_at}
 use Rattle.untyped.specs.Body.{body_read}
 use Rattle.used.specs.declared.used.Used.{Used}
 use Rattle.used.specs.declared.used.Frame.{Frame}
@@ -26,8 +26,8 @@ pub record Handed (s : List ℕ) (at : ℕ) (x : Read Instr) (log₀ strs₀ log
   pub words : instr.words ≡ r.words
   pub moves : 1 ≤ r.words
   pub opcode : instr.opcode ≡ r.opcode
-  pub rtype : instr.result_type ≡ word_is r.rtype
-  pub rid : instr.result_id ≡ word_is r.rid
+  pub rtype : instr.result_type ≡ r.rtype
+  pub rid : instr.result_id ≡ r.rid
   pub operands : length instr.operands ≡ r.operands
   pub few : 4 * r.operands ≤ at + 4 * r.words
   pub literals : Literals instr.operands (literal_of r.first) (literal_of r.second)

@@ -3,7 +3,6 @@ ghost use Rattle.std.specs.Prelude.{◌≡◌, ◌*◌, ◌≤◌, length};
 ghost use Rattle.spec.specs.Reader.{refusal, reader_at};
 ghost use Rattle.spec.specs.Grammar.{grammar_of, row_of};
 ghost use Rattle.spec.specs.Match.{read_instr};
-ghost use Rattle.grammar.specs.Index.{Indexed};
 ghost use Rattle.grammar.specs.Find.{place_found, row_found};
 ghost use Rattle.tracker.specs.Entries.{entries_of};
 ghost use Rattle.tracker.specs.Hints.{Hinted};
@@ -13,21 +12,22 @@ ghost use Rattle.untyped.specs.Body.{Framed, body_read};
 
 use crate::rows::parse_operands;
 use decoder::Decoder;
+use grammar::Rows;
 use operand::Parts;
 use simple::simple_operands;
 use spec::{Refusal, refusals};
 use tracker::TypeTracker;
 use used::{Frame, Used};
 
-// An instruction that was read: its opcode and word count, where its row's operands start, its results as `Used` has them, how many
+// An instruction that was read: its opcode and word count, where its row's operands start, its results, how many
 // operands, the first two, where log and strings go on after its records, and the lowest offset that breaks it, or 0.
 #[derive(Clone, Copy)]
 pub struct Decoded {
     pub opcode: u16,
     pub words: u16,
     pub place: usize,
-    pub rtype: u64,
-    pub rid: u64,
+    pub rtype: Option<u32>,
+    pub rid: Option<u32>,
     pub operands: usize,
     pub first: Parts,
     pub second: Parts,
@@ -79,8 +79,7 @@ fn finished(frame: Frame, e: Decoder, u: Used) -> Result<Decoded, Refusal>
 // An instruction after its first word: the operands of its row, then 7 where words are left over.
 pub fn parse_body(
     s: &[u8],
-    g: &[u8],
-    index: &[u16],
+    rows: Rows,
     types: &[u32],
     hints: &[u16],
     tracker: TypeTracker,
@@ -89,16 +88,13 @@ pub fn parse_body(
     strings: &mut [u8],
     used: Used,
 ) -> Result<Decoded, Refusal>
-    requires indexed { Indexed g.now index.now }
-    requires framed { Framed s.now g.now frame × Fresh frame.at used }
+    requires framed { Framed s.now rows.bytes.now frame × Fresh frame.at used }
     requires count_in_bounds { 3 * tracker.count ≤ length types.now }
     requires hinted { Hinted tracker types.now hints.now }
-    ensures decodes { Decodes s.now frame.at (body_read g.now (entries_of tracker.count types.now) s.now frame) log.old strings.old log.new strings.new used result }
+    ensures decodes { Decodes s.now frame.at (body_read rows.entry.bytes.now (entries_of tracker.count types.now) s.now frame) log.old strings.old log.new strings.new used result }
     ensures shape_is { ShapeIs frame result }
 {
-    let parsed = parse_operands(
-        s, g, index, types, hints, tracker, frame, log, strings, used,
-    );
+    let parsed = parse_operands(s, rows, types, hints, tracker, frame, log, strings, used);
     match parsed {
         Ok((u, e)) => finished(frame, e, u),
         Err((x, _)) => Err(x),
@@ -106,14 +102,13 @@ pub fn parse_body(
 }
 
 // Where the operands of an opcode's row start: where the guess says, else by a search.
-fn row_of(g: &[u8], index: &[u16], opcode: u16) -> Option<usize>
-    requires { Indexed g.now index.now }
-    ensures result_value { row_found g.now result ≡ row_of opcode (grammar_of g.now).rows }
-    ensures result_in_bounds { place_found result ≤ length g.now }
+fn row_of(rows: Rows, opcode: u16) -> Option<usize>
+    ensures result_value { row_found rows.entry.bytes.now result ≡ row_of opcode (grammar_of rows.entry.bytes.now).rows }
+    ensures result_in_bounds { place_found result ≤ length rows.entry.bytes.now }
 {
-    match grammar::guess_row(g, index, opcode) {
+    match rows.guess_row(opcode) {
         Some(place) => Some(place),
-        None => grammar::find_row(g, index, opcode),
+        None => rows.find_row(opcode),
     }
 }
 
@@ -122,8 +117,7 @@ fn row_of(g: &[u8], index: &[u16], opcode: u16) -> Option<usize>
 pub fn parse_inst(
     s: &[u8],
     at: usize,
-    g: &[u8],
-    index: &[u16],
+    rows: Rows,
     types: &[u32],
     hints: &[u16],
     tracker: TypeTracker,
@@ -131,12 +125,11 @@ pub fn parse_inst(
     strings: &mut [u8],
     used: Used,
 ) -> Result<Decoded, Refusal>
-    requires indexed { Indexed g.now index.now }
     requires s_len_bound { (length s.now ≤ 67108864) × (at ≤ length s.now) × Fresh at used }
     requires count_in_bounds { 3 * tracker.count ≤ length types.now }
     requires hinted { Hinted tracker types.now hints.now }
-    ensures decodes_over { DecodesOver s.now at (read_instr (grammar_of g.now) (entries_of tracker.count types.now) (reader_at s.now at None)) log.new strings.new used result }
-    ensures row_is { RowIs g.now (entries_of tracker.count types.now) s.now at (read_instr (grammar_of g.now) (entries_of tracker.count types.now) (reader_at s.now at None)) result }
+    ensures decodes_over { DecodesOver s.now at (read_instr (grammar_of rows.entry.bytes.now) (entries_of tracker.count types.now) (reader_at s.now at None)) log.new strings.new used result }
+    ensures row_is { RowIs rows.entry.bytes.now (entries_of tracker.count types.now) s.now at (read_instr (grammar_of rows.entry.bytes.now) (entries_of tracker.count types.now) (reader_at s.now at None)) result }
 {
     let start = Decoder {
         offset: at,
@@ -150,7 +143,7 @@ pub fn parse_inst(
             if words == 0 {
                 return no_inst(refusals::NO_WORDS, at, 0);
             }
-            let Some(place) = row_of(g, index, opcode) else {
+            let Some(place) = row_of(rows, opcode) else {
                 return no_inst(refusals::OPCODE_UNKNOWN, at, opcode as u32);
             };
             let frame = Frame {
@@ -159,23 +152,20 @@ pub fn parse_inst(
                 opcode,
                 place,
             };
-            let simple = simple_operands(
-                s, g, index, types, hints, tracker, frame, log, strings, used,
-            );
+            let simple = simple_operands(s, rows, types, hints, tracker, frame, log, strings, used);
             if let Some((u, e)) = simple {
                 return finished(frame, e, u);
             }
             // Copies, which the call is handed: so the short walk's own need not lie in memory.
             let module = s;
-            let rows = g;
-            let places = index;
+            let grammar = rows;
             let entries = types;
             let guesses = hints;
             let known = tracker;
             let whole = frame;
             let from = used;
             parse_body(
-                module, rows, places, entries, guesses, known, whole, log, strings, from,
+                module, grammar, entries, guesses, known, whole, log, strings, from,
             )
         }
     }

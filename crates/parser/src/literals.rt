@@ -1,10 +1,10 @@
 // Literals of a kind, read.
 ghost use Rattle.std.specs.Prelude.{◌≡◌, true};
 ghost use Rattle.decoder.specs.Answer.{reader_of};
-ghost use Rattle.grammar.specs.Index.{Indexed};
-ghost use Rattle.used.specs.Parse.{Few, Parses, kind_is, is_literal, literal_alone, pair_alone};
+ghost use Rattle.used.specs.Parse.{Few, Parses, is_literal, literal_alone, pair_alone};
 
 use decoder::{Answer, Decoder};
+use grammar::Rows;
 use spec::{kinds, refusals};
 use untyped::read_one;
 use used::{Used, push, refused};
@@ -13,42 +13,38 @@ use used::{Used, push, refused};
 pub fn parse_literal(
     d: Decoder,
     s: &[u8],
-    g: &[u8],
-    index: &[u16],
-    literal: u8,
+    rows: Rows,
+    literal: Option<u8>,
     log: &mut [u8],
     strings: &mut [u8],
     u: Used,
 ) -> Answer<Used>
-    requires indexed { Indexed g.now index.now }
-    requires few { Few s.now d u × (is_literal literal ≡ true) }
-    ensures { Parses s.now d 4 (literal_alone (kind_is literal) (reader_of s.now d)) log.old strings.old log.new strings.new u result }
+    requires { Few s.now d u × (is_literal literal ≡ true) }
+    ensures { Parses s.now d 4 (literal_alone literal (reader_of s.now d)) log.old strings.old log.new strings.new u result }
 {
-    if literal == 0 {
+    let Some(kind) = literal else {
         return refused(refusals::WIDTH_UNSUPPORTED, d.offset, d);
-    }
-    if (literal == kinds::INT64) | (literal == kinds::FLOAT64) {
+    };
+    if (kind == kinds::INT64) | (kind == kinds::FLOAT64) {
         let (v, e) = d.int64(s)?;
-        return Ok((push(log, literal, v, u), e));
+        return Ok((push(log, kind, v, u), e));
     }
-    read_one(d, s, g, index, literal, log, strings, u)
+    read_one(d, s, rows, kind, log, strings, u)
 }
 
 // A literal of a kind, then an id.
 pub fn parse_literal_pair(
     d: Decoder,
     s: &[u8],
-    g: &[u8],
-    index: &[u16],
-    literal: u8,
+    rows: Rows,
+    literal: Option<u8>,
     log: &mut [u8],
     strings: &mut [u8],
     u: Used,
 ) -> Answer<Used>
-    requires indexed { Indexed g.now index.now }
-    requires few { Few s.now d u × (is_literal literal ≡ true) }
-    ensures { Parses s.now d 4 (pair_alone (kind_is literal) (reader_of s.now d)) log.old strings.old log.new strings.new u result }
+    requires { Few s.now d u × (is_literal literal ≡ true) }
+    ensures { Parses s.now d 4 (pair_alone literal (reader_of s.now d)) log.old strings.old log.new strings.new u result }
 {
-    let (n, e) = parse_literal(d, s, g, index, literal, log, strings, u)?;
-    read_one(e, s, g, index, kinds::ID_REF, log, strings, n)
+    let (n, e) = parse_literal(d, s, rows, literal, log, strings, u)?;
+    read_one(e, s, rows, kinds::ID_REF, log, strings, n)
 }

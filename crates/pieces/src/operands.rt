@@ -2,13 +2,13 @@
 ghost use Rattle.std.specs.Prelude.{◌≡◌, true, false, ◌<◌, get_or};
 ghost use Rattle.spec.specs.Words.{bits_of};
 ghost use Rattle.spec.specs.Disassembly.{byte_text, string_text, name_text, names_in, set_of_kind, barred, narrow_text, operand_text, spaced};
-ghost use Rattle.lookup.specs.Run.{Indexed};
 ghost use Rattle.operand.specs.Parts.{is_two};
 ghost use Rattle.records.specs.Good.{Whole, operand_at};
 ghost use Rattle.spelled.specs.Spelled.{Readable, AllReadable, operand_after, operands_from};
 ghost use Rattle.pieces.specs.Putting.{Room, Wrote, bit_text, has_bits};
 
 use crate::pieces::{put_byte, put_bytes, put_hex, put_id, put_number};
+use lookup::Names;
 use operand::is_two;
 use spec::kinds;
 
@@ -45,30 +45,20 @@ fn put_string(out: &mut [u8], start: usize, s: &[u8], keep: bool) -> usize
 // NAMES
 
 // The name of a number in a set.
-pub fn put_name(
-    run: &[u8],
-    index: &[u16],
-    set: u8,
-    number: u32,
-    out: &mut [u8],
-    at: usize,
-    keep: bool,
-) -> usize
-    requires indexed { Indexed run.now index.now }
-    requires room { Room keep out.old at (name_text set number) }
+pub fn put_name(names: Names, set: u8, number: u32, out: &mut [u8], at: usize, keep: bool) -> usize
+    requires { Room keep out.old at (name_text set number) }
     ensures { Wrote keep out.old at (name_text set number) result out.new }
 {
-    let found = lookup::find(run, index, set, number);
+    let found = names.find(set, number);
     let Some((start, end)) = found else {
         return at;
     };
-    put_bytes(out, at, &run[start..end], keep)
+    put_bytes(out, at, &names.run[start..end], keep)
 }
 
 // A bit's name, where it is set, with a bar before it where there is one before.
 fn put_bit(
-    run: &[u8],
-    index: &[u16],
+    names: Names,
     kind: u8,
     set: u32,
     bit: u32,
@@ -77,8 +67,7 @@ fn put_bit(
     at: usize,
     keep: bool,
 ) -> usize
-    requires indexed { Indexed run.now index.now }
-    requires room { Room keep out.old at (bit_text kind set bit bar) }
+    requires { Room keep out.old at (bit_text kind set bit bar) }
     ensures { Wrote keep out.old at (bit_text kind set bit bar) result out.new }
 {
     if set != 1 {
@@ -86,23 +75,14 @@ fn put_bit(
     }
     if bar {
         let next = put_byte(out, at, b'|', keep);
-        return put_name(run, index, kind, bit, out, next, keep);
+        return put_name(names, kind, bit, out, next, keep);
     }
-    put_name(run, index, kind, bit, out, at, keep)
+    put_name(names, kind, bit, out, at, keep)
 }
 
 // The names of a mask's bits that are set, lowest first.
-fn put_bits(
-    run: &[u8],
-    index: &[u16],
-    kind: u8,
-    mask: u32,
-    out: &mut [u8],
-    start: usize,
-    keep: bool,
-) -> usize
-    requires indexed { Indexed run.now index.now }
-    requires room { Room keep out.old start (barred kind (bits_of mask)) }
+fn put_bits(names: Names, kind: u8, mask: u32, out: &mut [u8], start: usize, keep: bool) -> usize
+    requires { Room keep out.old start (barred kind (bits_of mask)) }
     ensures { Wrote keep out.old start (barred kind (bits_of mask)) result out.new }
 {
     let mut rest = mask;
@@ -110,7 +90,7 @@ fn put_bits(
     let mut bar = false;
     let mut at = start;
     while rest != 0 {
-        at = put_bit(run, index, kind, rest % 2, bit as u32, bar, out, at, keep);
+        at = put_bit(names, kind, rest % 2, bit as u32, bar, out, at, keep);
         bar = bar | (rest % 2 == 1);
         rest = rest / 2;
         bit = 2 * bit;
@@ -136,39 +116,21 @@ pub fn has_bits(kind: u8, value: u32) -> bool
 }
 
 // An operand by name: a mask by its bits, any other by its value.
-fn put_named(
-    run: &[u8],
-    index: &[u16],
-    kind: u8,
-    value: u32,
-    out: &mut [u8],
-    at: usize,
-    keep: bool,
-) -> usize
-    requires indexed { Indexed run.now index.now }
-    requires room { Room keep out.old at (barred (set_of_kind kind) (names_in kind value)) }
+fn put_named(names: Names, kind: u8, value: u32, out: &mut [u8], at: usize, keep: bool) -> usize
+    requires { Room keep out.old at (barred (set_of_kind kind) (names_in kind value)) }
     ensures { Wrote keep out.old at (barred (set_of_kind kind) (names_in kind value)) result out.new }
 {
     if has_bits(kind, value) {
-        return put_bits(run, index, kind, value, out, at, keep);
+        return put_bits(names, kind, value, out, at, keep);
     }
-    put_name(run, index, set_of_kind(kind), value, out, at, keep)
+    put_name(names, set_of_kind(kind), value, out, at, keep)
 }
 
 // OPERANDS
 
 // An operand of one word.
-fn put_narrow(
-    run: &[u8],
-    index: &[u16],
-    kind: u8,
-    value: u32,
-    out: &mut [u8],
-    at: usize,
-    keep: bool,
-) -> usize
-    requires indexed { Indexed run.now index.now }
-    requires room { Room keep out.old at (narrow_text kind value) }
+fn put_narrow(names: Names, kind: u8, value: u32, out: &mut [u8], at: usize, keep: bool) -> usize
+    requires { Room keep out.old at (narrow_text kind value) }
     ensures { Wrote keep out.old at (narrow_text kind value) result out.new }
 {
     if (31 <= kind) & (kind <= 33) {
@@ -181,7 +143,7 @@ fn put_narrow(
         let next = put_bytes(out, at, b"0x", keep);
         return put_hex(out, next, 8, value as u64, keep);
     }
-    put_named(run, index, kind, value, out, at, keep)
+    put_named(names, kind, value, out, at, keep)
 }
 
 // The operand at a place of the log, where its kind has two words.
@@ -208,8 +170,7 @@ fn put_two(log: &[u8], strings: &[u8], a: usize, out: &mut [u8], at: usize, keep
 
 // The operand at a place of the log.
 fn put_operand(
-    run: &[u8],
-    index: &[u16],
+    names: Names,
     log: &[u8],
     strings: &[u8],
     a: usize,
@@ -217,7 +178,6 @@ fn put_operand(
     at: usize,
     keep: bool,
 ) -> usize
-    requires indexed { Indexed run.now index.now }
     requires readable { Readable log.now strings.now a }
     requires room { Room keep out.old at (operand_text (operand_at log.now strings.now a)) }
     ensures { Wrote keep out.old at (operand_text (operand_at log.now strings.now a)) result out.new }
@@ -225,15 +185,7 @@ fn put_operand(
     if is_two(log[a]) {
         return put_two(log, strings, a, out, at, keep);
     }
-    put_narrow(
-        run,
-        index,
-        log[a],
-        words::word_at(log, a + 1),
-        out,
-        at,
-        keep,
-    )
+    put_narrow(names, log[a], words::word_at(log, a + 1), out, at, keep)
 }
 
 // The place after the operand at a place of the log.
@@ -249,8 +201,7 @@ pub fn after(log: &[u8], a: usize) -> usize
 
 // So many operands from a place of the log on, a blank before each.
 pub fn put_operands(
-    run: &[u8],
-    index: &[u16],
+    names: Names,
     log: &[u8],
     strings: &[u8],
     first: usize,
@@ -259,7 +210,6 @@ pub fn put_operands(
     start: usize,
     keep: bool,
 ) -> usize
-    requires indexed { Indexed run.now index.now }
     requires all_readable { AllReadable count log.now strings.now first }
     requires room { Room keep out.old start (spaced (operands_from count log.now strings.now first)) }
     ensures { Wrote keep out.old start (spaced (operands_from count log.now strings.now first)) result out.new }
@@ -268,7 +218,7 @@ pub fn put_operands(
     let mut at = start;
     for _ in 0..count {
         let next = put_byte(out, at, b' ', keep);
-        at = put_operand(run, index, log, strings, a, out, next, keep);
+        at = put_operand(names, log, strings, a, out, next, keep);
         a = after(log, a);
     }
     at

@@ -17,11 +17,9 @@ use Rattle.grammar.specs.Find.{slots_then, parameters_then}
 use Rattle.reflect.specs.Column.{kind_table, layout_table}
 use Rattle.reflect.specs.declared.Layout.{Layout}
 use Rattle.tracker.specs.declared.TypeTracker.{TypeTracker}
-use Rattle.tracker.specs.Track.{id_is}
 use Rattle.used.specs.Parse.{kind_is}
 use Rattle.steps.specs.declared.parts.Progress.{Progress}
 use Rattle.steps.specs.Steps.{read_at, Stored}
-use Rattle.records.proofs.Good.{same_answer}
 use Rattle.words.proofs.word_at as word-at-call
 use Rattle.reflect.proofs.Layout.new as layout-new-call
 use Rattle.reflect.proofs.Layout.place as layout-place-call
@@ -50,7 +48,6 @@ use Rattle.used.proofs.unused as unused-call
 use Rattle.used.proofs.first_break as first-break-call
 use Rattle.used.proofs.refused as refused-call
 use Rattle.used.proofs.with_result as with-result-call
-use Rattle.used.proofs.id_of as id-of-call
 use Rattle.used.proofs.literal_for as literal-for-call
 use Rattle.untyped.proofs.next_place as next-place-call
 use Rattle.records.proofs.fields_at as fields-at-call
@@ -137,14 +134,6 @@ same_layout x y =
       cells_known =
           is_prop→PathP (λ i. c i ≡ layout_table) (λ i. Coded-set (coded_list (coded_list coded_ℕ)) (c i) layout_table) x.cells_known y.cells_known j;
     }
-
--- ids that may be missing
-same_id : (x y : Option ℕ) → id_is x ≡ id_is y → x ≡ y
-unfolding id_is
-same_id None None e = refl
-same_id None (Some j) e = let z : ◌≡◌ {A = ℕ} 0 1 = cc in absurd (omega arith)
-same_id (Some i) None e = let z : ◌≡◌ {A = ℕ} 0 1 = cc in absurd (omega arith)
-same_id (Some i) (Some j) e = cc
 
 -- no kind is one
 some_none : (k : ℕ) → ◌≡◌ {A = Option ℕ} (Some k) None → ⊥
@@ -279,10 +268,6 @@ refused = λ κs a x y after other ask p q. (both p q, refl)
 pub with_result : Determined with-result-call.Kinds.ps with-result-call.Kinds.r with-result-call.Reads.Asked with-result-call.Reads.Learnt
 with_result = λ κs a x y after other ask p q. (both p q, refl)
 
--- the id that a word is
-pub id_of : Determined id-of-call.Kinds.ps id-of-call.Kinds.r id-of-call.Reads.Asked id-of-call.Reads.Learnt
-id_of = λ κs a x y after other ask p q. (same_id x y (both p q), refl)
-
 -- the kind of a literal for an operand
 pub literal_for : Determined literal-for-call.Kinds.ps literal-for-call.Kinds.r literal-for-call.Reads.Asked literal-for-call.Reads.Learnt
 literal_for = λ κs a x y after other ask p q. (same_kind x y (both p.0 q.0), refl)
@@ -314,7 +299,7 @@ put_record = λ κs a x y after other ask p q. (refl, and (both p q) refl)
 
 -- the first record of a length that breaks the store layout, or none
 pub check_of : Determined check-of-call.Kinds.ps check-of-call.Kinds.r check-of-call.Reads.Asked check-of-call.Reads.Learnt
-check_of = λ κs a x y after other ask p q. (same_answer x y (both p q), refl)
+check_of = λ κs a x y after other ask p q. (both p q, refl)
 
 -- a record counted
 pub count : Determined count-call.Kinds.ps count-call.Kinds.r count-call.Reads.Asked count-call.Reads.Learnt
@@ -384,10 +369,10 @@ module_end = λ κs a x y after other ask p q. (both p q, refl)
 
 -- the instructions put into an output, as read and in module order
 pub put_read : Determined put-read-call.Kinds.ps put-read-call.Kinds.r put-read-call.Reads.Asked put-read-call.Reads.Learnt
-put_read = λ κs a x y after other ask p q. (refl, and refl (and refl (and refl (and refl (and (both p q) refl)))))
+put_read = λ κs a x y after other ask p q. (refl, and refl (and (both p q) refl))
 
 pub put_module : Determined put-module-call.Kinds.ps put-module-call.Kinds.r put-module-call.Reads.Asked put-module-call.Reads.Learnt
-put_module = λ κs a x y after other ask p q. (refl, and refl (and refl (and refl (and refl (and refl (and refl (and (both p q) refl)))))))
+put_module = λ κs a x y after other ask p q. (refl, and refl (and refl (and (both p q) refl)))
 
 -- the names as one run of bytes
 pub names_table : Determined names-table-call.Kinds.ps names-table-call.Kinds.r names-table-call.Reads.Asked names-table-call.Reads.Learnt
@@ -431,10 +416,10 @@ pub put_id : Determined put-id-call.Kinds.ps put-id-call.Kinds.r put-id-call.Rea
 put_id = λ κs a x y after other ask p q. (both p.place q.place, and (both p.stored q.stored) refl)
 
 pub put_name : Determined put-name-call.Kinds.ps put-name-call.Kinds.r put-name-call.Reads.Asked put-name-call.Reads.Learnt
-put_name = λ κs a x y after other ask p q. (both p.place q.place, and refl (and refl (and refl (and refl (and (both p.stored q.stored) refl)))))
+put_name = λ κs a x y after other ask p q. (both p.place q.place, and refl (and refl (and refl (and (both p.stored q.stored) refl))))
 
 pub put_operands : Determined put-operands-call.Kinds.ps put-operands-call.Kinds.r put-operands-call.Reads.Asked put-operands-call.Reads.Learnt
-put_operands = λ κs a x y after other ask p q. (both p.place q.place, and refl (and refl (and refl (and refl (and refl (and refl (and (both p.stored q.stored) refl)))))))
+put_operands = λ κs a x y after other ask p q. (both p.place q.place, and refl (and refl (and refl (and refl (and refl (and (both p.stored q.stored) refl))))))
 
 -- the place after an operand
 pub operand_after : Determined after-call.Kinds.ps after-call.Kinds.r after-call.Reads.Asked after-call.Reads.Learnt
@@ -453,7 +438,7 @@ set_of = λ κs a x y after other ask p q. (both p q, refl)
 
 -- an instruction's line
 pub put_line : Determined put-line-call.Kinds.ps put-line-call.Kinds.r put-line-call.Reads.Asked put-line-call.Reads.Learnt
-put_line = λ κs a x y after other ask p q. (both p.place q.place, and refl (and refl (and refl (and refl (and refl (and refl (and refl (and (both p.stored q.stored) refl))))))))
+put_line = λ κs a x y after other ask p q. (both p.place q.place, and refl (and refl (and refl (and refl (and refl (and refl (and (both p.stored q.stored) refl)))))))
 
 -- a module's listing, written into a buffer
 pub listing : Determined listing-call.Kinds.ps listing-call.Kinds.r listing-call.Reads.Asked listing-call.Reads.Learnt

@@ -5,14 +5,14 @@ use mathlib.Core.Path.{◌≡◌, refl, ap, ap₂, sym}
 use mathlib.Core.Bool.{Bool, true, false}
 use mathlib.Core.List.{List}
 use Rattle.spec.specs.Load.{Stores}
-use Rattle.records.proofs.Good.{same_answer}
 use Rattle.text.proofs.zero as zero-call
 use Rattle.text.proofs.is_ascii_text as is-ascii-text-call
 use Rattle.text.proofs.utf8 as utf8-call
 use Rattle.decoder.specs.contracts.Decoder as decoder-type
-use Rattle.decoder.specs.contracts.lent.WordGiven as word-given-type
-use Rattle.decoder.specs.contracts.lent.LongGiven as long-given-type
-use Rattle.decoder.specs.contracts.lent.TextGiven as text-given-type
+use Rattle.decoder.specs.contracts.Text as text-type
+use Rattle.spec.specs.contracts.Refusal as refusal-type
+use Rattle.std.specs.contracts.result.Result as result-type
+use denote.Builtin.{u32, u64}
 use Rattle.decoder.proofs.header as header-call
 use Rattle.decoder.proofs.Decoder.new as new-call
 use Rattle.decoder.proofs.Decoder.offset as offset-call
@@ -127,7 +127,7 @@ pub word_in : OfferedLent word-in-call.ended (λ M 𝓤. word-in-call.clauses)
 word_in =
     record {
       free = λ w κs a g m. tt;
-      one = λ w κs a g x y after other m n p q. both_lent w m n (word-given-type.the_row).coded (decoder-type.the_row).coded p q;
+      one = λ w κs a g x y after other m n p q. both_lent w m n (result-type.the_row u32 refusal-type.the_row).coded (decoder-type.the_row).coded p q;
     }
 
 -- a 64-bit literal, or the refusal: the answer, and the decoder that was lent
@@ -135,7 +135,7 @@ pub int64_in : OfferedLent int64-in-call.ended (λ M 𝓤. int64-in-call.clauses
 int64_in =
     record {
       free = λ w κs a g m. tt;
-      one = λ w κs a g x y after other m n p q. both_lent w m n (long-given-type.the_row).coded (decoder-type.the_row).coded p q;
+      one = λ w κs a g x y after other m n p q. both_lent w m n (result-type.the_row u64 refusal-type.the_row).coded (decoder-type.the_row).coded p q;
     }
 
 -- a string, or the refusal: the answer, and the decoder that was lent
@@ -143,7 +143,7 @@ pub string_in : OfferedLent string-in-call.ended (λ M 𝓤. string-in-call.clau
 string_in =
     record {
       free = λ w κs a g m. tt;
-      one = λ w κs a g x y after other m n p q. both_lent w m n (text-given-type.the_row).coded (decoder-type.the_row).coded p q;
+      one = λ w κs a g x y after other m n p q. both_lent w m n (result-type.the_row text-type.the_row refusal-type.the_row).coded (decoder-type.the_row).coded p q;
     }
 
 -- a word, a 64-bit literal and a string, or the refusal, by a decoder that is lent
@@ -205,7 +205,7 @@ builtin_table = record { free = λ κs a. tt; one = λ κs a x y after other p q
 
 -- the first record that breaks the store layout, or none
 pub check : Offered check-call.Kinds.ps check-call.Kinds.r check-call.Reads.Asked check-call.Reads.Learnt
-check = record { free = λ κs a. tt; one = λ κs a x y after other p q. (same_answer x y (both p q), refl) }
+check = record { free = λ κs a. tt; one = λ κs a x y after other p q. (both p q, refl) }
 
 -- LOADING AND WRITING
 

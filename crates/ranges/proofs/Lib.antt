@@ -1,3 +1,3 @@
-pub mod Ranges
+pub mod Sections
 pub mod Measure
 pub mod Offsets

@@ -24,7 +24,7 @@ use Rattle.spelled.specs.Placing.{full_stores, GoodStores, instrs_of, one_at, ta
 use Rattle.spelled.proofs.Stores.{At}
 use Rattle.spelled.proofs.Place.{length_bytes}
 use Rattle.spelled.proofs.Orders.{tagged_append, tagged_up, tagged_size, sections_from, sections_all, module_is}
-use Rattle.ranges.proofs.Ranges.{section_all}
+use Rattle.ranges.proofs.Sections.{section_all}
 
 -- how many bytes instructions take
 abbrev size : List Placed → ℕ

@@ -16,7 +16,7 @@ use Rattle.spec.specs.Kinds.{is_long}
 use Rattle.spec.specs.Records.{Placed, record_size, fields_at}
 use Rattle.spec.specs.Check.{Given, records_of, missing, fields_good, fields_fault, Left, records_in, scan_of, fault_of, check, checked_by, good, bad}
 use Rattle.operand.specs.Parts.{is_two}
-use Rattle.records.specs.Steps.{checked_is, left_at}
+use Rattle.records.specs.Steps.{left_at}
 use Rattle.records.specs.Good.{Good, operand_by, operand_at}
 use Rattle.spec.proofs.Faultless.{none_if, Faultless, no_faults, part_faultless, fields_told, Said, Scans, ends, says, scans}
 use Rattle.records.proofs.Operands.{has_true, Inside, left_inside, said_reach}
@@ -197,26 +197,18 @@ module _ (x : Given) (good_x : Good x) where
 
 -- WHAT THE CHECK SAYS
 
--- two answers that name the same fault are the same
-pub same_answer : (x y : Option ℕ) → checked_is x ≡ checked_is y → x ≡ y
-unfolding checked_is
-same_answer None None e = refl
-same_answer None (Some i) e = let z : ◌≡◌ {A = ℕ} 0 1 = cc in absurd (omega arith)
-same_answer (Some i) None e = let z : ◌≡◌ {A = ℕ} 0 1 = cc in absurd (omega arith)
-same_answer (Some i) (Some j) e = cc
-
 -- the answer that all is good
-pub check_is_good : (whole : Bool) (x : Given) (r : Option ℕ) → checked_is r ≡ fault_of record_size whole x → r ≡ None → check record_size whole x ≡ good (scan_of record_size x).instrs
-unfolding check checked_is
-check_is_good whole x r e q = ap (λ (o : Option ℕ). checked_by o (scan_of record_size x).instrs) (sym e ∙ ap checked_is q)
+pub check_is_good : (whole : Bool) (x : Given) (r : Option ℕ) → r ≡ fault_of record_size whole x → r ≡ None → check record_size whole x ≡ good (scan_of record_size x).instrs
+unfolding check
+check_is_good whole x r e q = ap (λ (o : Option ℕ). checked_by o (scan_of record_size x).instrs) (sym e ∙ q)
 
 -- the answer that a record is bad
-pub check_is_bad : (whole : Bool) (x : Given) (r : Option ℕ) (i : ℕ) → checked_is r ≡ fault_of record_size whole x → r ≡ Some i → check record_size whole x ≡ bad i
-unfolding check checked_is
-check_is_bad whole x r i e q = ap (λ (o : Option ℕ). checked_by o (scan_of record_size x).instrs) (sym e ∙ ap checked_is q)
+pub check_is_bad : (whole : Bool) (x : Given) (r : Option ℕ) (i : ℕ) → r ≡ fault_of record_size whole x → r ≡ Some i → check record_size whole x ≡ bad i
+unfolding check
+check_is_bad whole x r i e q = ap (λ (o : Option ℕ). checked_by o (scan_of record_size x).instrs) (sym e ∙ q)
 
 -- whatever the order, records that pass are good
-pub good_by : (whole : Bool) (x : Given) (r : Option ℕ) → checked_is r ≡ fault_of record_size whole x → r ≡ None → Good x
-unfolding Good checked_is
-good_by false x r e q = sym e ∙ ap checked_is q
-good_by true x r e q = part_faultless record_size x (sym e ∙ ap checked_is q)
+pub good_by : (whole : Bool) (x : Given) (r : Option ℕ) → r ≡ fault_of record_size whole x → r ≡ None → Good x
+unfolding Good
+good_by false x r e q = sym e ∙ q
+good_by true x r e q = part_faultless record_size x (sym e ∙ q)

@@ -19,7 +19,7 @@ use Rattle.spec.specs.Layout.{layout_of, end_number}
 use Rattle.spec.specs.Check.{lower, records_of, missing, fields_good, fields_fault, Left, take_record, on_record, scan_from, on_tag, tags_fault, fault_of}
 use Rattle.records.specs.declared.Asked.{Asked}
 use Rattle.records.specs.declared.Passed.{Passed}
-use Rattle.records.specs.Steps.{given, checked_is, end_answer, at_most, left_at, offset_after, operands_after, tag_by, tag_after, is_outside, missing_from, faults_from, fault_in}
+use Rattle.records.specs.Steps.{given, end_answer, at_most, left_at, offset_after, operands_after, tag_by, tag_after, is_outside, missing_from, faults_from, fault_in}
 use Rattle.records.proofs.Fields.{take_most}
 use Rattle.records.proofs.Operands.{has_yes, has_no, passes_none, record_passes}
 use Rattle.records.proofs.Lowest.{lowest_1, lowest_2, lowest_3, lowest_4, both_ends, missing_late, fields_late, scan_late, tags_late}
@@ -178,8 +178,8 @@ pub record Checking (q : Asked) (ws log strings : List ℕ) (i at a b : ℕ) (s 
   pub in_strings : b ≤ length strings
 
 -- the fault that the answer at the end names
-end_is : (t : Bool) (i : ℕ) → checked_is (end_answer t (i + 1)) ≡ (if t then None else Some (suc i))
-unfolding checked_is end_answer
+end_is : (t : Bool) (i : ℕ) → end_answer t (i + 1) ≡ (if t then None else Some (suc i))
+unfolding end_answer
 end_is true i = refl
 end_is false i = ap Some (add-one i)
 
@@ -203,12 +203,11 @@ module _ {q : Asked} {ws log strings : List ℕ} {i at a b : ℕ} {s : State} (s
     (r : Checking q ws log strings i at a b s) where
   -- an answer that names the record
   bad_here : faults_from q (suc i) (q.count - i) at (left_at log strings a b) s (records_of q.size (q.count - i) (drop (q.size * i) ws)) ≡ Some (suc i)
-      → checked_is (Some (i + 1)) ≡ fault_in q ws log strings
-  unfolding checked_is
+      → Some (i + 1) ≡ fault_in q ws log strings
   bad_here e = ap Some (add-one i) ∙ sym (r.fault ∙ e)
 
   -- a record that does not lie wholly in the store
-  pub check_missing : i < q.count → length ws / q.size ≤ i → checked_is (Some (i + 1)) ≡ fault_in q ws log strings
+  pub check_missing : i < q.count → length ws / q.size ≤ i → Some (i + 1) ≡ fault_in q ws log strings
   check_missing h g =
       let n : q.count - i ≡ suc (q.count - (i + 1)) = omega arith in
       bad_here
@@ -229,16 +228,16 @@ module _ {q : Asked} {ws log strings : List ℕ} {i at a b : ℕ} {s : State} (s
         ∙ ap (λ (n : ℕ). faults_from q (suc i) n at (left_at log strings a b) s (f ∷ records_of q.size (q.count - (i + 1)) (drop (q.size * (i + 1)) ws))) n
 
     -- its fields are bad
-    pub check_fields : (x : Option ℕ) → x ≡ offset_after at f → x ≡ None → checked_is (Some (i + 1)) ≡ fault_in q ws log strings
+    pub check_fields : (x : Option ℕ) → x ≡ offset_after at f → x ≡ None → Some (i + 1) ≡ fault_in q ws log strings
     check_fields x c d = bad_here (first ∙ faults_fields q log strings (suc i) at a b s f _ (q.count - (i + 1)) x c d)
 
     -- its operands are bad
     pub check_operands : (x : Option Passed) → x ≡ operands_after f (left_at log strings a b) → x ≡ None
-        → checked_is (Some (i + 1)) ≡ fault_in q ws log strings
+        → Some (i + 1) ≡ fault_in q ws log strings
     check_operands x c d = bad_here (first ∙ faults_operands q log strings (suc i) at a b s f _ (q.count - (i + 1)) x c d)
 
     -- its tag is bad
-    pub check_tag : (x : Option State) → x ≡ tag_after s f → x ≡ None → checked_is (Some (i + 1)) ≡ fault_in q ws log strings
+    pub check_tag : (x : Option State) → x ≡ tag_after s f → x ≡ None → Some (i + 1) ≡ fault_in q ws log strings
     check_tag x c d = bad_here (first ∙ faults_tag q log strings (suc i) at a b s f _ (q.count - (i + 1)) x c d)
 
     -- it is good
@@ -277,13 +276,13 @@ module _ {q : Asked} {ws log strings : List ℕ} {i at a b : ℕ} {s : State} (s
         ∙ ap (λ (x : Bool). if eqb a q.log && eqb b q.strings && (not q.whole || x) then None else Some (suc i)) (sym e))
 
     -- the answer
-    pub check_ends : (x : Option ℕ) → x ≡ end_answer ended (i + 1) → checked_is x ≡ fault_in q ws log strings
-    check_ends x c = ap checked_is c ∙ end_is ended i ∙ ends
+    pub check_ends : (x : Option ℕ) → x ≡ end_answer ended (i + 1) → x ≡ fault_in q ws log strings
+    check_ends x c = c ∙ end_is ended i ∙ ends
 
 -- log and strings up to their counts
 pub check_whole : (q : Asked) (ws log strings : List ℕ) (le se : ℕ) → le ≡ at_most q.log (length log) → se ≡ at_most q.strings (length strings)
-    → (x : Option ℕ) → checked_is x ≡ fault_in q ws (take le log) (take se strings)
-    → checked_is x ≡ fault_of q.size q.whole (given ws log strings q.count q.log q.strings)
+    → (x : Option ℕ) → x ≡ fault_in q ws (take le log) (take se strings)
+    → x ≡ fault_of q.size q.whole (given ws log strings q.count q.log q.strings)
 unfolding fault_of fault_in faults_from missing_from missing left_at
 check_whole q ws log strings le se c d x e =
     let a : take le log ≡ take q.log log = ap (λ (n : ℕ). take n log) c ∙ take_most q.log log in

@@ -26,11 +26,6 @@ given instructions log strings count log_count string_count =
       string_count = string_count;
     }
 
--- the fault that an answer of the check names
-unfoldable pub checked_is : Option ℕ → Option ℕ
-checked_is None = None
-checked_is (Some i) = Some i
-
 -- the answer at the end: good, or bad at an index
 unfoldable pub end_answer : Bool → ℕ → Option ℕ
 end_answer true i = None

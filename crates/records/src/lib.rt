@@ -7,7 +7,7 @@ ghost use Rattle.std.proofs.lemmas.List.Edits.{sets};
 ghost use Rattle.spec.specs.Records.{field_size, field_words, fields_at, record_size, record_words};
 ghost use Rattle.text.specs.AsciiText.{is_ascii_text};
 ghost use Rattle.spec.specs.Check.{take_operand, take_operands, fault_of};
-ghost use Rattle.records.specs.Steps.{given, checked_is, end_answer, left_at, fields_hold, offset_after, result_words, is_string, text_passed, passed_one, passed_all, operands_after, tag_after, is_outside, at_most, fault_in};
+ghost use Rattle.records.specs.Steps.{given, end_answer, left_at, fields_hold, offset_after, result_words, is_string, text_passed, passed_one, passed_all, operands_after, tag_after, is_outside, at_most, fault_in};
 ghost use Rattle.records.specs.Good.{numbers_at, Whole, Logged};
 
 use operand::{Parts, is_two};
@@ -337,7 +337,7 @@ fn first_fault<const ASCII: bool>(
 ) -> Option<usize>
     requires field_size_le_size { field_size ≤ asked.size }
     requires strings_value { ASCII ≡ true → is_ascii_text strings.now ≡ true }
-    ensures { checked_is result ≡ fault_in asked instructions.now log.now strings.now }
+    ensures { result ≡ fault_in asked instructions.now log.now strings.now }
 {
     let there = instructions.len() / asked.size;
     let mut at = 20;
@@ -387,7 +387,7 @@ pub fn check_of(
     string_count: usize,
 ) -> Option<usize>
     requires { field_size ≤ size }
-    ensures { checked_is result ≡ fault_of size whole (given instructions.now log.now strings.now count log_count string_count) }
+    ensures { result ≡ fault_of size whole (given instructions.now log.now strings.now count log_count string_count) }
 {
     let log_end = log_count.min(log.len());
     let strings_end = string_count.min(strings.len());
@@ -417,7 +417,7 @@ pub fn check(
     log_count: usize,
     string_count: usize,
 ) -> Option<usize>
-    ensures { checked_is result ≡ fault_of record_size whole (given instructions.now log.now strings.now count log_count string_count) }
+    ensures { result ≡ fault_of record_size whole (given instructions.now log.now strings.now count log_count string_count) }
 {
     check_of(
         RECORD,

@@ -18,7 +18,7 @@ use Rattle.decoder.specs.declared.Decoder.{Decoder}
 use Rattle.decoder.specs.Answer.{reader_of, word_from, limit_reached}
 use Rattle.used.specs.declared.used.Used.{Used}
 use Rattle.used.specs.declared.used.Frame.{Frame}
-use Rattle.used.specs.Parse.{word_is, left_of, Went, Few, Parses, kind_is, literal_for, kind_alone, slots_at, SlotWalks}
+use Rattle.used.specs.Parse.{left_of, Went, Few, Parses, literal_for, kind_alone, slots_at, SlotWalks}
 use Rattle.used.specs.Fresh.{with_result}
 use Rattle.untyped.specs.Body.{Framed, start_of}
 use Rattle.simple.specs.Simple.{There, IfTaken}
@@ -33,15 +33,15 @@ use Rattle.std.specs.Prelude.{Ok, Option}
 pub no_result : (k : ℕ) → (k ≡ 46 → ⊥) → (k ≡ 47 → ⊥) → is_result k ≡ false
 no_result k x y = fails (is_result k) (λ e. omega (arith, in_range 46 k 47 e, x, y))
 
-module _ (s : List ℕ) (g : Grammar) (j l : ℕ) (d : Decoder) (log strs : List ℕ) (u : Used) (t : Bool) (p : t ≡ is_result j) (types : List Entry)
-    (f : kind_is l ≡ literal_for types u j) where
+module _ (s : List ℕ) (g : Grammar) (j : ℕ) (l : Option ℕ) (d : Decoder) (log strs : List ℕ) (u : Used) (t : Bool) (p : t ≡ is_result j) (types : List Entry)
+    (f : l ≡ literal_for types u j) where
   -- a result
-  pub reads_result : t ≡ true → Few s d u → (v : ℕ) (e : Decoder) → Ok (v, e) ≡ word_from s d → (i : ℕ) → word_is i ≡ Some v → (n : Used) → n ≡ with_result j i u
+  pub reads_result : t ≡ true → Few s d u → (v : ℕ) (e : Decoder) → Ok (v, e) ≡ word_from s d → (n : Used) → n ≡ with_result j v u
       → IfTaken (SlotWalks s d j (λ x. read_slot g types x j (reader_of s d)) log strs log strs u) (Some (n, e))
-  reads_result q m v e h i o n z = take _ e n (walks_result s g j l d log strs u t p types f q m v e h i o n z)
+  reads_result q m v e h n z = take _ e n (walks_result s g j l d log strs u t p types f q m v e h n z)
 
   -- any other operand, by its read
-  pub reads_as : t ≡ false → (log₁ strs₁ : List ℕ) (v : Option (Used × Decoder)) (y : Read (List Operand)) → kind_alone g (kind_is l) j (reader_of s d) ≡ y
+  pub reads_as : t ≡ false → (log₁ strs₁ : List ℕ) (v : Option (Used × Decoder)) (y : Read (List Operand)) → kind_alone g l j (reader_of s d) ≡ y
       → IfTaken (Parses s d 4 y log strs log₁ strs₁ u) v → IfTaken (SlotWalks s d j (λ x. read_slot g types x j (reader_of s d)) log strs log₁ strs₁ u) v
   reads_as q log₁ strs₁ v y e h = take_so _ _ (λ a. walks_as s g j l d log strs u t p types f q log₁ strs₁ a y e) v h
 

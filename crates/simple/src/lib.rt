@@ -8,19 +8,19 @@ ghost use Rattle.spec.specs.Records.{Entry};
 ghost use Rattle.spec.specs.Grammar.{Grammar, grammar_of};
 ghost use Rattle.spec.specs.Match.{read_each, read_operand, read_slot};
 ghost use Rattle.decoder.specs.Answer.{reader_of, word_from};
-ghost use Rattle.grammar.specs.Index.{Indexed};
 ghost use Rattle.tracker.specs.Entries.{entries_of};
 ghost use Rattle.tracker.specs.Hints.{Hinted};
-ghost use Rattle.used.specs.Parse.{Few, Parses, Walks, SlotWalks, left_of, is_word, kind_is, literal_alone};
+ghost use Rattle.used.specs.Parse.{Few, Parses, Walks, SlotWalks, left_of, is_word, literal_alone};
 ghost use Rattle.used.specs.Fresh.{Fresh};
 ghost use Rattle.untyped.specs.Body.{Framed, start_of, row_read};
 ghost use Rattle.simple.specs.Simple.{There, IfTaken};
 
 use decoder::{Answer, Decoder};
+use grammar::Rows;
 use spec::kinds;
 use tracker::TypeTracker;
 use untyped::{next_place, parse_parameters};
-use used::{Frame, Used, id_of, literal_kind, push, push_text, there, with_result};
+use used::{Frame, Used, literal_kind, push, push_text, with_result};
 
 // A word, and the decoder after it.
 #[derive(Clone, Copy)]
@@ -82,8 +82,7 @@ fn simple_result(d: Decoder, s: &[u8], kind: u8, u: Used) -> Option<(Used, Decod
     ensures { (g : Grammar) (types : List Entry) (l t : List ℕ) → IfTaken (SlotWalks s.now d kind (λ x. read_slot g types x kind (reader_of s.now d)) l t l t u) result }
 {
     let x = next_word(d, s);
-    let e = x.after;
-    Some((with_result(u, kind, there(x.word)), e))
+    Some((with_result(u, kind, x.word), x.after))
 }
 
 // One record of a word.
@@ -93,9 +92,7 @@ fn simple_word(d: Decoder, s: &[u8], kind: u8, log: &mut [u8], u: Used) -> Optio
     ensures { (g : Grammar) (t : List ℕ) → IfTaken (Parses s.now d 4 (read_each g (kind ∷ []) (reader_of s.now d)) log.old t log.new t u) result }
 {
     let x = next_word(d, s);
-    let e = x.after;
-    let n = push(log, kind, x.word as u64, u);
-    Some((n, e))
+    Some((push(log, kind, x.word as u64, u), x.after))
 }
 
 // A string.
@@ -121,16 +118,17 @@ fn simple_text(
 fn simple_literal(
     d: Decoder,
     s: &[u8],
-    literal: u8,
+    literal: Option<u8>,
     log: &mut [u8],
     u: Used,
 ) -> Option<(Used, Decoder)>
     requires few { Few s.now d u }
     requires there { There s.now d }
-    ensures { (t : List ℕ) → IfTaken (Parses s.now d 4 (literal_alone (kind_is literal) (reader_of s.now d)) log.old t log.new t u) result }
+    ensures { (t : List ℕ) → IfTaken (Parses s.now d 4 (literal_alone literal (reader_of s.now d)) log.old t log.new t u) result }
 {
-    if (literal == kinds::INT32) | (literal == kinds::FLOAT32) {
-        return simple_word(d, s, literal, log, u);
+    let kind = literal?;
+    if (kind == kinds::INT32) | (kind == kinds::FLOAT32) {
+        return simple_word(d, s, kind, log, u);
     }
     None
 }
@@ -139,17 +137,15 @@ fn simple_literal(
 fn simple_value(
     d: Decoder,
     s: &[u8],
-    g: &[u8],
-    index: &[u16],
+    rows: Rows,
     kind: u8,
     log: &mut [u8],
     strings: &mut [u8],
     u: Used,
 ) -> Option<(Used, Decoder)>
-    requires indexed { Indexed g.now index.now }
     requires few { Few s.now d u × (is_enum kind ≡ true) }
     requires there { There s.now d }
-    ensures { IfTaken (Parses s.now d 4 (read_operand (grammar_of g.now) kind (reader_of s.now d)) log.old strings.old log.new strings.new u) result }
+    ensures { IfTaken (Parses s.now d 4 (read_operand (grammar_of rows.entry.bytes.now) kind (reader_of s.now d)) log.old strings.old log.new strings.new u) result }
 {
     let w = next_word(d, s);
     let value = w.word;
@@ -160,13 +156,13 @@ fn simple_value(
         }
         return Some((push(log, kind, 0, u), e));
     }
-    let place = grammar::guess_enumerant(g, index, kind, value)?;
+    let place = rows.guess_enumerant(kind, value)?;
     let n = push(log, kind, value as u64, u);
-    let Some(_) = grammar::parameter_at(g, place) else {
+    let Some(_) = grammar::parameter_at(rows.bytes, place) else {
         return Some((n, e));
     };
     taken(
-        parse_parameters(e, s, g, index, place, log, strings, n),
+        parse_parameters(e, s, rows, place, log, strings, n),
         u.breaks,
     )
 }
@@ -176,8 +172,7 @@ fn simple_value(
 fn simple_slot(
     d: Decoder,
     s: &[u8],
-    g: &[u8],
-    index: &[u16],
+    rows: Rows,
     types: &[u32],
     hints: &[u16],
     tracker: TypeTracker,
@@ -186,12 +181,11 @@ fn simple_slot(
     strings: &mut [u8],
     u: Used,
 ) -> Option<(Used, Decoder)>
-    requires indexed { Indexed g.now index.now }
     requires few { Few s.now d u }
     requires there { There s.now d }
     requires count_in_bounds { 3 * tracker.count ≤ length types.now }
     requires hinted { Hinted tracker types.now hints.now }
-    ensures { IfTaken (SlotWalks s.now d kind (λ x. read_slot (grammar_of g.now) (entries_of tracker.count types.now) x kind (reader_of s.now d)) log.old strings.old log.new strings.new u) result }
+    ensures { IfTaken (SlotWalks s.now d kind (λ x. read_slot (grammar_of rows.entry.bytes.now) (entries_of tracker.count types.now) x kind (reader_of s.now d)) log.old strings.old log.new strings.new u) result }
 {
     if kind == kinds::RESULT_TYPE {
         return simple_result(d, s, kind, u);
@@ -203,14 +197,13 @@ fn simple_slot(
         return simple_word(d, s, kind, log, u);
     }
     if grammar::is_enum(kind) {
-        return simple_value(d, s, g, index, kind, log, strings, u);
+        return simple_value(d, s, rows, kind, log, strings, u);
     }
     if kind == kinds::STRING {
         return simple_text(d, s, log, strings, u);
     }
     if kind == kinds::TYPED_LITERAL {
-        let id = id_of(u.rtype);
-        let literal = literal_kind(tracker.resolve(types, hints, id));
+        let literal = literal_kind(tracker.resolve(types, hints, u.rtype));
         return simple_literal(d, s, literal, log, u);
     }
     None
@@ -219,8 +212,7 @@ fn simple_slot(
 // The operands of an instruction by its row, up to its end, where all are simple.
 pub fn simple_operands(
     s: &[u8],
-    g: &[u8],
-    index: &[u16],
+    rows: Rows,
     types: &[u32],
     hints: &[u16],
     tracker: TypeTracker,
@@ -229,11 +221,10 @@ pub fn simple_operands(
     strings: &mut [u8],
     used: Used,
 ) -> Option<(Used, Decoder)>
-    requires indexed { Indexed g.now index.now }
-    requires framed { Framed s.now g.now frame × Fresh frame.at used }
+    requires framed { Framed s.now rows.bytes.now frame × Fresh frame.at used }
     requires count_in_bounds { 3 * tracker.count ≤ length types.now }
     requires hinted { Hinted tracker types.now hints.now }
-    ensures { IfTaken (Walks s.now (start_of frame) 0 (row_read g.now (entries_of tracker.count types.now) s.now (start_of frame) frame.place) log.old strings.old log.new strings.new used) result }
+    ensures { IfTaken (Walks s.now (start_of frame) 0 (row_read rows.entry.bytes.now (entries_of tracker.count types.now) s.now (start_of frame) frame.place) log.old strings.old log.new strings.new used) result }
 {
     let mut d = Decoder {
         offset: frame.at + 4,
@@ -244,14 +235,14 @@ pub fn simple_operands(
     }
     let mut u = used;
     let mut p = frame.place;
-    while let Some((k, q)) = grammar::slot_at(g, p) {
+    while let Some((k, q)) = grammar::slot_at(rows.bytes, p) {
         if d.limit_reached() {
             if q == 0 {
                 return None;
             }
             return Some((u, d));
         }
-        let (n, e) = simple_slot(d, s, g, index, types, hints, tracker, k, log, strings, u)?;
+        let (n, e) = simple_slot(d, s, rows, types, hints, tracker, k, log, strings, u)?;
         d = e;
         u = n;
         p = next_place(p, q);

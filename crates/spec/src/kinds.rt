@@ -1,4 +1,5 @@
-// The operand kinds that code names. 1 to 45 are the arms of `Operand`, in its order; those from 46 on stand in grammars alone.
+// The operand kinds that code names. 1 to 45 are the arms of `Operand`, in its order; those from 46 on stand in grammars alone. Numbers,
+// and no enum: the log, which C reads and writes, and grammars hold them as bytes, and any byte may stand there.
 
 pub const ID_REF: u8 = 33;
 

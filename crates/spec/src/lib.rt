@@ -14,7 +14,8 @@ pub struct Refusal {
     pub value: u32,
 }
 
-// The five header words, and a refusal's number and place; the words are 0 where the number is not.
+// The five header words, and a refusal's number and place; the words are 0 where the number is not. No Result: the definition of a load and
+// the theorems on how it begins (crates/demands, `ModuleRun`) take the words of a header that is refused, too.
 #[derive(Clone, Copy)]
 pub struct HeaderRead {
     pub refusal: Refusal,
@@ -60,6 +61,8 @@ pub struct Counts {
     pub strings: usize,
     pub types: usize,
 }
+
+// The answers, each with its number beside its values, and no Result: the calls for C lay them into words so.
 
 // What a load answers: the number (0 accepted), its byte offset, its instruction index, its value; the header words; the counts; whether
 // the module is plain, and the lowest byte offset that breaks it, or 0.

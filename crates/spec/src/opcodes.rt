@@ -1,4 +1,5 @@
-// The opcodes that code outside the layout table names: those of types that are tracked, and those whose rows have rules of their own.
+// The opcodes that code outside the layout table names: those of types that are tracked, and those whose rows have rules of their own. Numbers,
+// and no enum: a module and a grammar may have any.
 
 pub const EXT_INST: u16 = 12;
 

@@ -1,4 +1,5 @@
-// The refusal numbers, by name. 15 and 17 to 23 stand in the layout table alone, each beside its cell.
+// The refusal numbers, by name. 15 and 17 to 23 stand in the layout table alone, each beside its cell. Numbers, and no enum: C is answered
+// them as they are, and the definitions and theorems speak of them.
 
 pub const ACCEPTED: u32 = 0;
 

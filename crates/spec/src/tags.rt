@@ -1,4 +1,5 @@
-// The section tags that code names, as they stand in the records.
+// The section tags that code names, as they stand in the records. Numbers, and no enum: C reads and writes them as words, and any word may
+// stand there.
 
 pub const EXT_INST_IMPORT: u32 = 3;
 

@@ -1,4 +1,5 @@
 -- Instructions placed in an output: the ranges that their tags stand in, the room they need, and what was written.
+use Rattle.std.specs.Coded.{Coded-set, coded_ℕ, coded_option}
 use Rattle.std.specs.Prelude.{ℕ, ◌+◌, ◌<◌, ◌≤◌, ◌≡◌, Bool, true, false, ◌||◌, List, [], ◌∷◌, ◌++◌, leb, eqb, length, take, drop, get_or, if◌then◌else◌}
 use Rattle.std.proofs.lemmas.List.Edits.{sets}
 use Rattle.spec.specs.Base.{joined, only}
@@ -16,6 +17,11 @@ full_stores instructions log strings count = given instructions log strings coun
 -- they are good
 unfoldable pub GoodStores : List ℕ → List ℕ → List ℕ → ℕ → Type 0
 GoodStores instructions log strings count = Good (full_stores instructions log strings count)
+
+-- in one way alone
+pub good_stores_prop : (instructions log strings : List ℕ) (count : ℕ) → IsProp (GoodStores instructions log strings count)
+unfolding GoodStores Good
+good_stores_prop instructions log strings count = Coded-set (coded_option coded_ℕ) _ _
 
 -- the instructions that they say
 unfoldable pub instrs_of : List ℕ → List ℕ → List ℕ → ℕ → List Placed

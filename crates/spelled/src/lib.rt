@@ -10,6 +10,7 @@ ghost use Rattle.operand.specs.Parts.{is_two};
 ghost use Rattle.records.specs.Good.{operand_at};
 ghost use Rattle.records.specs.Steps.{word_if, result_words};
 ghost use Rattle.spelled.specs.Spelled.{Readable, operand_after, head_bytes, said_by, Sound};
+ghost use Rattle.spelled.specs.Placing.{GoodStores, good_stores_prop};
 
 use operand::is_two;
 use spec::{Fields, kinds};
@@ -125,4 +126,16 @@ pub fn put_instruction(log: &[u8], strings: &[u8], f: Fields, out: &mut [u8])
         a = next.log;
         at += next.out;
     }
+}
+
+// GOOD RECORDS
+
+// Records that passed the check, with the log and the strings that they name.
+#[derive(Clone, Copy)]
+pub struct Good<'a> {
+    pub instructions: &'a [u32],
+    pub log: &'a [u8],
+    pub strings: &'a [u8],
+    pub count: usize,
+    pub ghost stores: { GoodStores instructions.now log.now strings.now count } by { good_stores_prop instructions.now log.now strings.now count },
 }

@@ -16,7 +16,6 @@ use Rattle.spec.specs.Base.{only}
 use Rattle.spec.specs.Records.{Placed, record_size, fields_at}
 use Rattle.spec.specs.Check.{Given, good, check, fault_of, placed_of, scan_of}
 use Rattle.spec.specs.Write.{has_tag, never_falls, parameters_first, bodies, declarations_first, is_standing, standing}
-use Rattle.records.specs.Steps.{checked_is}
 use Rattle.records.specs.Good.{Good}
 use Rattle.records.proofs.Good.{good_by, good_at, good_length, check_is_good, check_is_bad}
 use Rattle.standing.specs.declared.Order.{Order}
@@ -106,13 +105,13 @@ unfolding standing
 stands_by_lem x is e b h = rw (e, h)
 
 -- where the check finds a fault
-pub stands_bad : (x : Given) (r : Option ℕ) (i : ℕ) → checked_is r ≡ fault_of record_size true x → r ≡ Some i
+pub stands_bad : (x : Given) (r : Option ℕ) (i : ℕ) → r ≡ fault_of record_size true x → r ≡ Some i
     → record { number = 30; index = i; yes = false } ≡ standing x
 unfolding standing
 stands_bad x r i e q = rw (check_is_bad true x r i e q)
 
 -- before the first record
-pub pass_starts : (x : Given) (r : Option ℕ) → checked_is r ≡ fault_of record_size true x → r ≡ None
+pub pass_starts : (x : Given) (r : Option ℕ) → r ≡ fault_of record_size true x → r ≡ None
     → Passing x (record { before = 0; label = false; model = false; body = false }) 0
 unfolding is_standing stands_after
 pass_starts x r e q =

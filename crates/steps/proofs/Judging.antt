@@ -26,20 +26,20 @@ use Rattle.demands.proofs.Formed.{GrammarGood, well_formed_good}
 use Rattle.demands.proofs.Instructions.{Frames, instr_read}
 use Rattle.grammar.specs.Index.{Indexed}
 use Rattle.tracker.specs.Entries.{entries_of}
-use Rattle.tracker.specs.Track.{id_is, told_of, told_with}
+use Rattle.tracker.specs.Track.{told_of, told_with}
 use Rattle.tracker.proofs.Laws.{length_entries}
 use Rattle.tracker.proofs.Growth.{Grown, track_grows}
 use Rattle.tracker.proofs.Instruction.{track_as}
 use Rattle.parser.specs.declared.inst.Decoded.{Decoded}
 use Rattle.used.specs.declared.used.Used.{Used}
 use Rattle.parser.specs.Inst.{Decodes, DecodesOver, RowIs}
-use Rattle.used.specs.Parse.{word_is}
 use Rattle.used.specs.Fresh.{unused}
 use Rattle.steps.specs.declared.parts.Progress.{Progress}
 use Rattle.steps.specs.declared.parts.Taken.{Taken}
 use Rattle.steps.specs.Steps.{used_by, read_at, Moderate, Fair, tracked, Tells, need_of, fields_by, Shown, Shows, taken, judged_by, judged}
 use Rattle.spec.specs.Layout.{Cell}
-use Rattle.std.specs.Prelude.{Err, None, Ok, Option, Result}
+use Rattle.std.specs.Prelude.{Err, None, Ok, Option, Result, Some}
+use Rattle.std.specs.Option.{unwrap_or}
 
 -- an instruction with its tag
 abbrev pub placed_as : Instr → ℕ → Placed
@@ -166,15 +166,19 @@ module _ (room : Counts) (p : Progress) (d : Decoded) where
         le-ltb room.types (length (tracked d es)) (omega (arith, grown.most, length_entries p.tracker.count l)),
       )
 
--- what is told of it, by its results
-pub tells : (d : Decoded) (a b : Option ℕ) → Moderate d → id_is a ≡ word_is d.rtype → id_is b ≡ word_is d.rid
-    → Tells d (record { opcode = d.opcode; rtype = a; rid = b; operands = d.operands; first = d.first; second = d.second })
+-- what is told of it
+pub tells : (d : Decoded) → Moderate d
+    → Tells d (record { opcode = d.opcode; rtype = d.rtype; rid = d.rid; operands = d.operands; first = d.first; second = d.second })
 unfolding tracked told_of told_with
-tells d a b m e f = record { tracks = λ es. rw (e, f); fits = m.fits }
+tells d m = record { tracks = λ es. refl; fits = m.fits }
 
--- the fields of its record, by its results
-pub fields_by_lem : (p : Progress) (d : Decoded) (tag bits t i : ℕ) (a b : Option ℕ) → id_is a ≡ word_is d.rtype → id_is b ≡ word_is d.rid
-    → bits ≡ presence (id_is a) (id_is b) → t ≡ or_zero (id_is a) → i ≡ or_zero (id_is b)
+-- a word that may be missing, or zero
+word_or_zero : (o : Option ℕ) → unwrap_or o 0 ≡ or_zero o
+word_or_zero None = refl
+word_or_zero (Some n) = refl
+
+-- the fields of its record
+pub fields_by_lem : (p : Progress) (d : Decoded) (tag bits t i : ℕ) → bits ≡ presence d.rtype d.rid → t ≡ unwrap_or d.rtype 0 → i ≡ unwrap_or d.rid 0
     → ◌≡◌ {A = Fields}
     (record {
       head = d.opcode + 65536 * bits;
@@ -188,7 +192,7 @@ pub fields_by_lem : (p : Progress) (d : Decoded) (tag bits t i : ℕ) (a b : Opt
     })
     (fields_by p d tag)
 unfolding fields_by
-fields_by_lem p d tag bits t i a b e f g h k = rw (g, h, k, e, f)
+fields_by_lem p d tag bits t i g h k = rw (g, h ∙ word_or_zero d.rtype, k ∙ word_or_zero d.rid)
 
 -- THE VERDICT
 

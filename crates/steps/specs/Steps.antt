@@ -20,7 +20,6 @@ use Rattle.tracker.specs.declared.Told.{Told}
 use Rattle.tracker.specs.Track.{literal_of, track_of, told_of, FirstFit}
 use Rattle.parser.specs.declared.inst.Decoded.{Decoded}
 use Rattle.parser.specs.Inst.{Handed, Declined, ByRow}
-use Rattle.used.specs.Parse.{word_is}
 use Rattle.used.specs.Fresh.{unused}
 use Rattle.steps.specs.declared.parts.Progress.{Progress}
 use Rattle.steps.specs.declared.parts.Taken.{Taken}
@@ -84,7 +83,7 @@ Fair (Err y) = Unit
 
 -- the entries after it
 unfoldable pub tracked : Decoded → List Entry → List Entry
-tracked d es = track_of d.opcode (word_is d.rtype) (word_is d.rid) d.operands (literal_of d.first) (literal_of d.second) es
+tracked d es = track_of d.opcode d.rtype d.rid d.operands (literal_of d.first) (literal_of d.second) es
 
 -- what type tracking is told of it: the entries after that are the same
 pub record Tells (d : Decoded) (t : Told) : Type 0 where
@@ -99,11 +98,11 @@ need_of p d es = counts (p.instructions + 1) (p.log + d.log) (p.strings + d.stri
 unfoldable pub fields_by : Progress → Decoded → ℕ → Fields
 fields_by p d tag =
     record {
-      head = d.opcode + 65536 * presence (word_is d.rtype) (word_is d.rid);
+      head = d.opcode + 65536 * presence d.rtype d.rid;
       tag = tag;
       offset = p.at;
-      rtype = or_zero (word_is d.rtype);
-      rid = or_zero (word_is d.rid);
+      rtype = or_zero d.rtype;
+      rid = or_zero d.rid;
       start = p.log;
       count = d.operands;
       words = d.words;

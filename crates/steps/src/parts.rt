@@ -5,13 +5,11 @@ ghost use Rattle.spec.specs.Plain.{first_break, tail_break};
 ghost use Rattle.spec.specs.Records.{presence};
 ghost use Rattle.spec.specs.Layout.{end_number};
 ghost use Rattle.spec.specs.Load.{nothing};
-ghost use Rattle.tracker.specs.Track.{id_is};
 ghost use Rattle.steps.specs.Steps.{said_at, fields_by, Bounded, Moderate};
 
 use parser::Decoded;
 use spec::{Counts, Fields, Loaded, Numbers, Refusal, State, refusals};
 use tracker::TypeTracker;
-use used::id_of;
 
 // Where a load stands: the place of the next instruction, what is kept so far, the functions and blocks that have begun, the state of the
 // layout, and the first offset that breaks what is kept, or 0.
@@ -129,28 +127,9 @@ pub fn stopped(header: [u32; 5], e: Ended, size: usize) -> Loaded
 
 // "1 for a result type, 2 for a result id".
 fn presence_of(rtype: Option<u32>, rid: Option<u32>) -> u32
-    ensures { (result ≡ presence (id_is rtype) (id_is rid)) × (result ≤ 3) }
+    ensures { (result ≡ presence rtype rid) × (result ≤ 3) }
 {
-    match rtype {
-        None => match rid {
-            None => 0,
-            Some(_) => 2,
-        },
-        Some(_) => match rid {
-            None => 1,
-            Some(_) => 3,
-        },
-    }
-}
-
-// The word of an id, 0 where there is none.
-fn id_word(x: Option<u32>) -> u32
-    ensures { result ≡ or_zero (id_is x) }
-{
-    match x {
-        None => 0,
-        Some(i) => i,
-    }
+    u32::from(rtype.is_some()) + 2 * u32::from(rid.is_some())
 }
 
 // The fields of the record of an instruction that goes in.
@@ -158,17 +137,12 @@ pub fn fields_of(p: Progress, d: Decoded, tag: u8) -> Fields
     requires { Bounded p × Moderate d }
     ensures { result ≡ fields_by p d tag }
 {
-    let rtype = id_of(d.rtype);
-    let rid = id_of(d.rid);
-    let bits = presence_of(rtype, rid);
-    let rtype_word = id_word(rtype);
-    let rid_word = id_word(rid);
     Fields {
-        head: d.opcode as u32 + 65536 * bits,
+        head: d.opcode as u32 + 65536 * presence_of(d.rtype, d.rid),
         tag: tag as u32,
         offset: p.at as u32,
-        rtype: rtype_word,
-        rid: rid_word,
+        rtype: d.rtype.unwrap_or(0),
+        rid: d.rid.unwrap_or(0),
         start: p.log as u32,
         count: d.operands as u32,
         words: d.words as u32,

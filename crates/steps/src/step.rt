@@ -4,42 +4,40 @@ ghost use Rattle.std.proofs.lemmas.List.Edits.{sets};
 ghost use Rattle.spec.specs.Records.{record_size, entry_size};
 ghost use Rattle.spec.specs.Reader.{refusal};
 ghost use Rattle.spec.specs.Load.{room_fault};
-ghost use Rattle.grammar.specs.Index.{Indexed};
 ghost use Rattle.tracker.specs.Entries.{entries_of};
 ghost use Rattle.steps.specs.Steps.{Bounded, Typed, Moderate, Fair, Tells, need_of, judged, tracked, Shown, Shows, Stored, Recorded};
 
 use crate::parts::{Progress, Taken, fields_of};
+use grammar::Rows;
 use parser::{Decoded, parse_body, parse_inst};
 use records::RECORD;
 use reflect::Layout;
 use room::room_fault;
 use spec::{Cell, Counts, Refusal, State, refusals};
 use tracker::Told;
-use used::{Frame, id_of, unused};
+use used::{Frame, unused};
 
 // DECODING
 
 // The next instruction: its operands' records and strings go to scratch and spare, where they fit.
 pub fn decode(
     s: &[u8],
-    g: &[u8],
-    index: &[u16],
+    rows: Rows,
     types: &[u32],
     hints: &[u16],
     scratch: &mut [u8],
     spare: &mut [u8],
     p: Progress,
 ) -> Result<Decoded, Refusal>
-    requires indexed { Indexed g.now index.now }
     requires s_len_bound { (length s.now ≤ 67108864) × (p.at + 4 ≤ length s.now) }
     requires bounded { Bounded p × Typed types.now hints.now p }
-    ensures { Shows s.now g.now types.now scratch.new spare.new p result }
+    ensures { Shows s.now rows.entry.bytes.now types.now scratch.new spare.new p result }
 {
     let at = p.at;
     let base = p.strings;
     let tracker = p.tracker;
     let used = unused(0, 0, base, p.breaks);
-    parse_inst(s, at, g, index, types, hints, tracker, scratch, spare, used)
+    parse_inst(s, at, rows, types, hints, tracker, scratch, spare, used)
 }
 
 // What type tracking is told of a decoded instruction.
@@ -47,17 +45,13 @@ fn told_of(d: Decoded) -> Told
     requires { Moderate d }
     ensures { Tells d result }
 {
-    let rtype = id_of(d.rtype);
-    let rid = id_of(d.rid);
-    let first = d.first;
-    let second = d.second;
     Told {
         opcode: d.opcode,
-        rtype,
-        rid,
+        rtype: d.rtype,
+        rid: d.rid,
         operands: d.operands,
-        first,
-        second,
+        first: d.first,
+        second: d.second,
     }
 }
 
@@ -142,8 +136,7 @@ fn put_records(log: &mut [u8], at: usize, records: &[u8])
 // again.
 pub fn keep_operands(
     s: &[u8],
-    g: &[u8],
-    index: &[u16],
+    rows: Rows,
     log: &mut [u8],
     strings: &mut [u8],
     types: &[u32],
@@ -152,12 +145,11 @@ pub fn keep_operands(
     spare: &[u8],
     t: Taken,
 )
-    requires indexed { Indexed g.now index.now }
     requires s_len_bound { (length s.now ≤ 67108864) × (t.from.at + 4 ≤ length s.now) }
     requires bounded { Bounded t.from × Typed types.now hints.now t.from }
     requires log_in_bounds { (t.from.log + t.read.log ≤ length log.old) × (t.from.strings + t.read.strings ≤ length strings.old) }
-    requires shown { Shown s.now g.now types.now scratch.now spare.now t.from t.read }
-    ensures { Stored s.now g.now types.now log.old strings.old log.new strings.new t.from }
+    requires shown { Shown s.now rows.bytes.now types.now scratch.now spare.now t.from t.read }
+    ensures { Stored s.now rows.entry.bytes.now types.now log.old strings.old log.new strings.new t.from }
 {
     let p = t.from;
     let d = t.read;
@@ -175,8 +167,7 @@ pub fn keep_operands(
     }
     // Copies, which the call is handed: so what the way above has need not lie in memory.
     let module = s;
-    let rows = g;
-    let places = index;
+    let grammar = rows;
     let entries = types;
     let guesses = hints;
     let tracker = p.tracker;
@@ -189,7 +180,7 @@ pub fn keep_operands(
     let used = unused(log_to, strings_to, 0, 0);
     // It was read before, so the answer is known.
     let _ = parse_body(
-        module, rows, places, entries, guesses, tracker, frame, log, strings, used,
+        module, grammar, entries, guesses, tracker, frame, log, strings, used,
     );
 }
 

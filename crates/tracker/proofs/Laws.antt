@@ -15,7 +15,7 @@ use Rattle.spec.specs.Records.{Entry, entry, entry_words}
 use Rattle.spec.specs.Types.{entry_of, define}
 use Rattle.spec.specs.Load.{laid_over}
 use Rattle.spec.proofs.Store.{sets_rest}
-use Rattle.tracker.specs.declared.Resolved.TheVariants.{«Type», Unknown}
+use Rattle.tracker.specs.declared.Scalar.{Scalar}
 use Rattle.tracker.specs.Entries.{entries_of, stored, place_from, place_of, type_at, resolved_by}
 use Rattle.std.specs.Prelude.{None, Option, Some}
 
@@ -148,17 +148,21 @@ word_later a b c k j l =
     let e : suc (suc (suc (3 * k + j))) ≡ 3 * suc k + j = omega arith in
     ap (λ (m : ℕ). get_or (a ∷ b ∷ c ∷ l) m 0) e
 
+-- a width and a sort
+abbrev scalar : ℕ → ℕ → Scalar
+scalar w s = record { width = w; sort = s }
+
 -- the type of an id that is found
-pub entry_found : {i n k : ℕ} {l : List ℕ} → Sits i n k l → type_at l k ≡ resolved_by (entry_of i (entries_of n l))
+pub entry_found : {i n k : ℕ} {l : List ℕ} → Sits i n k l → Some (type_at l k) ≡ resolved_by (entry_of i (entries_of n l))
 unfolding resolved_by entry_of entries_of
 entry_found (here e m) = simp e
 entry_found (later {n} {k} {a} {b} {c} {l} e m) =
-    ap (λ (w : ℕ). «Type» w (get_or (a ∷ b ∷ c ∷ l) (3 * suc k + 2) 0)) (sym (word_later a b c k 1 l))
-    ∙ ap (λ (s : ℕ). «Type» (get_or l (3 * k + 1) 0) s) (sym (word_later a b c k 2 l))
+    ap (λ (w : ℕ). Some (scalar w (get_or (a ∷ b ∷ c ∷ l) (3 * suc k + 2) 0))) (sym (word_later a b c k 1 l))
+    ∙ ap (λ (s : ℕ). Some (scalar (get_or l (3 * k + 1) 0) s)) (sym (word_later a b c k 2 l))
     ∙ simp e (entry_found m)
 
 -- an id that is not found has none
-pub entry_missed : {i n : ℕ} {l : List ℕ} → Misses i n l → Unknown ≡ resolved_by (entry_of i (entries_of n l))
+pub entry_missed : {i n : ℕ} {l : List ℕ} → Misses i n l → None ≡ resolved_by (entry_of i (entries_of n l))
 unfolding resolved_by entry_of entries_of
 entry_missed nowhere = refl
 entry_missed (not_here e r) = simp e (entry_missed r)

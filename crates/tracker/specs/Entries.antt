@@ -5,8 +5,7 @@ use Rattle.spec.specs.Base.{joined}
 use Rattle.spec.specs.Records.{Entry, entry, entry_words}
 use Rattle.spec.specs.Match.{type_of}
 use Rattle.spec.specs.Load.{laid_over}
-use Rattle.tracker.specs.declared.Resolved.{Resolved}
-use Rattle.tracker.specs.declared.Resolved.TheVariants.{«Type», Unknown}
+use Rattle.tracker.specs.declared.Scalar.{Scalar}
 
 -- the first n entries of a type store
 unfoldable pub entries_of : ℕ → List ℕ → List Entry
@@ -27,14 +26,14 @@ unfoldable pub place_of : ℕ → List Entry → Option ℕ
 place_of i es = place_from 0 i es
 
 -- the type that the entry at an index says: its second and third word
-abbrev pub type_at : List ℕ → ℕ → Resolved
-type_at ws k = «Type» (get_or ws (3 * k + 1) 0) (get_or ws (3 * k + 2) 0)
+abbrev pub type_at : List ℕ → ℕ → Scalar
+type_at ws k = record { width = get_or ws (3 * k + 1) 0; sort = get_or ws (3 * k + 2) 0 }
 
 -- what a look-up says of an entry that is there or not
-unfoldable pub resolved_by : Option Entry → Resolved
-resolved_by (Some (entry id w s)) = «Type» w s
-resolved_by None = Unknown
+unfoldable pub resolved_by : Option Entry → Option Scalar
+resolved_by (Some (entry id w s)) = Some (record { width = w; sort = s })
+resolved_by None = None
 
 -- what a look-up says of an id that is there or not
-unfoldable pub known_of : Option ℕ → List Entry → Resolved
+unfoldable pub known_of : Option ℕ → List Entry → Option Scalar
 known_of i es = resolved_by (type_of i es)

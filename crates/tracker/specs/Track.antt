@@ -6,17 +6,11 @@ use Rattle.spec.specs.Records.{Entry}
 use Rattle.spec.specs.Types.{is_type, define, literal_int, define_int, define_float, track_value}
 use Rattle.operand.specs.declared.Parts.{Parts}
 use Rattle.operand.specs.Parts.{Fits}
-use Rattle.tracker.specs.declared.Resolved.{Resolved}
-use Rattle.tracker.specs.declared.Resolved.TheVariants.{«Type», Unknown}
+use Rattle.tracker.specs.declared.Scalar.{Scalar}
 use Rattle.tracker.specs.declared.Told.{Told}
 use Rattle.tracker.specs.declared.TypeTracker.{TypeTracker}
 use Rattle.tracker.specs.Entries.{stored}
 use Rattle.tracker.specs.Hints.{new_of, hints_with, greatest_with, Hinted}
-
--- the id that is there, or none
-unfoldable pub id_is : Option ℕ → Option ℕ
-id_is None = None
-id_is (Some i) = Some i
 
 -- the first two operands have a kind and a value of an operand, where they are there
 pub record FirstFit (count : ℕ) (a b : Parts) : Type 0 where
@@ -46,11 +40,11 @@ track_of op t (Some i) count a b es = if is_type op then type_of op i count a b 
 
 -- the entries after an instruction of which this is told, with a result id, or none, in place of its own
 unfoldable pub told_with : Told → Option ℕ → List Entry → List Entry
-told_with t i es = track_of t.opcode (id_is t.rtype) i t.operands (literal_of t.first) (literal_of t.second) es
+told_with t i es = track_of t.opcode t.rtype i t.operands (literal_of t.first) (literal_of t.second) es
 
 -- the entries after an instruction of which this is told
 unfoldable pub told_of : Told → List Entry → List Entry
-told_of t es = told_with t (id_is t.rid) es
+told_of t es = told_with t t.rid es
 
 -- the first two of some operands have these literal numbers, where they are there
 unfoldable pub Literals : List records.Operand → Option ℕ → Option ℕ → Type 0
@@ -59,9 +53,9 @@ Literals (x ∷ []) a b = literal_int x ≡ a
 Literals (x ∷ y ∷ os) a b = (literal_int x ≡ a) × (literal_int y ≡ b)
 
 -- the entries with the type of an id, where that is known
-unfoldable pub defined : ℕ → Resolved → List Entry → List Entry
-defined i («Type» w s) es = define i w s es
-defined i Unknown es = es
+unfoldable pub defined : ℕ → Option Scalar → List Entry → List Entry
+defined i (Some x) es = define i x.width x.sort es
+defined i None es = es
 
 -- a tracker and its stores after a change of the entries: they are stored, those that are new are hinted, and the hints are right
 pub record Tracked (t : TypeTracker) (types hints types₁ hints₁ : List ℕ) (es : List Entry) (r : TypeTracker) : Type 0 where

@@ -8,7 +8,7 @@ ghost use Rattle.spec.specs.Types.{define};
 ghost use Rattle.operand.specs.Parts.{Fits};
 ghost use Rattle.tracker.specs.Entries.{entries_of, type_at, known_of};
 ghost use Rattle.tracker.specs.Hints.{marks_for, greater_of, Hinted};
-ghost use Rattle.tracker.specs.Track.{id_is, literal_of, FirstFit, int_of, float_of, type_of, told_with, told_of, defined, Tracked};
+ghost use Rattle.tracker.specs.Track.{literal_of, FirstFit, int_of, float_of, type_of, told_with, told_of, defined, Tracked};
 
 mod index;
 
@@ -16,11 +16,11 @@ use index::{find, marks_for, note};
 use operand::{Operand, Parts, operand_of};
 use spec::opcodes;
 
-// What is known of an id: its width, and its sort: 1 unsigned, 2 signed, 3 float.
+// What is known of an id's type: its width, and its sort: 1 unsigned, 2 signed, 3 float.
 #[derive(Clone, Copy)]
-pub enum Resolved {
-    Type { width: u32, sort: u32 },
-    Unknown,
+pub struct Scalar {
+    pub width: u32,
+    pub sort: u32,
 }
 
 // What type tracking is told of an instruction: its opcode, its results, how many operands, and kind and value of the first two.
@@ -54,14 +54,14 @@ fn greater(a: u32, b: u32) -> u32
 }
 
 // The type that the entry at an index says.
-fn type_at(types: &[u32], index: usize) -> Resolved
+fn type_at(types: &[u32], index: usize) -> Scalar
     requires { 3 * index + 3 ≤ length types.now }
     ensures { result ≡ type_at types.now index }
 {
-    let at = 3 * index;
-    let width = types[at + 1];
-    let sort = types[at + 2];
-    Resolved::Type { width, sort }
+    Scalar {
+        width: types[3 * index + 1],
+        sort: types[3 * index + 2],
+    }
 }
 
 // An entry, stored at an index.
@@ -76,63 +76,58 @@ fn put_entry(types: &mut [u32], index: usize, id: u32, width: u32, sort: u32)
 }
 
 // OpTypeInt: "an operand record that is no LiteralInt32 sets no width".
-fn track_int(count: usize, first: Parts, second: Parts) -> Resolved
+fn track_int(count: usize, first: Parts, second: Parts) -> Option<Scalar>
     requires { FirstFit count first second }
     ensures { (id : ℕ) (es : List Entry) → defined id result es ≡ int_of id count (literal_of first) (literal_of second) es }
 {
     if count < 2 {
-        return Resolved::Unknown;
+        return None;
     }
-    let a = operand_of(first.kind, first.value);
-    let Operand::LiteralInt32(width) = a else {
-        return Resolved::Unknown;
+    let Operand::LiteralInt32(width) = operand_of(first.kind, first.value) else {
+        return None;
     };
-    let b = operand_of(second.kind, second.value);
-    let Operand::LiteralInt32(sign) = b else {
-        return Resolved::Unknown;
+    let Operand::LiteralInt32(sign) = operand_of(second.kind, second.value) else {
+        return None;
     };
     if sign == 1 {
-        return Resolved::Type { width, sort: 2 };
+        return Some(Scalar { width, sort: 2 });
     }
-    Resolved::Type { width, sort: 1 }
+    Some(Scalar { width, sort: 1 })
 }
 
 // OpTypeFloat: the same, with a width alone.
-fn track_float(count: usize, only: Parts) -> Resolved
+fn track_float(count: usize, only: Parts) -> Option<Scalar>
     requires { 1 ≤ count → Fits only.kind only.value }
     ensures { (id : ℕ) (es : List Entry) → defined id result es ≡ float_of id count (literal_of only) es }
 {
     if count < 1 {
-        return Resolved::Unknown;
+        return None;
     }
-    let o = operand_of(only.kind, only.value);
-    let Operand::LiteralInt32(width) = o else {
-        return Resolved::Unknown;
+    let Operand::LiteralInt32(width) = operand_of(only.kind, only.value) else {
+        return None;
     };
-    Resolved::Type { width, sort: 3 }
+    Some(Scalar { width, sort: 3 })
 }
 
 // A result that is a type: integers and floats alone are tracked.
-fn track_type(opcode: u16, count: usize, first: Parts, second: Parts) -> Resolved
+fn track_type(opcode: u16, count: usize, first: Parts, second: Parts) -> Option<Scalar>
     requires { FirstFit count first second }
     ensures { (id : ℕ) (es : List Entry) → defined id result es ≡ type_of opcode id count (literal_of first) (literal_of second) es }
 {
     match opcode {
         opcodes::TYPE_INT => track_int(count, first, second),
         opcodes::TYPE_FLOAT => track_float(count, first),
-        _ => Resolved::Unknown,
+        _ => None,
     }
 }
 
 // The type that the result of an instruction has, where it is tracked, by the type of its result type.
-fn typed(told: Told, known: Resolved) -> Resolved
+fn typed(told: Told, known: Option<Scalar>) -> Option<Scalar>
     requires { FirstFit told.operands told.first told.second }
-    ensures { (es : List Entry) → known ≡ known_of (id_is told.rtype) es → (id : ℕ) → defined id result es ≡ told_with told (Some id) es }
+    ensures { (es : List Entry) → known ≡ known_of told.rtype es → (id : ℕ) → defined id result es ≡ told_with told (Some id) es }
 {
     if reflect::is_type(told.opcode) {
-        let first = told.first;
-        let second = told.second;
-        return track_type(told.opcode, told.operands, first, second);
+        return track_type(told.opcode, told.operands, told.first, told.second);
     }
     known
 }
@@ -151,19 +146,13 @@ impl TypeTracker {
     }
 
     // The type of an id, where it is there and known.
-    pub fn resolve(self, types: &[u32], hints: &[u16], id: Option<u32>) -> Resolved
+    pub fn resolve(self, types: &[u32], hints: &[u16], id: Option<u32>) -> Option<Scalar>
         requires count_in_bounds { 3 * self.count ≤ length types.now }
         requires hinted { Hinted self types.now hints.now }
-        ensures { result ≡ known_of (id_is id) (entries_of self.count types.now) }
+        ensures { result ≡ known_of id (entries_of self.count types.now) }
     {
-        let Some(i) = id else {
-            return Resolved::Unknown;
-        };
-        let found = find(self, types, hints, i);
-        let Some(k) = found else {
-            return Resolved::Unknown;
-        };
-        type_at(types, k)
+        let index = find(self, types, hints, id?)?;
+        Some(type_at(types, index))
     }
 
     // How many entries there are after an instruction, before anything is stored.
@@ -173,22 +162,17 @@ impl TypeTracker {
         requires first_fit { FirstFit told.operands told.first told.second }
         ensures { result ≡ length (told_of told (entries_of self.count types.now)) }
     {
-        let entries = self.count;
-        let rid = told.rid;
-        let Some(id) = rid else {
-            return entries;
+        let Some(id) = told.rid else {
+            return self.count;
         };
-        let rtype = told.rtype;
-        let known = self.resolve(types, hints, rtype);
-        let typed = typed(told, known);
-        let Resolved::Type { width: _, sort: _ } = typed else {
-            return entries;
+        let known = self.resolve(types, hints, told.rtype);
+        let Some(_) = typed(told, known) else {
+            return self.count;
         };
-        let found = find(self, types, hints, id);
-        let Some(_) = found else {
-            return entries + 1;
+        let Some(_) = find(self, types, hints, id) else {
+            return self.count + 1;
         };
-        entries
+        self.count
     }
 
     // "The last definition of an id holds, in the same entry"; a new id's entry comes last.
@@ -205,8 +189,7 @@ impl TypeTracker {
         requires types_in_bounds { 3 * length (define id width sort (entries_of self.count types.old)) ≤ length types.old }
         ensures { Tracked self types.old hints.old types.new hints.new (define id width sort (entries_of self.count types.old)) result }
     {
-        let found = find(self, types, hints, id);
-        let Some(i) = found else {
+        let Some(i) = find(self, types, hints, id) else {
             put_entry(types, self.count, id, width, sort);
             note(hints, self.marks, id, self.count);
             self.greatest = greater(self.greatest, id);
@@ -224,16 +207,13 @@ impl TypeTracker {
         requires first_fit { FirstFit told.operands told.first told.second }
         ensures { Tracked self types.old hints.old types.new hints.new (told_of told (entries_of self.count types.old)) result }
     {
-        let rid = told.rid;
-        let Some(id) = rid else {
+        let Some(id) = told.rid else {
             return self;
         };
-        let rtype = told.rtype;
-        let known = self.resolve(types, hints, rtype);
-        let typed = typed(told, known);
-        let Resolved::Type { width, sort } = typed else {
+        let known = self.resolve(types, hints, told.rtype);
+        let Some(x) = typed(told, known) else {
             return self;
         };
-        self.define(types, hints, id, width, sort)
+        self.define(types, hints, id, x.width, x.sort)
     }
 }

@@ -9,6 +9,7 @@ use Rattle.spec.specs.Base.{implies, within}
 use Rattle.spec.specs.Kinds.{is_enum, is_result, may_be_operand, may_be_parameter, may_embed, is_logged, is_long, is_text}
 use Rattle.spec.proofs.Choice.{left, right, both, asked, other, cases, in_range}
 use Rattle.spec.proofs.Range.{all, below_at}
+use Rattle.std.specs.Prelude.{Option, Some}
 use Rattle.operand.specs.Parts.{is_two, Fits}
 use Rattle.used.specs.Parse.{is_single, is_word, is_untyped, is_inner, is_literal}
 
@@ -54,11 +55,9 @@ untyped_small k e = of_either (may_be_parameter k) (within 50 k 51) k 52 e (para
 long_small : (k : ℕ) → is_long k ≡ true → k < 52
 long_small k e = of_either (eqb k 36) (eqb k 38) k 52 e (of_number k 36 (omega arith)) (of_number k 38 (omega arith))
 
-literal_small : (k : ℕ) → is_literal k ≡ true → k < 52
+literal_small : (k : ℕ) → is_literal (Some k) ≡ true → k < 52
 unfolding is_literal
-literal_small k e =
-    of_either (eqb k 0 || eqb k 34) (within 36 k 38) k 52 e
-    (λ f. of_either (eqb k 0) (eqb k 34) k 52 f (of_number k 0 (omega arith)) (of_number k 34 (omega arith))) (of_range 36 k 38 (omega arith))
+literal_small k e = of_either (eqb k 34) (within 36 k 38) k 52 e (of_number k 34 (omega arith)) (of_range 36 k 38 (omega arith))
 
 -- COMPUTED
 
@@ -154,12 +153,12 @@ pub inner_untyped : (k : ℕ) (t : Bool) → t ≡ is_result k → t ≡ false �
 unfolding is_inner
 inner_untyped k t p q h = may_untyped k (left (may_be_operand k) (may_embed k) h) (sym p ∙ q) (right (may_be_operand k) (may_embed k) h)
 
--- a literal's kind that is neither none nor of two words is a word
-pub literal_word : (k : ℕ) → is_literal k ≡ true → (k ≡ 0 → ⊥) → is_long k ≡ false → is_word k ≡ true
+-- a literal's kind that is not of two words is a word
+pub literal_word : (o : Option ℕ) → is_literal o ≡ true → (k : ℕ) → o ≡ Some k → is_long k ≡ false → is_word k ≡ true
 unfolding is_literal is_word
-literal_word k e f g =
-    each (λ j. is_literal j && (not (eqb j 0) && not (is_long j))) is_word k refl (literal_small k e)
-    (both e (both (ap not (ne_eqb k 0 f)) (ap not g)))
+literal_word o e k q g =
+    let z : is_literal (Some k) ≡ true = ap is_literal (sym q) ∙ e in
+    each (λ j. is_literal (Some j) && not (is_long j)) is_word k refl (literal_small k z) (both z (ap not g))
 
 -- so is one of the two that are tested for
 pub tested_word : (k : ℕ) → (eqb k 34 || eqb k 37) ≡ true → is_word k ≡ true

@@ -4,7 +4,6 @@ use mathlib.Core.Path.{◌≡◌, refl, ap}
 use mathlib.Core.Bool.{true}
 use mathlib.Core.List.{List, [], ◌∷◌}
 use Rattle.std.specs.Prelude.{Option}
-use borrow.Author.Tests.{ne_eqb}
 use Rattle.spec.specs.declared.Refusal.{Refusal}
 use Rattle.spec.specs.Kinds.{is_long}
 use Rattle.spec.specs.Records.{Operand, narrow, wide}
@@ -14,37 +13,37 @@ use Rattle.spec.specs.Match.{read_one, read_each, read_literal_as}
 use Rattle.decoder.specs.declared.Decoder.{Decoder}
 use Rattle.decoder.specs.Answer.{reader_of, long_from}
 use Rattle.decoder.proofs.Laws.{long_got, long_refused}
-use Rattle.used.specs.Parse.{prefix, is_word, kind_is, literal_alone, pair_alone}
-use Rattle.untyped.proofs.KindLaws.{not_kind, word_short, word_no_enum, word_no_text}
-use Rattle.std.specs.Prelude.{Err, Ok}
+use Rattle.used.specs.Parse.{prefix, is_word, literal_alone, pair_alone}
+use Rattle.untyped.proofs.KindLaws.{word_short, word_no_enum, word_no_text}
+use Rattle.std.specs.Prelude.{Err, None, Ok, Some}
 
 -- THE READ
 
-module _ (s : List ℕ) (d : Decoder) (k : ℕ) where
+module _ (s : List ℕ) (d : Decoder) (o : Option ℕ) where
   -- a width that is not supported
-  pub literal_none : k ≡ 0 → literal_alone (kind_is k) (reader_of s d) ≡ refused (refusal 12 d.offset 0) (reader_of s d)
-  unfolding literal_alone kind_is read_literal_as reader_of reader_at
+  pub literal_none : o ≡ None → literal_alone o (reader_of s d) ≡ refused (refusal 12 d.offset 0) (reader_of s d)
+  unfolding literal_alone read_literal_as reader_of reader_at
   literal_none e = rw e
 
-  -- one word
-  pub literal_one : (g : Grammar) → is_word k ≡ true → literal_alone (kind_is k) (reader_of s d) ≡ read_each g (k ∷ []) (reader_of s d)
-  unfolding literal_alone kind_is read_literal_as read_each read_one is_word
-  literal_one g h = simp (ne_eqb k 0 (not_kind is_word k 0 h refl), word_short k h, word_no_enum k h, word_no_text k h)
+  module _ (k : ℕ) (q : o ≡ Some k) where
+    -- one word
+    pub literal_one : (g : Grammar) → is_word k ≡ true → literal_alone o (reader_of s d) ≡ read_each g (k ∷ []) (reader_of s d)
+    unfolding literal_alone read_literal_as read_each read_one is_word
+    literal_one g h = rw q (simp (word_short k h, word_no_enum k h, word_no_text k h))
 
-  module _ (l : is_long k ≡ true) where
-    literal_long : (y : Read ℕ) → read_long (reader_of s d) ≡ y
-        → literal_alone (kind_is k) (reader_of s d) ≡ after (after y (λ v. give (wide k v))) (λ x. give (x ∷ []))
-    unfolding literal_alone kind_is read_literal_as
-    literal_long y h =
-        simp (ne_eqb k 0 (not_kind is_long k 0 l refl), l) (ap (λ (m : Read ℕ). after (after m (λ v. give (wide k v))) (λ x. give (x ∷ []))) h)
+    module _ (l : is_long k ≡ true) where
+      literal_long : (y : Read ℕ) → read_long (reader_of s d) ≡ y
+          → literal_alone o (reader_of s d) ≡ after (after y (λ v. give (wide k v))) (λ x. give (x ∷ []))
+      unfolding literal_alone read_literal_as
+      literal_long y h = rw q (simp l (ap (λ (m : Read ℕ). after (after m (λ v. give (wide k v))) (λ x. give (x ∷ []))) h))
 
-    -- two words
-    pub long_good : (w : ℕ) (e : Decoder) → Ok (w, e) ≡ long_from s d → literal_alone (kind_is k) (reader_of s d) ≡ got (wide k w ∷ []) (reader_of s e)
-    long_good w e h = literal_long _ (long_got s d e w h).reads
+      -- two words
+      pub long_good : (w : ℕ) (e : Decoder) → Ok (w, e) ≡ long_from s d → literal_alone o (reader_of s d) ≡ got (wide k w ∷ []) (reader_of s e)
+      long_good w e h = literal_long _ (long_got s d e w h).reads
 
-    -- no two words
-    pub long_bad : (x : Refusal) (e : Decoder) → Err (x, e) ≡ long_from s d → literal_alone (kind_is k) (reader_of s d) ≡ refused x (reader_of s e)
-    long_bad x e h = literal_long _ (long_refused s d e x h)
+      -- no two words
+      pub long_bad : (x : Refusal) (e : Decoder) → Err (x, e) ≡ long_from s d → literal_alone o (reader_of s d) ≡ refused x (reader_of s e)
+      long_bad x e h = literal_long _ (long_refused s d e x h)
 
 -- PAIRS
 

@@ -25,7 +25,7 @@ use Rattle.grammar.specs.Find.{slots_then, slot_bytes}
 use Rattle.tracker.specs.Track.{literal_of}
 use Rattle.used.specs.declared.used.Used.{Used}
 use Rattle.used.specs.declared.used.Frame.{Frame}
-use Rattle.used.specs.Parse.{selector_of, notes_of, notes, no_notes, word_is, left_of, Went, Few, Spotted, slots_at, Walked, Walks, ResultFree, SlotRead, SlotWalk, SlotWalks}
+use Rattle.used.specs.Parse.{selector_of, notes_of, notes, no_notes, left_of, Went, Few, Spotted, slots_at, Walked, Walks, ResultFree, SlotRead, SlotWalk, SlotWalks}
 use Rattle.used.specs.Fresh.{unused, Fresh}
 use Rattle.untyped.specs.Body.{Framed, start_of, row_read}
 use Rattle.untyped.proofs.Carried.{row_leads}
@@ -89,7 +89,7 @@ fresh_unused at a b c x u e p q = rw e (record { nothing = refl; few_log = p; fe
 
 -- nothing is seen where nothing is in use
 walked_nothing : (log strs : List ℕ) (a b c x : ℕ) → Walked log strs log strs (unused a b c x) (unused a b c x) nothing_seen
-unfolding unused literal_of selector_of notes_of notes no_notes word_is operands_log operands_strings
+unfolding unused literal_of selector_of notes_of notes no_notes operands_log operands_strings
 walked_nothing log strs a b c x = record {
   rtype = refl;
   rid = refl;

@@ -21,7 +21,7 @@ use Rattle.decoder.specs.Answer.{reader_of, word_from}
 use Rattle.decoder.proofs.Laws.{word_got, word_refused}
 use Rattle.tracker.specs.Track.{literal_of}
 use Rattle.used.specs.declared.used.Used.{Used}
-use Rattle.used.specs.Parse.{Notes, selector_of, notes_of, note_as, note, notes, no_notes, Step, Few, Held, Parses, word_is, is_word, is_untyped, kind_is, literal_for, literal_alone, pair_alone, kind_alone, Walked, SlotRead, SlotWalk, SlotWalks}
+use Rattle.used.specs.Parse.{Notes, selector_of, notes_of, note_as, note, notes, no_notes, Step, Few, Held, Parses, is_word, is_untyped, literal_for, literal_alone, pair_alone, kind_alone, Walked, SlotRead, SlotWalk, SlotWalks}
 use Rattle.used.specs.Fresh.{unused, with_results, with_result}
 use Rattle.untyped.proofs.KindLaws.{not_kind, word_no_enum, number_word, number_untyped, result_else}
 use Rattle.untyped.proofs.One.{step_word, spotted_id}
@@ -67,7 +67,7 @@ module _ (g : Grammar) (literal : Option ℕ) (k : ℕ) (r : Reader) where
   kind_text e = rw e
 
 -- little is in use after a result
-result_few : (s : List ℕ) (d e : Decoder) (u : Used) (t i : ℕ) → Few s d u → Step s d e 1 → Few s e (with_results t i u)
+result_few : (s : List ℕ) (d e : Decoder) (u : Used) (t i : Option ℕ) → Few s d u → Step s d e 1 → Few s e (with_results t i u)
 unfolding with_results
 result_few s d e u t i f p = record {
   short = f.short;
@@ -109,8 +109,8 @@ module _ {log₀ strs₀ log strs : List ℕ} {u₀ u : Used} {x : Seen} (w : Wa
   selector_is = ap (λ n. n.id) w.noted ∙ noted_id x.operands
 
   -- the read of an operand that is no result, by its kind and that of a literal
-  kind_by_lem : (g : Grammar) (types : List Entry) (j l : ℕ) (r : Reader) → kind_is l ≡ literal_for types u j → (a b : Bool) → eqb j 48 ≡ a → eqb j 49 ≡ b
-      → read_kind g types x j r ≡ kind_alone g (kind_is l) j r
+  kind_by_lem : (g : Grammar) (types : List Entry) (j : ℕ) (l : Option ℕ) (r : Reader) → l ≡ literal_for types u j → (a b : Bool) → eqb j 48 ≡ a → eqb j 49 ≡ b
+      → read_kind g types x j r ≡ kind_alone g l j r
   unfolding read_kind kind_alone literal_alone pair_alone read_pair read_literal literal_for
   kind_by_lem g types j l r f true b p q =
       simp p (ap (λ (o : Option ℕ). after (read_literal_as o r) (λ z. give (z ∷ [])))
@@ -124,7 +124,7 @@ module _ {log₀ strs₀ log strs : List ℕ} {u₀ u : Used} {x : Seen} (w : Wa
 
   -- what was seen is held, from the places where the row began
   walked_held : Held log₀ strs₀ log strs (with_results u.rtype u.rid (unused u₀.log u₀.strings u₀.base u₀.breaks)) u x.operands
-  unfolding with_results unused literal_of selector_of notes_of no_notes word_is
+  unfolding with_results unused literal_of selector_of notes_of no_notes
   walked_held = record {
     rtype = refl;
     rid = refl;
@@ -139,12 +139,12 @@ module _ {log₀ strs₀ log strs : List ℕ} {u₀ u : Used} {x : Seen} (w : Wa
   -- operands more
   walked_more : {log₁ strs₁ : List ℕ} {n : Used} {os : List Operand} → Held log strs log₁ strs₁ u n os
       → Walked log₀ strs₀ log₁ strs₁ u₀ n (with_operands x os)
-  unfolding with_results unused literal_of selector_of notes_of no_notes word_is
+  unfolding with_results unused literal_of selector_of notes_of no_notes
   walked_more h =
       let m = held_then walked_held h in
       record {
-        rtype = ap word_is h.rtype ∙ w.rtype;
-        rid = ap word_is h.rid ∙ w.rid;
+        rtype = h.rtype ∙ w.rtype;
+        rid = h.rid ∙ w.rid;
         base = m.base;
         nlog = m.nlog;
         nstrings = m.nstrings;
@@ -154,10 +154,10 @@ module _ {log₀ strs₀ log strs : List ℕ} {u₀ u : Used} {x : Seen} (w : Wa
       }
 
   -- a result type
-  walked_type : (v n : ℕ) → word_is n ≡ Some v → Walked log₀ strs₀ log strs u₀ (with_results n u.rid u) (with_type x v)
+  walked_type : (v : ℕ) → Walked log₀ strs₀ log strs u₀ (with_results (Some v) u.rid u) (with_type x v)
   unfolding with_results selector_of notes_of
-  walked_type v n h = record {
-    rtype = h;
+  walked_type v = record {
+    rtype = refl;
     rid = w.rid;
     base = w.base;
     nlog = w.nlog;
@@ -168,11 +168,11 @@ module _ {log₀ strs₀ log strs : List ℕ} {u₀ u : Used} {x : Seen} (w : Wa
   }
 
   -- a result id
-  walked_id : (v n : ℕ) → word_is n ≡ Some v → Walked log₀ strs₀ log strs u₀ (with_results u.rtype n u) (with_id x v)
+  walked_id : (v : ℕ) → Walked log₀ strs₀ log strs u₀ (with_results u.rtype (Some v) u) (with_id x v)
   unfolding with_results selector_of notes_of
-  walked_id v n h = record {
+  walked_id v = record {
     rtype = w.rtype;
-    rid = h;
+    rid = refl;
     base = w.base;
     nlog = w.nlog;
     nstrings = w.nstrings;
@@ -184,9 +184,9 @@ module _ {log₀ strs₀ log strs : List ℕ} {u₀ u : Used} {x : Seen} (w : Wa
   -- READS
 
   module _ (s : List ℕ) (g : Grammar) (types : List Entry) (j : ℕ) (d : Decoder) where
-    module _ (l : ℕ) (f : kind_is l ≡ literal_for types u j) (h : is_result j ≡ false) where
+    module _ (l : Option ℕ) (f : l ≡ literal_for types u j) (h : is_result j ≡ false) where
       -- what is read is added to what was seen
-      more_by : (y : Read (List Operand)) → kind_alone g (kind_is l) j (reader_of s d) ≡ y
+      more_by : (y : Read (List Operand)) → kind_alone g l j (reader_of s d) ≡ y
           → read_slot g types x j (reader_of s d) ≡ after y (λ os. give (with_operands x os))
       unfolding read_slot
       more_by y e =
@@ -198,7 +198,7 @@ module _ {log₀ strs₀ log strs : List ℕ} {u₀ u : Used} {x : Seen} (w : Wa
           (kind_by_lem g types j l (reader_of s d) f (eqb j 48) (eqb j 49) refl refl ∙ e))
 
       -- an operand that is no result
-      slot_more : (log₁ strs₁ : List ℕ) (v : Answered Used) → Parses s d 4 (kind_alone g (kind_is l) j (reader_of s d)) log strs log₁ strs₁ u v
+      slot_more : (log₁ strs₁ : List ℕ) (v : Answered Used) → Parses s d 4 (kind_alone g l j (reader_of s d)) log strs log₁ strs₁ u v
           → SlotWalk s d j x (read_slot g types x j (reader_of s d)) log₀ strs₀ log₁ strs₁ u₀ u v
       unfolding Parses SlotWalk
       slot_more log₁ strs₁ (Ok (n, e)) p = record {
@@ -225,28 +225,28 @@ module _ {log₀ strs₀ log strs : List ℕ} {u₀ u : Used} {x : Seen} (w : Wa
           (ap (λ (m : Read ℕ). after m (λ v. give (with_id x v))) e)
 
       -- a result
-      slot_result : (v n : ℕ) → word_is n ≡ Some v → (e : Decoder) → Ok (v, e) ≡ word_from s d → Few s d u → (t : Bool) → eqb j 46 ≡ t
-          → SlotRead s d j x (read_slot g types x j (reader_of s d)) log₀ strs₀ log strs u₀ u e (if t then with_results n u.rid u else with_results u.rtype n u)
+      slot_result : (v : ℕ) (e : Decoder) → Ok (v, e) ≡ word_from s d → Few s d u → (t : Bool) → eqb j 46 ≡ t
+          → SlotRead s d j x (read_slot g types x j (reader_of s d)) log₀ strs₀ log strs u₀ u e (if t then with_results (Some v) u.rid u else with_results u.rtype (Some v) u)
       unfolding with_results
-      slot_result v n i e p f true q = record {
+      slot_result v e p f true q = record {
         seen = with_type x v;
         read = result_by _ (word_got s d e v p).reads true q;
-        walked = walked_type v n i;
-        few = result_few s d e u n u.rid f (step_word s d e v p);
+        walked = walked_type v;
+        few = result_few s d e u (Some v) u.rid f (step_word s d e v p);
         went = step_went s d e 1 (step_word s d e v p) f.left f.limited;
         more = narrow 33 v ∷ [];
-        spotted = spotted_id s d e u (with_results n u.rid u) v (step_word s d e v p) refl;
+        spotted = spotted_id s d e u (with_results (Some v) u.rid u) v (step_word s d e v p) refl;
         adds = λ free. rw (free.0 q);
         others = λ e. (refl, refl);
       }
-      slot_result v n i e p f false q = record {
+      slot_result v e p f false q = record {
         seen = with_id x v;
         read = result_by _ (word_got s d e v p).reads false q;
-        walked = walked_id v n i;
-        few = result_few s d e u u.rtype n f (step_word s d e v p);
+        walked = walked_id v;
+        few = result_few s d e u u.rtype (Some v) f (step_word s d e v p);
         went = step_went s d e 1 (step_word s d e v p) f.left f.limited;
         more = narrow 33 v ∷ [];
-        spotted = spotted_id s d e u (with_results u.rtype n u) v (step_word s d e v p) refl;
+        spotted = spotted_id s d e u (with_results u.rtype (Some v) u) v (step_word s d e v p) refl;
         adds = λ free. let none_yet = free.1 (result_else j h q) in simp (none_yet.0, none_yet.1, append-nil);
         others = λ e. absurd (true≢false (sym e ∙ q));
       }
@@ -255,13 +255,13 @@ module _ {log₀ strs₀ log strs : List ℕ} {u₀ u : Used} {x : Seen} (w : Wa
       slot_none : (y : Refusal) (e : Decoder) → Err (y, e) ≡ word_from s d → read_slot g types x j (reader_of s d) ≡ refused y (reader_of s e)
       slot_none y e p = result_by _ (word_refused s d e y p) (eqb j 46) refl
 
-module _ (s : List ℕ) (g : Grammar) (j l : ℕ) (d : Decoder) (log strs : List ℕ) (u : Used) (t : Bool) (p : t ≡ is_result j) (types : List Entry)
-    (f : kind_is l ≡ literal_for types u j) where
+module _ (s : List ℕ) (g : Grammar) (j : ℕ) (l : Option ℕ) (d : Decoder) (log strs : List ℕ) (u : Used) (t : Bool) (p : t ≡ is_result j) (types : List Entry)
+    (f : l ≡ literal_for types u j) where
   -- the walk goes on with a result
-  pub walks_result : t ≡ true → Few s d u → (v : ℕ) (e : Decoder) → Ok (v, e) ≡ word_from s d → (i : ℕ) → word_is i ≡ Some v → (n : Used) → n ≡ with_result j i u
+  pub walks_result : t ≡ true → Few s d u → (v : ℕ) (e : Decoder) → Ok (v, e) ≡ word_from s d → (n : Used) → n ≡ with_result j v u
       → SlotWalks s d j (λ x. read_slot g types x j (reader_of s d)) log strs log strs u (Ok (n, e))
   unfolding SlotWalks SlotWalk with_result
-  walks_result q m v e h i o n z log₀ strs₀ u₀ x w = rw z (slot_result w s g types j d (sym p ∙ q) v i o e h m (eqb j 46) refl)
+  walks_result q m v e h n z log₀ strs₀ u₀ x w = rw z (slot_result w s g types j d (sym p ∙ q) v e h m (eqb j 46) refl)
 
   -- it ends without the word of a result
   pub walks_none : t ≡ true → (y : Refusal) (e : Decoder) → Err (y, e) ≡ word_from s d
@@ -271,13 +271,13 @@ module _ (s : List ℕ) (g : Grammar) (j l : ℕ) (d : Decoder) (log strs : List
 
   module _ (q : t ≡ false) (log₁ strs₁ : List ℕ) (v : Answered Used) where
     -- it goes on with operands, or ends where they are refused
-    pub walks_more : Parses s d 4 (kind_alone g (kind_is l) j (reader_of s d)) log strs log₁ strs₁ u v
+    pub walks_more : Parses s d 4 (kind_alone g l j (reader_of s d)) log strs log₁ strs₁ u v
         → SlotWalks s d j (λ x. read_slot g types x j (reader_of s d)) log strs log₁ strs₁ u v
     unfolding SlotWalks
     walks_more h log₀ strs₀ u₀ x w = slot_more w s g types j d l f (sym p ∙ q) log₁ strs₁ v h
 
     -- so it does by the read that is meant
-    pub walks_as : (y : Read (List Operand)) → kind_alone g (kind_is l) j (reader_of s d) ≡ y → Parses s d 4 y log strs log₁ strs₁ u v
+    pub walks_as : (y : Read (List Operand)) → kind_alone g l j (reader_of s d) ≡ y → Parses s d 4 y log strs log₁ strs₁ u v
         → SlotWalks s d j (λ x. read_slot g types x j (reader_of s d)) log strs log₁ strs₁ u v
     walks_as y e h = walks_more (same_read s d 4 _ y log strs log₁ strs₁ u v e h)
 

@@ -1,33 +1,21 @@
 -- Laws of what is in use: one record more.
-use Prim.Native.Nat.{ℕ, ◌+◌, ◌-◌, ◌%◌, ◌<◌, ◌≤◌}
+use Prim.Native.Nat.{ℕ, ◌+◌, ◌-◌, ◌≤◌}
 use mathlib.Core.Path.{◌≡◌, refl, ap, sym, ◌∙◌}
 use mathlib.Core.List.{List}
 use Rattle.std.specs.Prelude.{None, Some}
 use native.Mathlib.Omega.{arith}
-use borrow.Author.Tests.{eq-eqb, ne_eqb, lt-ltb, le-ltb}
+use borrow.Author.Tests.{eq-eqb, ne_eqb}
 use lib.Dec.{leb}
 use lib.ListN.{length, take, drop}
 use lib.Seq.{slice, take-add, drop_at, length-take-le}
 use Rattle.spec.specs.Plain.{first_break}
-use Rattle.operand.specs.Parts.{parts, is_two, Fits}
+use Rattle.operand.specs.Parts.{parts, Fits}
 use Rattle.operand.specs.Log.{record_length, length_by, kept, Laid}
 use Rattle.operand.proofs.LogLaws.{laid_kept}
 use Rattle.tracker.specs.Track.{literal_of}
 use Rattle.used.specs.declared.used.Used.{Used}
-use Rattle.used.specs.Parse.{id_ref_of, selector_of, notes_of, note_as, FirstFits, word_is, Pushed, Copied}
+use Rattle.used.specs.Parse.{id_ref_of, selector_of, notes_of, note_as, Pushed, Copied}
 use Rattle.used.specs.Fresh.{with_results, with_result}
-
--- WORDS THAT MAY BE MISSING
-
--- a word that is there
-pub word_there : (w n : ℕ) → 4294967296 ≤ n → w ≡ n % 4294967296 → word_is n ≡ Some w
-unfolding word_is
-word_there w n h e = simp (le-ltb n 4294967296 h, e)
-
--- one that is not
-pub word_absent : (n : ℕ) → n < 4294967296 → word_is n ≡ None
-unfolding word_is
-word_absent n h = simp (lt-ltb n 4294967296 h)
 
 -- THE ID THAT THE FIRST OPERAND IS
 
@@ -47,10 +35,6 @@ module _ (u : Used) where
     pub selector_absent : (u.kind1 ≡ 33 → ⊥) → None ≡ selector_of u
     unfolding selector_of id_ref_of
     selector_absent e = simp (ne_eqb u.operands 0 h, ne_eqb u.kind1 33 e)
-
-    -- its value is a word
-    pub selector_small : FirstFits u → u.kind1 ≡ 33 → u.value1 < 4294967296
-    selector_small f e = (f.first (omega (arith, h))).small (ap is_two e)
 
 -- ONE OPERAND MORE
 
@@ -144,14 +128,14 @@ first_stays a b h = simp (ne_eqb a 0 h)
 module _ (u : Used) (k n : ℕ) where
   -- a result type
   pub type_more : k ≡ 46
-      → record { rtype = n; rid = u.rid; operands = u.operands; kind1 = u.kind1; value1 = u.value1; kind2 = u.kind2; value2 = u.value2; log = u.log; strings = u.strings; base = u.base; breaks = u.breaks }
+      → record { rtype = Some n; rid = u.rid; operands = u.operands; kind1 = u.kind1; value1 = u.value1; kind2 = u.kind2; value2 = u.value2; log = u.log; strings = u.strings; base = u.base; breaks = u.breaks }
       ≡ with_result k n u
   unfolding with_result with_results
   type_more e = simp (eq-eqb k 46 e)
 
   -- a result id
   pub id_more : (k ≡ 46 → ⊥)
-      → record { rtype = u.rtype; rid = n; operands = u.operands; kind1 = u.kind1; value1 = u.value1; kind2 = u.kind2; value2 = u.value2; log = u.log; strings = u.strings; base = u.base; breaks = u.breaks }
+      → record { rtype = u.rtype; rid = Some n; operands = u.operands; kind1 = u.kind1; value1 = u.value1; kind2 = u.kind2; value2 = u.value2; log = u.log; strings = u.strings; base = u.base; breaks = u.breaks }
       ≡ with_result k n u
   unfolding with_result with_results
   id_more e = simp (ne_eqb k 46 e)

@@ -1,11 +1,12 @@
 -- What is in use where an instruction begins, and with a result more.
 use Rattle.std.specs.Prelude.{ℕ, ◌+◌, ◌*◌, ◌≤◌, ◌≡◌, eqb, if◌then◌else◌}
+use Rattle.std.specs.Prelude.{Option, None, Some}
 use Rattle.used.specs.declared.used.Used.{Used}
 
 -- what is in use before the first operand, from these places on, with so many string bytes before those of the store, where this breaks
 -- what was read before
 unfoldable pub unused : ℕ → ℕ → ℕ → ℕ → Used
-unused a b c x = record { rtype = 0; rid = 0; operands = 0; kind1 = 0; value1 = 0; kind2 = 0; value2 = 0; log = a; strings = b; base = c; breaks = x }
+unused a b c x = record { rtype = None; rid = None; operands = 0; kind1 = 0; value1 = 0; kind2 = 0; value2 = 0; log = a; strings = b; base = c; breaks = x }
 
 -- nothing of an instruction that begins at a place is in use yet, and so little before it that nothing wraps
 pub record Fresh (at : ℕ) (u : Used) : Type 0 where
@@ -14,7 +15,7 @@ pub record Fresh (at : ℕ) (u : Used) : Type 0 where
   pub few_strings : u.base + u.strings ≤ at
 
 -- the same operands with other results
-unfoldable pub with_results : ℕ → ℕ → Used → Used
+unfoldable pub with_results : Option ℕ → Option ℕ → Used → Used
 with_results t i u =
     record {
       rtype = t;
@@ -32,4 +33,4 @@ with_results t i u =
 
 -- a result more: the result type for 46, else the result id
 unfoldable pub with_result : ℕ → ℕ → Used → Used
-with_result k n u = if eqb k 46 then with_results n u.rid u else with_results u.rtype n u
+with_result k n u = if eqb k 46 then with_results (Some n) u.rid u else with_results u.rtype (Some n) u

@@ -1,5 +1,5 @@
 -- The parser's answers, and the stores after those that are good, as what the reader of `spec` comes to.
-use Rattle.std.specs.Prelude.{ℕ, ◌+◌, ◌*◌, ◌-◌, ◌%◌, ◌≤◌, ◌≡◌, Bool, true, ◌&&◌, ◌||◌, List, [], ◌∷◌, ◌++◌, eqb, ltb, length, drop, if◌then◌else◌}
+use Rattle.std.specs.Prelude.{ℕ, ◌+◌, ◌*◌, ◌-◌, ◌%◌, ◌≤◌, ◌≡◌, Bool, true, ◌&&◌, ◌||◌, List, [], ◌∷◌, ◌++◌, eqb, length, drop, if◌then◌else◌}
 use Rattle.std.specs.Prelude.{Option, None, Some}
 use Rattle.spec.specs.Base.{within}
 use Rattle.spec.specs.Words.{bits_of}
@@ -29,10 +29,6 @@ pub record Notes : Type 0 where
   pub first : Option ℕ
   pub second : Option ℕ
   pub id : Option ℕ
-
--- a result that may be missing is 2^32 and a word where it is there
-unfoldable pub word_is : ℕ → Option ℕ
-word_is n = if ltb n 4294967296 then None else Some (n % 4294967296)
 
 -- the id of an operand that is an IdRef, the arm of kind 33
 unfoldable pub id_ref_of : Parts → Option ℕ
@@ -209,18 +205,15 @@ if_set k b v es = if eqb (v % 2) 1 then or_none (listed k b es) else []
 
 -- LITERALS BY TYPE
 
--- the kind that a number is, 0 for none
-unfoldable pub kind_is : ℕ → Option ℕ
-kind_is k = if eqb k 0 then None else Some k
-
 -- none, or a kind of a literal by type
-unfoldable pub is_literal : ℕ → Bool
-is_literal k = eqb k 0 || eqb k 34 || within 36 k 38
+unfoldable pub is_literal : Option ℕ → Bool
+is_literal None = true
+is_literal (Some k) = eqb k 34 || within 36 k 38
 
 -- the kind of the literal that an operand is read as: by the type of the result type for 48, of the first operand for 49, none for others
 unfoldable pub literal_for : List Entry → Used → ℕ → Option ℕ
 literal_for types u k =
-    if eqb k 48 then literal_kind_of (type_of (word_is u.rtype) types)
+    if eqb k 48 then literal_kind_of (type_of u.rtype types)
     else if eqb k 49 then literal_kind_of (type_of (selector_of u) types)
     else None
 
@@ -265,8 +258,8 @@ no_notes = record { count = 0; first = None; second = None; id = None }
 
 -- what was seen of a row is what was added to what was in use before it and, where it fits, to the stores
 pub record Walked (log₀ strs₀ log strs : List ℕ) (u n : Used) (x : Seen) : Type 0 where
-  pub rtype : word_is n.rtype ≡ x.result_type
-  pub rid : word_is n.rid ≡ x.result_id
+  pub rtype : n.rtype ≡ x.result_type
+  pub rid : n.rid ≡ x.result_id
   pub base : n.base ≡ u.base
   pub nlog : n.log ≡ u.log + length (operands_log (u.base + u.strings) x.operands)
   pub nstrings : n.strings ≡ u.strings + length (operands_strings x.operands)

@@ -5,6 +5,4 @@ mod literals;
 mod used;
 
 pub use literals::{literal_for, literal_kind};
-pub use used::{
-    Frame, Used, first_break, id_of, push, push_text, refused, there, unused, with_result,
-};
+pub use used::{Frame, Used, first_break, push, push_text, refused, unused, with_result};

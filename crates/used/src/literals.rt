@@ -5,67 +5,69 @@ ghost use Rattle.spec.specs.Records.{Entry};
 ghost use Rattle.spec.specs.Match.{literal_kind, literal_kind_of, type_of};
 ghost use Rattle.tracker.specs.Entries.{entries_of, known_of};
 ghost use Rattle.tracker.specs.Hints.{Hinted};
-ghost use Rattle.used.specs.Parse.{FirstFits, kind_is, is_literal, literal_for};
+ghost use Rattle.used.specs.Parse.{FirstFits, is_literal, literal_for};
 
-use crate::used::{Used, id_of, selector_of};
+use crate::used::{Used, selector_of};
 use spec::kinds;
-use tracker::{Resolved, TypeTracker};
+use tracker::{Scalar, TypeTracker};
 
-// The kind of a float literal by width: 0 where the width is not supported.
-fn float_kind(width: u32) -> u8
-    ensures { (kind_is result ≡ literal_kind width 3) × (is_literal result ≡ true) }
+// The kind of a float literal by width, where the width is supported.
+fn float_kind(width: u32) -> Option<u8>
+    ensures { (result ≡ literal_kind width 3) × (is_literal result ≡ true) }
 {
     if (width == 16) | (width == 32) {
-        return kinds::FLOAT32;
+        return Some(kinds::FLOAT32);
     }
     if width == 64 {
-        return kinds::FLOAT64;
+        return Some(kinds::FLOAT64);
     }
-    0
+    None
 }
 
-// The kind of an integer literal by width: 0 where the width is not supported.
-fn integer_kind(width: u32) -> u8
-    ensures { (kind_is result ≡ literal_kind width 1) × (is_literal result ≡ true) }
+// The kind of an integer literal by width, where the width is supported.
+fn integer_kind(width: u32) -> Option<u8>
+    ensures { (result ≡ literal_kind width 1) × (is_literal result ≡ true) }
 {
     if (width == 8) | (width == 16) | (width == 32) {
-        return kinds::INT32;
+        return Some(kinds::INT32);
     }
     if width == 64 {
-        return kinds::INT64;
+        return Some(kinds::INT64);
     }
-    0
+    None
 }
 
 // The kind of a literal by a type: one word where it is not known.
-pub fn literal_kind(known: Resolved) -> u8
-    ensures { ((i : Option ℕ) (es : List Entry) → known ≡ known_of i es → kind_is result ≡ literal_kind_of (type_of i es)) × (is_literal result ≡ true) }
+pub fn literal_kind(known: Option<Scalar>) -> Option<u8>
+    ensures { ((i : Option ℕ) (es : List Entry) → known ≡ known_of i es → result ≡ literal_kind_of (type_of i es)) × (is_literal result ≡ true) }
 {
-    match known {
-        Resolved::Unknown => kinds::INT32,
-        Resolved::Type { width, sort } => {
-            if sort == 3 {
-                return float_kind(width);
-            }
-            integer_kind(width)
-        }
+    let Some(x) = known else {
+        return Some(kinds::INT32);
+    };
+    if x.sort == 3 {
+        return float_kind(x.width);
     }
+    integer_kind(x.width)
 }
 
 // The kind of the literal that an operand of a row is read as: by the result type, by the first operand; for any other operand nothing.
-pub fn literal_for(types: &[u32], hints: &[u16], tracker: TypeTracker, kind: u8, u: Used) -> u8
+pub fn literal_for(
+    types: &[u32],
+    hints: &[u16],
+    tracker: TypeTracker,
+    kind: u8,
+    u: Used,
+) -> Option<u8>
     requires count_in_bounds { 3 * tracker.count ≤ length types.now }
     requires hinted { Hinted tracker types.now hints.now }
     requires first_fits { FirstFits u }
-    ensures { (kind_is result ≡ literal_for (entries_of tracker.count types.now) u kind) × (is_literal result ≡ true) }
+    ensures { (result ≡ literal_for (entries_of tracker.count types.now) u kind) × (is_literal result ≡ true) }
 {
     if kind == kinds::TYPED_LITERAL {
-        let id = id_of(u.rtype);
-        return literal_kind(tracker.resolve(types, hints, id));
+        return literal_kind(tracker.resolve(types, hints, u.rtype));
     }
     if kind == kinds::LITERAL_AND_ID {
-        let id = selector_of(u);
-        return literal_kind(tracker.resolve(types, hints, id));
+        return literal_kind(tracker.resolve(types, hints, selector_of(u)));
     }
-    0
+    None
 }

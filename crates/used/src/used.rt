@@ -5,8 +5,7 @@ ghost use Rattle.spec.specs.Plain.{first_break};
 ghost use Rattle.spec.specs.Reader.{refusal};
 ghost use Rattle.operand.specs.Parts.{parts, Fits};
 ghost use Rattle.operand.specs.Log.{record_of, record_length, Laid};
-ghost use Rattle.tracker.specs.Track.{id_is};
-ghost use Rattle.used.specs.Parse.{word_is, FirstFits, selector_of, Pushed, Copied};
+ghost use Rattle.used.specs.Parse.{FirstFits, selector_of, Pushed, Copied};
 ghost use Rattle.used.specs.Fresh.{unused, with_result};
 
 use decoder::{Answer, Decoder};
@@ -24,12 +23,11 @@ pub struct Frame {
 
 // The results and the operands of an instruction so far: how many operands, kind and value of the first and of the second, how much of
 // the operand log and of the string bytes is in use, how many string bytes there are before those of the store, and the first offset
-// that breaks an operand, or 0. A result that may be missing is 2^32 and a word where it is there, else 0; an operand that is missing is
-// of kind 0.
+// that breaks an operand, or 0. An operand that is missing is of kind 0.
 #[derive(Clone, Copy)]
 pub struct Used {
-    pub rtype: u64,
-    pub rid: u64,
+    pub rtype: Option<u32>,
+    pub rid: Option<u32>,
     pub operands: usize,
     pub kind1: u8,
     pub value1: u64,
@@ -43,12 +41,13 @@ pub struct Used {
 
 // What is in use where an instruction begins, from these places of log and strings on, with so many string bytes before those of the
 // store, where this is the first offset that breaks what was read before it, or 0.
+#[tactic(auto, unfolding(crate::specs::Fresh::unused))]
 pub fn unused(log: usize, strings: usize, base: usize, breaks: usize) -> Used
     ensures { result ≡ unused «log» «strings» base breaks }
 {
     Used {
-        rtype: 0,
-        rid: 0,
+        rtype: None,
+        rid: None,
         operands: 0,
         kind1: 0,
         value1: 0,
@@ -83,72 +82,23 @@ pub fn refused(number: u32, place: usize, d: Decoder) -> Answer<Used>
     Err((refusal, d))
 }
 
-// A word that is there.
-pub fn there(w: u32) -> u64
-    ensures { word_is result ≡ Some w }
-{
-    4294967296 + (w as u64)
-}
-
 // A result more: the result type for 46, else the result id.
-pub fn with_result(u: Used, kind: u8, id: u64) -> Used
+pub fn with_result(u: Used, kind: u8, id: u32) -> Used
     ensures { result ≡ with_result kind id u }
 {
-    let rtype = u.rtype;
-    let rid = u.rid;
-    let operands = u.operands;
-    let kind1 = u.kind1;
-    let value1 = u.value1;
-    let kind2 = u.kind2;
-    let value2 = u.value2;
-    let log = u.log;
-    let strings = u.strings;
-    let base = u.base;
-    let breaks = u.breaks;
     if kind == kinds::RESULT_TYPE {
         return Used {
-            rtype: id,
-            rid,
-            operands,
-            kind1,
-            value1,
-            kind2,
-            value2,
-            log,
-            strings,
-            base,
-            breaks,
+            rtype: Some(id),
+            ..u
         };
     }
-    Used {
-        rtype,
-        rid: id,
-        operands,
-        kind1,
-        value1,
-        kind2,
-        value2,
-        log,
-        strings,
-        base,
-        breaks,
-    }
-}
-
-// The id that a word is, where it is there.
-pub fn id_of(x: u64) -> Option<u32>
-    ensures { id_is result ≡ word_is x }
-{
-    if x < 4294967296 {
-        return None;
-    }
-    Some((x % 4294967296) as u32)
+    Used { rid: Some(id), ..u }
 }
 
 // The id that the first operand is, where it is one.
 pub fn selector_of(u: Used) -> Option<u32>
     requires { FirstFits u }
-    ensures { id_is result ≡ selector_of u }
+    ensures { result ≡ selector_of u }
 {
     if u.operands == 0 {
         return None;
@@ -164,59 +114,26 @@ fn noted(u: Used, kind: u8, value: u64, log: usize) -> Used
     requires { (u.operands ≤ 1000000000) × Fits kind value × (log ≡ u.log + record_length (parts kind value)) }
     ensures { Pushed kind value u result × (result.breaks ≡ u.breaks) }
 {
-    let rtype = u.rtype;
-    let rid = u.rid;
     let operands = u.operands + 1;
-    let kind1 = u.kind1;
-    let value1 = u.value1;
-    let kind2 = u.kind2;
-    let value2 = u.value2;
-    let strings = u.strings;
-    let base = u.base;
-    let breaks = u.breaks;
     if u.operands == 0 {
         return Used {
-            rtype,
-            rid,
             operands,
             kind1: kind,
             value1: value,
-            kind2,
-            value2,
             log,
-            strings,
-            base,
-            breaks,
+            ..u
         };
     }
     if u.operands == 1 {
         return Used {
-            rtype,
-            rid,
             operands,
-            kind1,
-            value1,
             kind2: kind,
             value2: value,
             log,
-            strings,
-            base,
-            breaks,
+            ..u
         };
     }
-    Used {
-        rtype,
-        rid,
-        operands,
-        kind1,
-        value1,
-        kind2,
-        value2,
-        log,
-        strings,
-        base,
-        breaks,
-    }
+    Used { operands, log, ..u }
 }
 
 // A record of a kind and a value, kept where it fits.
@@ -247,13 +164,12 @@ pub fn push_text(
     ensures laid { Laid log.old u.log (record_of (parts 40 (u.base + u.strings + 4294967296 * size))) log.new }
     ensures laid_2 { Laid strings.old u.strings (slice from (from + size) s.now) strings.new }
 {
-    let start = u.strings;
-    let to = from + size;
-    let at = (u.base + start) as u64;
-    let before = u.breaks;
-    let mut n = push(log, kinds::STRING, at + 4294967296 * (size as u64), u);
-    operand::keep_bytes(strings, start, &s[from..to]);
-    n.strings = start + size;
-    n.breaks = first_break(before, breaks);
-    n
+    let at = (u.base + u.strings) as u64;
+    let n = push(log, kinds::STRING, at + 4294967296 * (size as u64), u);
+    operand::keep_bytes(strings, u.strings, &s[from..from + size]);
+    Used {
+        strings: u.strings + size,
+        breaks: first_break(u.breaks, breaks),
+        ..n
+    }
 }

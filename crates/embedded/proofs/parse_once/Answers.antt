@@ -9,10 +9,10 @@ use Rattle.embedded.proofs.Once.{inner_first, inner_rest, once_none, once_next}
 use Rattle.embedded.proofs.parse_once.Goals as goal
 
 pub loop-kind-init : goal.loop-kind-init
-loop-kind-init c = (begins _ _ _ _ _ _ c.requires.few.0, c.requires.few.1, c.requires.few.2, c.requires.few.3)
+loop-kind-init c = (begins _ _ _ _ _ _ c.requires.0, c.requires.1, c.requires.2, c.requires.3)
 
-pub parse_inner-requires-clause-few : goal.parse_inner-requires-clause-few
-parse_inner-requires-clause-few c = (
+pub parse_inner-requires : goal.parse_inner-requires
+parse_inner-requires c = (
   c.loop-kind.invariant.0.few,
   inner_first _ _ _ _ (slot_told _ _ _ c.slot_at.ensures.g_value _ _ c.in-Some.is) c.loop-kind.invariant.2 c.loop-kind.invariant.3,
 )

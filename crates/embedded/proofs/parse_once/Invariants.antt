@@ -10,8 +10,8 @@ use Rattle.embedded.proofs.parse_once.Given as goal
 
 abbrev pub invariant-loop-kind : goal.invariant-loop-kind
 invariant-loop-kind l =
-    Running l.s (read_once (grammar_of l.g) (slots_at l.g l.fn.place) (reader_of l.s l.fn.start)) l.initial.log l.initial.strings l.log l.strings l.fn.used l.fn.start l.d l.u (read_once (grammar_of l.g) (slots_at l.g l.p))
-    × (l.p ≤ length l.g) × (every is_operand (slots_at l.g l.p) ≡ true) × (every embeds (slots_at l.g l.p) ≡ true)
+    Running l.s (read_once (grammar_of l.rows.bytes.now) (slots_at l.rows.bytes.now l.fn.place) (reader_of l.s l.fn.start)) l.initial.log l.initial.strings l.log l.strings l.fn.used l.fn.start l.d l.u (read_once (grammar_of l.rows.bytes.now) (slots_at l.rows.bytes.now l.p))
+    × (l.p ≤ length l.rows.bytes.now) × (every is_operand (slots_at l.rows.bytes.now l.p) ≡ true) × (every embeds (slots_at l.rows.bytes.now l.p) ≡ true)
 
 abbrev pub decreases-loop-kind : goal.decreases-loop-kind
-decreases-loop-kind l = length l.g - l.p
+decreases-loop-kind l = length l.rows.bytes.now - l.p

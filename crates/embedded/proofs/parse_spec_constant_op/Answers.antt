@@ -20,7 +20,7 @@ returns-in_default c =
     deny _ _ _ _ _ _ _ _ _ _ _ _ c.refused.ensures (embedded_none _ _ _ _ _ c.in_ok-v.ensures _ c.find_row.ensures.result_value c.in_default.is)
 
 pub may_embed-requires : goal.may_embed-requires
-may_embed-requires c = (indexed_short _ _ c.requires.indexed, place_told _ _ _ c.find_row.ensures.result_in_bounds c.in-Some.is)
+may_embed-requires c = (indexed_short _ _ c.args.rows.indexed, place_told _ _ _ c.find_row.ensures.result_in_bounds c.in-Some.is)
 
 pub returns-then-not-may_embed : goal.returns-then-not-may_embed
 returns-then-not-may_embed c =
@@ -28,20 +28,20 @@ returns-then-not-may_embed c =
     (embedded_barred _ _ _ _ _ c.in_ok-v.ensures _ c.find_row.ensures.result_value _ c.in-Some.is _ c.may_embed.ensures (not_from_false _ c.if-not-may_embed.true))
 
 pub push_opcode-n-requires : goal.push_opcode-n-requires
-push_opcode-n-requires c = may_count c.requires.few
+push_opcode-n-requires c = may_count c.requires
 
-pub parse_once-requires-clause-few : goal.parse_once-requires-clause-few
-parse_once-requires-clause-few c = (
-  few_pushed _ _ _ _ _ _ _ _ c.requires.few (step_word _ _ _ _ c.in_ok-v.ensures) (omega arith) c.push_opcode-n.ensures.pushed,
+pub parse_once-requires : goal.parse_once-requires
+parse_once-requires c = (
+  few_pushed _ _ _ _ _ _ _ _ c.requires (step_word _ _ _ _ c.in_ok-v.ensures) (omega arith) c.push_opcode-n.ensures.pushed,
   place_told _ _ _ c.find_row.ensures.result_in_bounds c.in-Some.is,
-  row_operands _ _ c.requires.indexed _ _ (row_told _ _ _ _ c.find_row.ensures.result_value c.in-Some.is),
+  row_operands _ _ c.args.rows.indexed _ _ (row_told _ _ _ _ c.find_row.ensures.result_value c.in-Some.is),
   sym c.may_embed.ensures ∙ not-false _ (not_from_true _ c.if-not-may_embed.false),
 )
 
 pub returns : goal.returns
 returns c =
     seq (held_narrow _ _ _ _ _ _ _ embedded_narrow c.push_opcode-n.ensures.pushed c.push_opcode-n.ensures.laid) _ _ _ _ _ _
-    (step_went _ _ _ _ (step_word _ _ _ _ c.in_ok-v.ensures) _ c.requires.few.limited)
+    (step_went _ _ _ _ (step_word _ _ _ _ c.in_ok-v.ensures) _ c.requires.limited)
     (spotted_opcode _ _ _ _ _ _ c.in_ok-v.ensures c.push_opcode-n.ensures.breaks_value)
     (embedded_row _ _ _ _ _ c.in_ok-v.ensures _ c.find_row.ensures.result_value _ c.in-Some.is _ c.may_embed.ensures (not_from_true _ c.if-not-may_embed.false))
     _ c.parse_once.ensures

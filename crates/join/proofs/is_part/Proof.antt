@@ -16,7 +16,7 @@ returns-3 : tie.Need-returns-in-Enumerant
 unfolding is_part
 returns-3 c = search rules
 
-returns-4 : tie.Need-returns-in-Some
+returns-4 : tie.Need-returns-in-Parameter
 unfolding is_part
 returns-4 c = search rules
 

@@ -16,7 +16,7 @@ returns-3 : tie.Need-returns-in-Enumerant
 unfolding key_of
 returns-3 c = rw c.in-Enumerant.is
 
-returns-4 : tie.Need-returns-in-Some
+returns-4 : tie.Need-returns-in-Parameter
 unfolding key_of
 returns-4 c = search rules
 

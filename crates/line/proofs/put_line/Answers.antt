@@ -18,14 +18,16 @@ put_bytes-op-requires c =
     room_first _ _ (room_next _ _ (room_next _ _ (room_as _ _ (line_is _ _ _ _) c.requires.room) c.put_byte-feed.ensures) c.put_result-id.ensures)
 
 pub put_name-name-requires : goal.put_name-name-requires
-put_name-name-requires c = record { indexed = c.requires.indexed; room = room_first _ _ (room_next _ _ (room_next _ _ (room_next _ _ (room_as _ _ (line_is _ _ _ _) c.requires.room) c.put_byte-feed.ensures) c.put_result-id.ensures) c.put_bytes-op.ensures) }
+put_name-name-requires c =
+    room_first _ _ (room_next _ _ (room_next _ _ (room_next _ _ (room_as _ _ (line_is _ _ _ _) c.requires.room) c.put_byte-feed.ensures) c.put_result-id.ensures) c.put_bytes-op.ensures)
 
 pub put_type-ty-requires : goal.put_type-ty-requires
 put_type-ty-requires c =
     room_first _ _ (room_next _ _ (room_next _ _ (room_next _ _ (room_next _ _ (room_as _ _ (line_is _ _ _ _) c.requires.room) c.put_byte-feed.ensures) c.put_result-id.ensures) c.put_bytes-op.ensures) c.put_name-name.ensures)
 
-pub put_all-requires : goal.put_all-requires
-put_all-requires c = record { indexed = c.requires.indexed; good_stores = c.requires.good_stores; imports_le_count = c.requires.imports_le_count; all_readable = c.requires.all_readable; room = room_next _ _ (room_next _ _ (room_next _ _ (room_next _ _ (room_next _ _ (room_as _ _ (line_is _ _ _ _) c.requires.room) c.put_byte-feed.ensures) c.put_result-id.ensures) c.put_bytes-op.ensures) c.put_name-name.ensures) c.put_type-ty.ensures }
+pub put_all-requires-clause-room : goal.put_all-requires-clause-room
+put_all-requires-clause-room c =
+    room_next _ _ (room_next _ _ (room_next _ _ (room_next _ _ (room_next _ _ (room_as _ _ (line_is _ _ _ _) c.requires.room) c.put_byte-feed.ensures) c.put_result-id.ensures) c.put_bytes-op.ensures) c.put_name-name.ensures) c.put_type-ty.ensures
 
 pub shape_of-out : goal.shape_of-out
 shape_of-out c =

@@ -7,4 +7,4 @@ pub returns-then-not-prepare : goal.returns-then-not-prepare
 returns-then-not-prepare c = load_unformed _ _ _ c.type_inv.module (sym c.prepare.ensures.value ∙ c.if-not-prepare.true) _ c.no_instruction.ensures
 
 pub returns : goal.returns
-returns c = load_formed _ _ _ c.type_inv.module (sym c.prepare.ensures.value ∙ c.if-not-prepare.false) _ _ c.load_indexed.ensures
+returns c = load_formed _ _ _ c.type_inv.module (sym c.prepare.ensures.value ∙ c.if-not-prepare.false) _ _ (rw c.new-rows.ensures.0 at c.load_indexed.ensures)

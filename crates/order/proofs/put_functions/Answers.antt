@@ -8,10 +8,10 @@ pub loop-i-init : goal.loop-i-init
 loop-i-init c = going_starts _ _ _ _ c.requires.count_value c.requires.room
 
 pub put_part-at-requires-clause-room : goal.put_part-at-requires-clause-room
-put_part-at-requires-clause-room c = going_room c.loop-i.invariant _ _ (functions_more (stores_at _ _ _ _ c.requires.good_stores _ c.loop-i-test.true _ refl))
+put_part-at-requires-clause-room c = going_room c.loop-i.invariant _ _ (functions_more (stores_at _ _ _ _ c.args.good.stores _ c.loop-i-test.true _ refl))
 
 pub loop-i-preserved : goal.loop-i-preserved
-loop-i-preserved c = going_on c.loop-i.invariant _ _ (functions_more (stores_at _ _ _ _ c.requires.good_stores _ c.loop-i-test.true _ refl)) c.put_part-at.ensures
+loop-i-preserved c = going_on c.loop-i.invariant _ _ (functions_more (stores_at _ _ _ _ c.args.good.stores _ c.loop-i-test.true _ refl)) c.put_part-at.ensures
 
 pub returns : goal.returns
-returns c = going_ends c.loop-i.invariant (functions_end _ (all_end _ _ _ _ c.requires.good_stores _ c.loop-i-test.false))
+returns c = going_ends c.loop-i.invariant (functions_end _ (all_end _ _ _ _ c.args.good.stores _ c.loop-i-test.false))

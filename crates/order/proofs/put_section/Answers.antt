@@ -2,7 +2,7 @@ use Rattle.std.proofs.Common.{arith}
 use Rattle.spelled.proofs.Stores.{stores_length}
 use Rattle.spelled.proofs.Orders.{tagged_more}
 use Rattle.spelled.proofs.Place.{going_starts, going_ends, going_room, going_on}
-use Rattle.ranges.proofs.Ranges.{ranged_ends}
+use Rattle.ranges.proofs.Sections.{ranged_ends}
 use Rattle.order.proofs.put_section.Goals as goal
 
 pub loop-i-init : goal.loop-i-init
@@ -10,8 +10,7 @@ loop-i-init c = going_starts _ _ _ _ c.requires.ranged.opens c.requires.room
 
 pub put_tagged-at-requires : goal.put_tagged-at-requires
 put_tagged-at-requires c = record {
-  good_stores = c.requires.good_stores;
-  i_lt_count = omega (arith, c.requires.ranged.within, stores_length _ _ _ _ c.requires.good_stores);
+  i_lt_count = omega (arith, c.requires.ranged.within, stores_length _ _ _ _ c.args.good.stores);
   room = going_room c.loop-i.invariant _ _ (tagged_more _ _ _);
 }
 

@@ -1,5 +1,5 @@
 use Rattle.std.proofs.Common.{◌≡◌, ℕ, ◌+◌, ◌/◌, length, subst, arith}
-use Rattle.records.specs.Steps.{checked_is, fault_in}
+use Rattle.records.specs.Steps.{fault_in}
 use Rattle.records.proofs.Pass.{check_starts, check_missing, check_fields, check_operands, check_tag, check_goes_on, check_ends}
 use Rattle.records.proofs.first_fault.Goals as goal
 use Rattle.std.specs.Prelude.{Some}
@@ -28,7 +28,7 @@ loop-i-preserved g c =
 pub returns-then-there-asked : goal.returns-then-there-asked
 returns-then-there-asked g c =
     let e : c.loop-i.i ≡ length c.args.instructions.now / c.args.asked.size = omega arith in
-    subst (λ (k : ℕ). checked_is (Some (k + 1)) ≡ fault_in c.args.asked c.args.instructions.now c.args.log.now c.args.strings.now) e
+    subst (λ (k : ℕ). Some (k + 1) ≡ fault_in c.args.asked c.args.instructions.now c.args.log.now c.args.strings.now) e
     (check_missing c.requires.field_size_le_size c.loop-i.invariant (omega arith) (omega arith))
 
 pub returns : goal.returns

@@ -42,4 +42,4 @@ returns-in_err-n c = rw c.from_residual.ensures (pass _)
 
 pub next_place-p-requires : goal.next_place-p-requires
 next_place-p-requires c =
-    omega (arith, three_told _ _ _ _ c.slot_at.ensures.result_in_bounds c.in-Some.is, indexed_short _ _ c.requires.indexed)
+    omega (arith, three_told _ _ _ _ c.slot_at.ensures.result_in_bounds c.in-Some.is, indexed_short _ _ c.args.rows.indexed)

@@ -8,8 +8,8 @@ use Rattle.simple.proofs.simple_operands.Given as goal
 
 abbrev pub invariant-loop-k : goal.invariant-loop-k
 invariant-loop-k l =
-    Rowing l.s (grammar_of l.g) (entries_of l.tracker.count l.types)
-    (row_read l.g (entries_of l.tracker.count l.types) l.s (start_of l.fn.frame) l.fn.frame.place) l.initial.log l.initial.strings l.log l.strings l.fn.used (start_of l.fn.frame) l.d l.u (slots_at l.g l.p)
+    Rowing l.s (grammar_of l.rows.bytes.now) (entries_of l.tracker.count l.types)
+    (row_read l.rows.bytes.now (entries_of l.tracker.count l.types) l.s (start_of l.fn.frame) l.fn.frame.place) l.initial.log l.initial.strings l.log l.strings l.fn.used (start_of l.fn.frame) l.d l.u (slots_at l.rows.bytes.now l.p)
 
 abbrev pub decreases-loop-k : goal.decreases-loop-k
 decreases-loop-k l = left_of l.d.limit

@@ -32,11 +32,11 @@ returns-in_default c =
     c.requires.few.0 c.push-n.ensures.pushed _ _ _ c.requires.few.1 c.push-n.ensures.laid c.push-n.ensures.breaks_value m
     (none_told _ _ _ c.parameter_at.ensures.g_value c.in_default.is)
 
-pub parse_parameters-requires-clause-few : goal.parse_parameters-requires-clause-few
-parse_parameters-requires-clause-few c =
+pub parse_parameters-requires : goal.parse_parameters-requires
+parse_parameters-requires c =
     let m = sym c.is_mask.ensures ∙ c.if-is_mask.false in
     let k = known_found _ _ _ _ c.requires.there _ _ c.next_word-w.ensures m _ _ c.in_ok-place.ensures.result_value c.in_ok-place.ensures.result_in_bounds refl in
-    (known_few k c.requires.few.0 c.push-n.ensures.pushed, k.inside, known_single k _ c.requires.indexed m)
+    (known_few k c.requires.few.0 c.push-n.ensures.pushed, k.inside, known_single k _ c.args.rows.indexed m)
 
 pub returns : goal.returns
 returns c =

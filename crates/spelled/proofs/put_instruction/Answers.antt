@@ -1,6 +1,6 @@
 use Rattle.std.proofs.Common.{◌-◌, ◌<◌, arith}
 use native.Mathlib.Nat.{sub-zero}
-use Rattle.spelled.proofs.Spell.{putting_starts, putting_length, putting_ends, putting_here, putting_room, putting_goes_on, lent_room, said_room, said_put}
+use Rattle.spelled.proofs.Spell.{putting_starts, putting_ends, putting_here, putting_room, putting_goes_on, lent_room, said_room, said_put}
 use Rattle.spelled.proofs.put_instruction.Goals as goal
 
 pub loop-init : goal.loop-init

@@ -7,7 +7,7 @@ use Rattle.untyped.proofs.Values.{begin_bits, bit_small, bit_turn, bit_stops, en
 use Rattle.untyped.proofs.parse_bits.Goals as goal
 
 pub loop-rest-init : goal.loop-rest-init
-loop-rest-init c = begin_bits _ _ _ _ _ _ _ _ c.requires.few (omega arith)
+loop-rest-init c = begin_bits _ _ _ _ _ _ _ _ c.requires (omega arith)
 
 pub overflow_cast-bit : goal.overflow_cast-bit
 overflow_cast-bit c = omega (arith, bit_small c.loop-rest.invariant c.loop-rest-test.true)

@@ -9,7 +9,7 @@ use Rattle.untyped.proofs.parse_bits.Given as goal
 
 abbrev pub invariant-loop-rest : goal.invariant-loop-rest
 invariant-loop-rest l =
-    Masked l.s (read_each (grammar_of l.g) (bit_parameters l.kind (grammar_of l.g).enumerants (bits_of l.value)) (reader_of l.s l.fn.start)) l.initial.log l.initial.strings l.log l.strings l.fn.used l.fn.start l.d l.u (grammar_of l.g) l.kind l.bit l.rest
+    Masked l.s (read_each (grammar_of l.rows.bytes.now) (bit_parameters l.kind (grammar_of l.rows.bytes.now).enumerants (bits_of l.value)) (reader_of l.s l.fn.start)) l.initial.log l.initial.strings l.log l.strings l.fn.used l.fn.start l.d l.u (grammar_of l.rows.bytes.now) l.kind l.bit l.rest
 
 abbrev pub decreases-loop-rest : goal.decreases-loop-rest
 decreases-loop-rest l = l.rest

@@ -4,11 +4,11 @@ use Rattle.untyped.proofs.Walk.{same_read}
 use Rattle.untyped.proofs.Values.{nothing, found_none, found_at, place_told, same_single, same_each}
 use Rattle.untyped.proofs.parse_listed.Goals as goal
 
-pub parse_parameters-requires-clause-few : goal.parse_parameters-requires-clause-few
-parse_parameters-requires-clause-few c = (
-  c.requires.few,
+pub parse_parameters-requires : goal.parse_parameters-requires
+parse_parameters-requires c = (
+  c.requires,
   place_told _ _ _ c.find_enumerant.ensures.result_in_bounds c.in-Some.is,
-  same_single _ _ (listed_single _ _ c.requires.indexed _ _) (found_at _ _ _ _ c.find_enumerant.ensures.result_value c.in-Some.is),
+  same_single _ _ (listed_single _ _ c.args.rows.indexed _ _) (found_at _ _ _ _ c.find_enumerant.ensures.result_value c.in-Some.is),
 )
 
 pub returns-in-Some : goal.returns-in-Some
@@ -16,4 +16,4 @@ returns-in-Some c =
     same_read _ _ _ _ _ _ _ _ _ _ _ (same_each _ _ _ _ (found_at _ _ _ _ c.find_enumerant.ensures.result_value c.in-Some.is)) c.parse_parameters.ensures
 
 pub returns-in-None : goal.returns-in-None
-returns-in-None c = nothing _ _ _ _ _ _ _ c.requires.few (found_none _ _ _ c.find_enumerant.ensures.result_value c.in-None.is)
+returns-in-None c = nothing _ _ _ _ _ _ _ c.requires (found_none _ _ _ c.find_enumerant.ensures.result_value c.in-None.is)

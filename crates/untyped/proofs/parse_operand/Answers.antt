@@ -9,7 +9,7 @@ use Rattle.untyped.proofs.Values.{place_listed, operand_known, operand_bad, pair
 use Rattle.untyped.proofs.parse_operand.Goals as goal
 
 pub push-n-requires : goal.push-n-requires
-push-n-requires c = may_push c.requires.few.0 (narrow_fits _ _ (enum_narrow _ (sym c.is_enum.ensures ∙ c.if-is_enum.true)) (omega arith))
+push-n-requires c = may_push c.requires.0 (narrow_fits _ _ (enum_narrow _ (sym c.is_enum.ensures ∙ c.if-is_enum.true)) (omega arith))
 
 pub returns-in_err-v : goal.returns-in_err-v
 returns-in_err-v c =
@@ -19,7 +19,7 @@ returns-in_err-v c =
 pub parse_values-requires-clause-few : goal.parse_values-requires-clause-few
 parse_values-requires-clause-few c =
     let k = known_told _ _ _ _ _ _ _ _ c.in_ok-v.ensures refl in
-    (few_pushed _ _ _ _ _ _ _ _ c.requires.few.0 k.step (omega arith) c.push-n.ensures.pushed, k.inside)
+    (few_pushed _ _ _ _ _ _ _ _ c.requires.0 k.step (omega arith) c.push-n.ensures.pushed, k.inside)
 
 pub parse_values-requires-clause-place_value : goal.parse_values-requires-clause-place_value
 parse_values-requires-clause-place_value c = place_listed _ _ _ _ _ _ _ (known_told _ _ _ _ _ _ _ _ c.in_ok-v.ensures refl)
@@ -29,25 +29,25 @@ returns-then-is_enum c =
     let k = known_told _ _ _ _ _ _ _ _ c.in_ok-v.ensures refl in
     let e = sym c.is_enum.ensures ∙ c.if-is_enum.true in
     seq (held_narrow _ _ _ _ _ _ _ (enum_narrow _ e) c.push-n.ensures.pushed c.push-n.ensures.laid) _ _ _ _ _ _
-    (step_went _ _ _ _ k.step _ c.requires.few.0.limited) (spotted_enum _ _ _ _ _ _ _ k.step e c.push-n.ensures.breaks_value)
+    (step_went _ _ _ _ k.step _ c.requires.0.limited) (spotted_enum _ _ _ _ _ _ _ k.step e c.push-n.ensures.breaks_value)
     (operand_known _ _ _ _ _ c.is_enum.ensures c.if-is_enum.true _ _ _ k) _ c.parse_values.ensures
 
-pub parse_pair-requires-clause-few : goal.parse_pair-requires-clause-few
-parse_pair-requires-clause-few c = (c.requires.few.0, number_single)
+pub parse_pair-requires : goal.parse_pair-requires
+parse_pair-requires c = (c.requires.0, number_single)
 
 pub returns-then-kind-eq-ID_AND_LITERAL : goal.returns-then-kind-eq-ID_AND_LITERAL
 returns-then-kind-eq-ID_AND_LITERAL c =
     same_read _ _ _ _ _ _ _ _ _ _ _ (pair_number _ _ _ _ _ c.is_enum.ensures c.if-is_enum.false c.if-kind-eq-ID_AND_LITERAL.true) c.parse_pair.ensures
 
-pub parse_pair-requires-then-kind-eq-ID_AND_ID-clause-few : goal.parse_pair-requires-then-kind-eq-ID_AND_ID-clause-few
-parse_pair-requires-then-kind-eq-ID_AND_ID-clause-few c = (c.requires.few.0, id_single)
+pub parse_pair-requires-then-kind-eq-ID_AND_ID : goal.parse_pair-requires-then-kind-eq-ID_AND_ID
+parse_pair-requires-then-kind-eq-ID_AND_ID c = (c.requires.0, id_single)
 
 pub returns-then-kind-eq-ID_AND_ID : goal.returns-then-kind-eq-ID_AND_ID
 returns-then-kind-eq-ID_AND_ID c =
     same_read _ _ _ _ _ _ _ _ _ _ _ (pair_ids _ _ _ _ _ c.is_enum.ensures c.if-is_enum.false c.if-kind-eq-ID_AND_ID.true) c.parse_pair-then-kind-eq-ID_AND_ID.ensures
 
-pub read_one-requires-clause-few : goal.read_one-requires-clause-few
-read_one-requires-clause-few c = (c.requires.few.0, untyped_single _ c.requires.few.1 c.if-kind-eq-ID_AND_LITERAL.false c.if-kind-eq-ID_AND_ID.false)
+pub read_one-requires : goal.read_one-requires
+read_one-requires c = (c.requires.0, untyped_single _ c.requires.1 c.if-kind-eq-ID_AND_LITERAL.false c.if-kind-eq-ID_AND_ID.false)
 
 pub returns : goal.returns
 returns c =

@@ -7,15 +7,15 @@ use Rattle.untyped.proofs.Values.{each_done}
 use mathlib.Core.List.{◌∷◌, []}
 use Rattle.untyped.proofs.parse_pair.Goals as goal
 
-pub read_one-requires-clause-few : goal.read_one-requires-clause-few
-read_one-requires-clause-few c = (c.requires.few.0, id_single)
+pub read_one-requires : goal.read_one-requires
+read_one-requires c = (c.requires.0, id_single)
 
 pub returns-in_err-n : goal.returns-in_err-n
 returns-in_err-n c =
     rw (passed_on _ c.from_residual.ensures) (first_bad _ _ _ (each_cons _ _ _ _) _ _ _ _ _ _ _ _ _ _ _ c.in_err-n.ensures refl)
 
-pub read_one-requires-2-clause-few : goal.read_one-requires-2-clause-few
-read_one-requires-2-clause-few c = ((good_told _ _ _ c.in_ok-n.ensures refl).few, c.requires.few.1)
+pub read_one-requires-2 : goal.read_one-requires-2
+read_one-requires-2 c = ((good_told _ _ _ c.in_ok-n.ensures refl).few, c.requires.1)
 
 pub returns : goal.returns
 returns c =

@@ -7,10 +7,10 @@ use Rattle.untyped.proofs.Values.{begins, ends, turn, stops, each_none, each_nex
 use Rattle.untyped.proofs.parse_parameters.Goals as goal
 
 pub loop-k-init : goal.loop-k-init
-loop-k-init c = (begins _ _ _ _ _ _ c.requires.few.0, c.requires.few.1, c.requires.few.2)
+loop-k-init c = (begins _ _ _ _ _ _ c.requires.0, c.requires.1, c.requires.2)
 
-pub read_one-requires-clause-few : goal.read_one-requires-clause-few
-read_one-requires-clause-few c =
+pub read_one-requires : goal.read_one-requires
+read_one-requires c =
     (c.loop-k.invariant.0.few, (single_first _ _ _ c.loop-k.invariant.2 (kind_told _ _ _ _ c.parameter_at.ensures.g_value c.in-Some.is)).0)
 
 pub returns-in_err-n : goal.returns-in_err-n

@@ -10,8 +10,8 @@ use Rattle.untyped.proofs.parse_parameters.Given as goal
 
 abbrev pub invariant-loop-k : goal.invariant-loop-k
 invariant-loop-k l =
-    Running l.s (read_each (grammar_of l.g) (parameters_at l.g l.fn.place) (reader_of l.s l.fn.start)) l.initial.log l.initial.strings l.log l.strings l.fn.used l.fn.start l.d l.u (read_each (grammar_of l.g) (parameters_at l.g l.p))
-    × (l.p ≤ length l.g) × (every is_single (parameters_at l.g l.p) ≡ true)
+    Running l.s (read_each (grammar_of l.rows.bytes.now) (parameters_at l.rows.bytes.now l.fn.place) (reader_of l.s l.fn.start)) l.initial.log l.initial.strings l.log l.strings l.fn.used l.fn.start l.d l.u (read_each (grammar_of l.rows.bytes.now) (parameters_at l.rows.bytes.now l.p))
+    × (l.p ≤ length l.rows.bytes.now) × (every is_single (parameters_at l.rows.bytes.now l.p) ≡ true)
 
 abbrev pub decreases-loop-k : goal.decreases-loop-k
-decreases-loop-k l = length l.g - l.p
+decreases-loop-k l = length l.rows.bytes.now - l.p

@@ -3,17 +3,17 @@
 use Rattle.assemble.proofs.Writing.{cut_log, cut_strings, lent_good, order_good, order_bad}
 use Rattle.assemble.proofs.write.write_order.Goals as goal
 
-pub slice_bounds-log-end : goal.slice_bounds-log-end
-slice_bounds-log-end c =
+pub slice_bounds-good-end : goal.slice_bounds-good-end
+slice_bounds-good-end c =
     cut_log _ _ _ _ _ _ _ _ c.check-checked.ensures c.in_default.is
 
-pub slice_bounds-strings-end : goal.slice_bounds-strings-end
-slice_bounds-strings-end c =
+pub slice_bounds-good-end-in_default : goal.slice_bounds-good-end-in_default
+slice_bounds-good-end-in_default c =
     cut_strings _ _ _ _ _ _ _ _ c.check-checked.ensures c.in_default.is
 
-pub write_good-requires : goal.write_good-requires
-write_good-requires c =
-    lent_good _ _ _ _ _ _ _ _ c.check-checked.ensures c.in_default.is
+pub invariant_of-good : goal.invariant_of-good
+invariant_of-good c =
+    record { stores = lent_good _ _ _ _ _ _ _ _ c.check-checked.ensures c.in_default.is }
 
 pub returns-in_default : goal.returns-in_default
 returns-in_default c =

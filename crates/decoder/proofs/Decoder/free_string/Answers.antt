@@ -29,9 +29,9 @@ returns-in-Ok c = let r = sought_free c.args.s.now _ _ c.requires.0 c.requires.1
 pub returns-in-Err-NoZero : goal.returns-in-Err-NoZero
 unfolding end_answer
 returns-in-Err-NoZero c = let r = sought_free c.args.s.now _ _ c.requires.0 c.requires.1 in
-    text_by r (Err NoZero) _ (rw c.in-Err-NoZero.field-0-is at c.in-Err-NoZero.ensures) c.no_text.ensures
+    text_by r (Err NoZero) _ (rw c.in-Err-NoZero.field-0-is at c.in-Err-NoZero.ensures) c.refused.ensures
 
 pub returns-in-Err-NotUtf8 : goal.returns-in-Err-NotUtf8
 unfolding end_answer
 returns-in-Err-NotUtf8 c = let r = sought_free c.args.s.now _ _ c.requires.0 c.requires.1 in
-    text_by r (Err NotUtf8) _ (rw c.in-Err-NotUtf8.field-0-is at c.in-Err-NotUtf8.ensures) c.no_text-in-Err-NotUtf8.ensures
+    text_by r (Err NotUtf8) _ (rw c.in-Err-NotUtf8.field-0-is at c.in-Err-NotUtf8.ensures) c.refused-in-Err-NotUtf8.ensures

@@ -8,7 +8,7 @@ use Rattle.decoder.proofs.Decoder.limited_string.Goals as goal
 
 pub returns-then-s-at : goal.returns-then-s-at
 unfolding end_answer
-returns-then-s-at c = text_past _ _ _ _ _ c.requires.0 c.requires.1 c.if-s-at.true c.no_text.ensures
+returns-then-s-at c = text_past _ _ _ _ _ c.requires.0 c.requires.1 c.if-s-at.true c.refused.ensures
 
 pub text_break-breaks-requires : goal.text_break-breaks-requires
 unfolding end_answer
@@ -38,9 +38,9 @@ returns-in-Ok c = let r = sought_words c.args.s.now _ _ _ c.requires.0 c.require
 pub returns-in-Err-NoZero : goal.returns-in-Err-NoZero
 unfolding end_answer
 returns-in-Err-NoZero c = let r = sought_words c.args.s.now _ _ _ c.requires.0 c.requires.1 c.if-s-at.false in
-    text_by r (Err NoZero) _ (rw c.in-Err-NoZero.field-0-is at c.in-Err-NoZero.ensures) c.no_text-in-Err-NoZero.ensures
+    text_by r (Err NoZero) _ (rw c.in-Err-NoZero.field-0-is at c.in-Err-NoZero.ensures) c.refused-in-Err-NoZero.ensures
 
 pub returns-in-Err-NotUtf8 : goal.returns-in-Err-NotUtf8
 unfolding end_answer
 returns-in-Err-NotUtf8 c = let r = sought_words c.args.s.now _ _ _ c.requires.0 c.requires.1 c.if-s-at.false in
-    text_by r (Err NotUtf8) _ (rw c.in-Err-NotUtf8.field-0-is at c.in-Err-NotUtf8.ensures) c.no_text-in-Err-NotUtf8.ensures
+    text_by r (Err NotUtf8) _ (rw c.in-Err-NotUtf8.field-0-is at c.in-Err-NotUtf8.ensures) c.refused-in-Err-NotUtf8.ensures

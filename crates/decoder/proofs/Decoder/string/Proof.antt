@@ -10,7 +10,7 @@ string_spec =
     tie.close
     (tie.spec
     (λ c κs. search rules)
-    (λ c. text_beyond _ _ _ c.no_text.ensures c.before.if-s-at.true)
+    (λ c. text_beyond _ _ _ c.refused.ensures c.before.if-s-at.true)
     (λ c. search rules)
     (λ c κs. search rules)
     (λ c. search rules)

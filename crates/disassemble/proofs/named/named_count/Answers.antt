@@ -8,8 +8,8 @@ pub record_at-requires : goal.record_at-requires
 record_at-requires c =
     count_inside c.loop-i.invariant c.loop-i-test.true
 
-pub is_named-requires-clause-all_readable : goal.is_named-requires-clause-all_readable
-is_named-requires-clause-all_readable c =
+pub is_named-requires : goal.is_named-requires
+is_named-requires c =
     count_readable c.loop-i.invariant c.loop-i-test.true _ c.record_at.ensures
 
 pub returns-then-not-is_named : goal.returns-then-not-is_named

@@ -6,8 +6,8 @@ use Rattle.disassemble.proofs.Judged.{passing_bad, passing_on, passing_ends}
 use native.Mathlib.Omega.{arith}
 use Rattle.disassemble.proofs.named.operands_named.Goals as goal
 
-pub operand_named-requires-clause-readable : goal.operand_named-requires-clause-readable
-operand_named-requires-clause-readable c = (readable_more _ _ _ _ (omega arith) c.loop.invariant.readable).0
+pub operand_named-requires : goal.operand_named-requires
+operand_named-requires c = (readable_more _ _ _ _ (omega arith) c.loop.invariant.readable).0
 
 pub returns-then-not-operand_named : goal.returns-then-not-operand_named
 returns-then-not-operand_named c =

@@ -16,8 +16,12 @@ pub slice_bounds-strings-end : goal.slice_bounds-strings-end
 slice_bounds-strings-end c =
     most_length _ _ c.args.strings.now c.at_most-strings_end.ensures
 
+pub new-names-requires : goal.new-names-requires
+new-names-requires c = indexed_by _ _ c.table-run.ensures c.prepared-index.ensures
+
 pub named_count-named-requires : goal.named_count-named-requires
-named_count-named-requires c = record { indexed = indexed_by _ _ c.table-run.ensures c.prepared-index.ensures; told = call_told _ _ _ _ _ _ _ c.check-checked.ensures _ _ (part_is c.args.log.now _ _ c.at_most-log_end.ensures) (part_is c.args.strings.now _ _ c.at_most-strings_end.ensures) _ c.before_bad-count.ensures }
+named_count-named-requires c =
+    call_told _ _ _ _ _ _ _ c.check-checked.ensures _ _ (part_is c.args.log.now _ _ c.at_most-log_end.ensures) (part_is c.args.strings.now _ _ c.at_most-strings_end.ensures) _ c.before_bad-count.ensures
 
 pub overflow_add-named : goal.overflow_add-named
 overflow_add-named c = omega (arith, c.if-named-count.true)
@@ -27,7 +31,8 @@ returns-then-named-count c =
     call_unnamed _ _ _ _ _ _ _ c.check-checked.ensures _ _ (part_is c.args.log.now _ _ c.at_most-log_end.ensures) (part_is c.args.strings.now _ _ c.at_most-strings_end.ensures) _ c.before_bad-count.ensures _ c.named_count-named.ensures _ _ _ c.if-named-count.true c.bad_record.ensures
 
 pub write_good-requires : goal.write_good-requires
-write_good-requires c = record { indexed = indexed_by _ _ c.table-run.ensures c.prepared-index.ensures; good_stores = call_stores _ _ _ _ _ _ _ c.check-checked.ensures _ _ (part_is c.args.log.now _ _ c.at_most-log_end.ensures) (part_is c.args.strings.now _ _ c.at_most-strings_end.ensures) _ c.before_bad-count.ensures c.in_default.is }
+write_good-requires c =
+    call_stores _ _ _ _ _ _ _ c.check-checked.ensures _ _ (part_is c.args.log.now _ _ c.at_most-log_end.ensures) (part_is c.args.strings.now _ _ c.at_most-strings_end.ensures) _ c.before_bad-count.ensures c.in_default.is
 
 pub returns-in_default : goal.returns-in_default
 returns-in_default c =

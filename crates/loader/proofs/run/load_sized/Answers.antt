@@ -3,5 +3,5 @@ use Rattle.std.proofs.Common.{rules}
 use Rattle.loader.proofs.Beginning.{blank_hints}
 use Rattle.loader.proofs.run.load_sized.Goals as goal
 
-pub load_with-requires-clause-in_bounds : goal.load_with-requires-clause-in_bounds
-load_with-requires-clause-in_bounds g c = (search rules, blank_hints _)
+pub load_with-requires : goal.load_with-requires
+load_with-requires g c = (search rules, blank_hints _)

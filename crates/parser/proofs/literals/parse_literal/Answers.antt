@@ -7,28 +7,28 @@ use Rattle.untyped.proofs.Walk.{deny, accept, same_read}
 use Rattle.untyped.proofs.LiteralLaws.{literal_none, literal_one, long_good, long_bad}
 use Rattle.parser.proofs.literals.parse_literal.Goals as goal
 
-pub returns-then-literal-eq0 : goal.returns-then-literal-eq0
-returns-then-literal-eq0 c = deny _ _ _ _ _ _ _ _ _ _ _ _ c.refused.ensures (literal_none _ _ _ c.if-literal-eq0.true)
+pub returns-in_default : goal.returns-in_default
+returns-in_default c = deny _ _ _ _ _ _ _ _ _ _ _ _ c.refused.ensures (literal_none _ _ _ c.in_default.is)
 
 pub returns-in_err-v : goal.returns-in_err-v
 returns-in_err-v c =
-    deny _ _ _ _ _ _ _ _ _ _ _ _ (passed_on _ c.from_residual.ensures) (long_bad _ _ _ c.if-literal.true _ _ c.in_err-v.ensures)
+    deny _ _ _ _ _ _ _ _ _ _ _ _ (passed_on _ c.from_residual.ensures) (long_bad _ _ _ _ c.in-Some.is c.if-kind.true _ _ c.in_err-v.ensures)
 
 pub push-requires : goal.push-requires
-push-requires c = may_push c.requires.few.0 (long_fits _ _ c.if-literal.true)
+push-requires c = may_push c.requires.0 (long_fits _ _ c.if-kind.true)
 
-pub returns-then-literal : goal.returns-then-literal
-returns-then-literal c =
-    let f = c.requires.few.0 in
+pub returns-then-kind : goal.returns-then-kind
+returns-then-kind c =
+    let f = c.requires.0 in
     let t = step_long _ _ _ _ c.in_ok-v.ensures in
-    accept _ _ _ _ _ _ _ _ _ _ _ _ (long_good _ _ _ c.if-literal.true _ _ c.in_ok-v.ensures)
-    (held_wide _ _ _ _ _ _ _ c.if-literal.true c.push.ensures.pushed c.push.ensures.laid)
+    accept _ _ _ _ _ _ _ _ _ _ _ _ (long_good _ _ _ _ c.in-Some.is c.if-kind.true _ _ c.in_ok-v.ensures)
+    (held_wide _ _ _ _ _ _ _ c.if-kind.true c.push.ensures.pushed c.push.ensures.laid)
     (few_pushed _ _ _ _ _ _ _ _ f t (omega arith) c.push.ensures.pushed) (long_went _ _ _ _ t f.limited)
     (spotted_long _ _ _ _ _ _ _ t c.push.ensures.breaks_value)
 
-pub read_one-requires-clause-few : goal.read_one-requires-clause-few
-read_one-requires-clause-few c = (c.requires.few.0, word_single _ (literal_word _ c.requires.few.1 c.if-literal-eq0.false c.if-literal.false))
+pub read_one-requires : goal.read_one-requires
+read_one-requires c = (c.requires.0, word_single _ (literal_word _ c.requires.1 _ c.in-Some.is c.if-kind.false))
 
 pub returns : goal.returns
 returns c =
-    same_read _ _ _ _ _ _ _ _ _ _ _ (literal_one _ _ _ _ (literal_word _ c.requires.few.1 c.if-literal-eq0.false c.if-literal.false)) c.read_one.ensures
+    same_read _ _ _ _ _ _ _ _ _ _ _ (literal_one _ _ _ _ c.in-Some.is _ (literal_word _ c.requires.1 _ c.in-Some.is c.if-kind.false)) c.read_one.ensures

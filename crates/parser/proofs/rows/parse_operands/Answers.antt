@@ -21,8 +21,8 @@ returns-then-limit_reached c =
 pub literal_for-literal-requires-clause-first_fits : goal.literal_for-literal-requires-clause-first_fits
 literal_for-literal-requires-clause-first_fits c = c.loop-k.invariant.few.fits
 
-pub parse_slot-requires-clause-few : goal.parse_slot-requires-clause-few
-parse_slot-requires-clause-few c =
+pub parse_slot-requires : goal.parse_slot-requires
+parse_slot-requires c =
     (c.loop-k.invariant.few, next_operand c.loop-k.invariant _ _ _ (slot_told _ _ _ c.slot_at.ensures.g_value _ _ c.in-Some.is), c.literal_for-literal.ensures.1)
 
 pub returns-in_err-n : goal.returns-in_err-n
@@ -45,4 +45,4 @@ returns c = row_ends c.loop-k.invariant (end_told _ _ _ c.slot_at.ensures.g_valu
 
 pub next_place-p-requires : goal.next_place-p-requires
 next_place-p-requires c =
-    omega (arith, three_told _ _ _ _ c.slot_at.ensures.result_in_bounds c.in-Some.is, indexed_short _ _ c.requires.indexed)
+    omega (arith, three_told _ _ _ _ c.slot_at.ensures.result_in_bounds c.in-Some.is, indexed_short _ _ c.args.rows.indexed)

@@ -12,19 +12,19 @@ returns-then-set-ne1 c =
 
 pub put_byte-next-requires : goal.put_byte-next-requires
 put_byte-next-requires c =
-    room_first _ _ (room_as _ _ (bit_bar _ _ _ _ c.if-set-ne1.false c.if-bar.true) c.requires.room)
+    room_first _ _ (room_as _ _ (bit_bar _ _ _ _ c.if-set-ne1.false c.if-bar.true) c.requires)
 
-pub put_name-requires-clause-room : goal.put_name-requires-clause-room
-put_name-requires-clause-room c =
-    room_next _ _ (room_as _ _ (bit_bar _ _ _ _ c.if-set-ne1.false c.if-bar.true) c.requires.room) c.put_byte-next.ensures
+pub put_name-requires : goal.put_name-requires
+put_name-requires c =
+    room_next _ _ (room_as _ _ (bit_bar _ _ _ _ c.if-set-ne1.false c.if-bar.true) c.requires) c.put_byte-next.ensures
 
 pub returns-then-bar : goal.returns-then-bar
 returns-then-bar c =
-    wrote_as _ _ (sym (bit_bar _ _ _ _ c.if-set-ne1.false c.if-bar.true)) (wrote_both _ _ (room_as _ _ (bit_bar _ _ _ _ c.if-set-ne1.false c.if-bar.true) c.requires.room) c.put_byte-next.ensures c.put_name.ensures)
+    wrote_as _ _ (sym (bit_bar _ _ _ _ c.if-set-ne1.false c.if-bar.true)) (wrote_both _ _ (room_as _ _ (bit_bar _ _ _ _ c.if-set-ne1.false c.if-bar.true) c.requires) c.put_byte-next.ensures c.put_name.ensures)
 
-pub put_name-requires-2-clause-room : goal.put_name-requires-2-clause-room
-put_name-requires-2-clause-room c =
-    room_as _ _ (bit_first _ _ _ _ c.if-set-ne1.false c.if-bar.false) c.requires.room
+pub put_name-requires-2 : goal.put_name-requires-2
+put_name-requires-2 c =
+    room_as _ _ (bit_first _ _ _ _ c.if-set-ne1.false c.if-bar.false) c.requires
 
 pub returns : goal.returns
 returns c =

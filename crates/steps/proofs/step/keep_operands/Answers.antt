@@ -30,7 +30,6 @@ parse_body-requires c =
     let typed = c.requires.bounded.1 in
     let shown = c.requires.shown in
     record {
-      indexed = c.requires.indexed;
       framed = (
         record {
           short = c.requires.s_len_bound.0;

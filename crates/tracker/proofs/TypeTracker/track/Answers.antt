@@ -15,16 +15,16 @@ resolve-known-requires c = record { count_in_bounds = room_before _ _ _ c.requir
 
 pub returns-in_default-typed : goal.returns-in_default-typed
 returns-in_default-typed c =
-    let known = c.typed-typed.ensures _ c.resolve-known.ensures in
+    let known = c.typed.ensures _ c.resolve-known.ensures in
     tracked_same _ _ _ _ (result_unknown _ _ _ c.in-Some.is _ known c.in_default-typed.is)
     (room_before _ _ _ c.requires.types_in_bounds) c.requires.hinted
 
 pub define-requires : goal.define-requires
-define-requires c = let known = c.typed-typed.ensures _ c.resolve-known.ensures in
-    let same = result_defined _ _ _ c.in-Some.is _ known _ _ c.in-Type.is in
+define-requires c = let known = c.typed.ensures _ c.resolve-known.ensures in
+    let same = result_defined _ _ _ c.in-Some.is _ known _ c.in-Some-typed.is in
     record { count_in_bounds = room_before _ _ _ c.requires.types_in_bounds; hinted = c.requires.hinted; types_in_bounds = omega (arith, ap length same, c.requires.types_in_bounds) }
 
 pub returns : goal.returns
 returns c =
-    let known = c.typed-typed.ensures _ c.resolve-known.ensures in
-    tracked_as _ (result_defined _ _ _ c.in-Some.is _ known _ _ c.in-Type.is) c.define.ensures
+    let known = c.typed.ensures _ c.resolve-known.ensures in
+    tracked_as _ (result_defined _ _ _ c.in-Some.is _ known _ c.in-Some-typed.is) c.define.ensures
