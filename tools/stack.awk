@@ -137,7 +137,7 @@ END {
     for (m in said) {
         f = m
         sub(/_stack_/, "_", f)
-        without = sub(/_short$/, "", f) ? "loader::run::load_many" : ""
+        without = sub(/_short$/, "", f) ? "loader::run::load_sized::<=32768>" : ""
         n = deepest(f, without)
         print "stack: " f (without == "" ? "" : ", short module") ": " thousands(n) " bytes counted of " thousands(said[m]) (ways ? ": " way[f, without] : "") | "sort"
         if (n > said[m]) less = less " " toupper(m)

@@ -165,10 +165,11 @@ fn load_sized<const SIZE: usize>(
         (lent instructions.old log.old strings.old types.old)
         (lent instructions.new log.new strings.new types.new) result }
 {
-    let layout = Layout::new();
     let mut hints = [0u16; SIZE];
     let mut scratch = [0u8; SCRATCH];
     let mut spare = [0u8; SPARE];
+    // The layout last: built before the arrays it has the compiler clear these twice.
+    let layout = Layout::new();
     load_with(
         &layout,
         s,

@@ -3,16 +3,21 @@
 use Prim.Native.Nat.{ℕ}
 use mathlib.Core.Path.{◌≡◌, refl, ap₂, sym, ◌∙◌}
 use mathlib.Core.List.{List}
+use mathlib.Core.HLevel.{is_prop→PathP}
 use Rattle.std.specs.Prelude.{Option, None, Some}
 use native.Mathlib.Omega.{arith}
+use base.Stored.{Coded-set, coded_ℕ, coded_list}
 use Rattle.spec.specs.Records.{Instr}
 use Rattle.spec.specs.Reader.{Reader, got}
 use Rattle.spec.specs.Grammar.{Slot}
 use Rattle.grammar.specs.Find.{slots_then, parameters_then}
+use Rattle.reflect.specs.Column.{kind_table, layout_table}
+use Rattle.reflect.specs.declared.Layout.{Layout}
 use Rattle.tracker.specs.declared.TypeTracker.{TypeTracker}
 use Rattle.steps.specs.declared.parts.Progress.{Progress}
 use Rattle.steps.specs.Steps.{read_at, Stored}
 use Rattle.words.proofs.word_at as word-at-call
+use Rattle.reflect.proofs.Layout.new as layout-new-call
 use Rattle.reflect.proofs.Layout.place as layout-place-call
 use Rattle.grammar.proofs.item_at as item-at-call
 use Rattle.grammar.proofs.item_length as item-length-call
@@ -112,6 +117,20 @@ same_tracker e f h =
     let by : ℕ → ℕ → ℕ → TypeTracker = λ n g m. record { count = n; greatest = g; marks = m } in
     ap₂ (λ (t : ℕ → TypeTracker) (m : ℕ). t m) (ap₂ by e f) h
 
+-- layouts, of which all is known
+same_layout : (x y : Layout) → x ≡ y
+same_layout x y =
+    let k : x.kinds ≡ y.kinds = both x.kinds_known y.kinds_known in
+    let c : x.cells ≡ y.cells = both x.cells_known y.cells_known in
+    λ j.
+    record {
+      kinds = k j;
+      cells = c j;
+      kinds_known = is_prop→PathP (λ i. k i ≡ kind_table) (λ i. Coded-set (coded_list coded_ℕ) (k i) kind_table) x.kinds_known y.kinds_known j;
+      cells_known =
+          is_prop→PathP (λ i. c i ≡ layout_table) (λ i. Coded-set (coded_list (coded_list coded_ℕ)) (c i) layout_table) x.cells_known y.cells_known j;
+    }
+
 -- what is stored of an instruction that was read
 same_stored : (s g types l₀ s₀ l₁ s₁ l₂ s₂ : List ℕ) (p : Progress) (i : Instr) (r : Reader) → read_at s g types p ≡ got i r
     → Stored s g types l₀ s₀ l₁ s₁ p → Stored s g types l₀ s₀ l₂ s₂ p → (l₁ ≡ l₂) × (s₁ ≡ s₂)
@@ -124,7 +143,11 @@ same_stored s g types l₀ s₀ l₁ s₁ l₂ s₂ p i r e x y = (both (x i r e
 pub word_at : Determined word-at-call.Kinds.ps word-at-call.Kinds.r word-at-call.Reads.Asked word-at-call.Reads.Learnt
 word_at = λ κs a x y after other ask p q. (both p q, refl)
 
--- the cell of the layout table
+-- the layout
+pub layout_new : Determined layout-new-call.Kinds.ps layout-new-call.Kinds.r layout-new-call.Reads.Asked layout-new-call.Reads.Learnt
+layout_new = λ κs a x y after other ask p q. (same_layout x y, refl)
+
+-- what it says of an opcode in a state
 pub layout_place : Determined layout-place-call.Kinds.ps layout-place-call.Kinds.r layout-place-call.Reads.Asked layout-place-call.Reads.Learnt
 layout_place = λ κs a x y after other ask p q. (both p q, refl)
 

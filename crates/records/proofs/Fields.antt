@@ -1,13 +1,13 @@
 -- Laws of a record's words, and of the steps of the check over fields and tags.
 use Prim.Native.Nat.{ℕ, suc, min, ◌+◌, ◌*◌, ◌%◌, ◌<◌, ◌≤◌}
-use mathlib.Core.Path.{◌≡◌, refl, ap, sym, ◌∙◌}
+use mathlib.Core.Path.{◌≡◌, refl, ap, sym, subst, ◌∙◌}
 use mathlib.Core.Bool.{Bool, true, false, not, ◌&&◌}
 use mathlib.Core.List.{List, [], ◌∷◌}
-use Rattle.std.specs.Prelude.{option_map, Option, None, Some}
+use Rattle.std.specs.Prelude.{is_some, option_map, Option, None, Some}
 use native.Mathlib.Nat.{add-zero, le_of_lt}
 use native.Mathlib.Omega.{arith}
 use borrow.Author.Tests.{leb-true, leb-false, le-leb, lt-leb, eq-eqb, ne_eqb}
-use lib.Dec.{leb, eqb}
+use lib.Dec.{T, leb, eqb}
 use lib.ListN.{length, take, drop, get_or, set}
 use lib.Seq.{sets, get_or-drop, take_all, take-length, length-take-le}
 use Rattle.spec.specs.declared.State.{State}
@@ -135,21 +135,27 @@ zero_free [] = refl
 zero_free (b ∷ s) = free_cons b s (eqb b 0) (until_zero s) refl refl (zero_free s)
 
 -- the answer of the search decides
-free_by : (o : Option (List ℕ)) (x : Option ℕ) → x ≡ option_map length o → (t : Bool) → is_none o ≡ t → ((i : ℕ) → x ≡ Some i → t ≡ false) × (x ≡ None → t ≡ true)
+free_by : (o : Option (List ℕ)) (n : Bool) → is_some (option_map length o) ≡ not n → is_none o ≡ n
 unfolding is_none
-free_by None x e t f = (λ i g. let z : ◌≡◌ {A = ℕ} 0 1 = cc in absurd (omega arith), λ g. sym f)
-free_by (Some bs) x e t f = (λ i g. sym f, λ g. let z : ◌≡◌ {A = ℕ} 0 1 = cc in absurd (omega arith))
+free_by None true e = refl
+free_by None false e = absurd (subst T (sym e) tt)
+free_by (Some bs) true e = absurd (subst T e tt)
+free_by (Some bs) false e = refl
 
-module _ (s : List ℕ) (x : Option ℕ) (e : x ≡ zero_in s) where
+module _ (s : List ℕ) (x : Option ℕ) (e : x ≡ zero_in s) (n : Bool) (f : is_some x ≡ not n) where
+  zeroless : every (λ x. not (eqb x 0)) s ≡ n
+  unfolding zero_in
+  zeroless = zero_free s ∙ free_by (until_zero s) n (ap is_some (sym e) ∙ f)
+
   -- a zero byte
-  pub string_zero : (i : ℕ) → x ≡ Some i → false ≡ is_string s
-  unfolding is_string zero_in
-  string_zero i q = ap (λ (t : Bool). t && is_utf8 s) (sym (zero_free s ∙ (free_by (until_zero s) x e _ refl).0 i q))
+  pub string_zero : n ≡ false → n ≡ is_string s
+  unfolding is_string
+  string_zero q = q ∙ ap (λ (t : Bool). t && is_utf8 s) (sym (zeroless ∙ q))
 
   -- none
-  pub string_utf8 : x ≡ None → (t : Bool) → t ≡ is_utf8 s → t ≡ is_string s
-  unfolding is_string zero_in
-  string_utf8 q t g = g ∙ ap (λ (t : Bool). t && is_utf8 s) (sym (zero_free s ∙ (free_by (until_zero s) x e _ refl).1 q))
+  pub string_utf8 : n ≡ true → (t : Bool) → t ≡ is_utf8 s → t ≡ is_string s
+  unfolding is_string
+  string_utf8 q t g = g ∙ ap (λ (t : Bool). t && is_utf8 s) (sym (zeroless ∙ q))
 
 -- NUMBERS
 

@@ -7,7 +7,7 @@ ghost use Rattle.std.proofs.lemmas.List.Edits.{sets};
 ghost use Rattle.spec.specs.Records.{field_size, field_words, fields_at, record_size, record_words};
 ghost use Rattle.text.specs.AsciiText.{is_ascii_text};
 ghost use Rattle.spec.specs.Check.{take_operand, take_operands, fault_of};
-ghost use Rattle.records.specs.Steps.{given, end_answer, left_at, fields_hold, offset_after, word_if, result_words, is_string, text_passed, passed_one, passed_all, operands_after, tag_after, is_outside, at_most, fault_in};
+ghost use Rattle.records.specs.Steps.{given, end_answer, left_at, fields_hold, offset_after, result_words, is_string, text_passed, passed_one, passed_all, operands_after, tag_after, is_outside, at_most, fault_in};
 ghost use Rattle.records.specs.Good.{numbers_at, Whole, Logged};
 
 use operand::{Parts, is_two};
@@ -126,14 +126,7 @@ struct Passed {
 fn is_string(s: &[u8]) -> bool
     ensures { result ≡ is_string s.now }
 {
-    if text::is_ascii_text(s) {
-        return true;
-    }
-    let found = text::zero(s);
-    let None = found else {
-        return false;
-    };
-    text::utf8(s)
+    text::is_ascii_text(s) || (text::zero(s).is_none() && text::utf8(s))
 }
 
 // A string of the log: it starts where the strings go on, and lies in them. Where they all are ASCII text, so is it.
@@ -255,24 +248,13 @@ fn pass_operands(
     Some(passed)
 }
 
-// One word for what is there.
-#[tactic(auto, unfolding(crate::specs::Steps::word_if))]
-fn one_if(there: bool) -> usize
-    ensures { result ≡ word_if there }
-{
-    if there {
-        return 1;
-    }
-    0
-}
-
 // How many words the results of a record take.
-#[tactic(auto, using(crate::proofs::Fields::word_few), unfolding(crate::specs::Steps::result_words))]
+#[tactic(auto, using(crate::proofs::Fields::word_few), unfolding(crate::specs::Steps::result_words, crate::specs::Steps::word_if))]
 fn result_words(f: Fields) -> usize
     ensures { result ≡ result_words f }
 {
     let bits = f.head / 65536;
-    one_if(bits % 2 == 1) + one_if(2 <= bits)
+    (bits % 2 == 1) as usize + (2 <= bits) as usize
 }
 
 // A record's operands, which start where the log goes on, and its word count.
@@ -291,8 +273,7 @@ fn operands_after(
     if (f.start as usize) != log_at {
         return None;
     }
-    let count = f.count as usize;
-    let passed = pass_operands(ascii, log, strings, count, log_at, strings_at)?;
+    let passed = pass_operands(ascii, log, strings, f.count as usize, log_at, strings_at)?;
     if (f.words as usize) == 1 + result_words(f) + passed.words {
         return Some(passed);
     }
