@@ -23,7 +23,7 @@ use Rattle.grammar.proofs.item_at as item-at-call
 use Rattle.grammar.proofs.item_length as item-length-call
 use Rattle.grammar.proofs.slot_at as slot-at-call
 use Rattle.grammar.proofs.parameter_at as parameter-at-call
-use Rattle.grammar.proofs.is_known as is-known-call
+use Rattle.grammar.proofs.Rows.is_known as is-known-call
 use Rattle.rules.proofs.are_apart as are-apart-call
 use Rattle.grammar.proofs.is_mask as is-mask-call
 use Rattle.grammar.proofs.is_enum as is-enum-call

@@ -34,9 +34,7 @@ pub fn decode(
     ensures { Shows s.now rows.entry.bytes.now types.now scratch.new spare.new p result }
 {
     let used = unused(0, 0, p.strings, p.breaks);
-    parse_inst(
-        s, p.at, rows, types, hints, p.tracker, scratch, spare, used,
-    )
+    parse_inst(s, p.at, rows, types, hints, p.tracker, scratch, spare, used)
 }
 
 // What type tracking is told of a decoded instruction.
