@@ -13,7 +13,7 @@ use parser::{Decoded, parse_body, parse_inst};
 use records::RECORD;
 use reflect::Layout;
 use room::room_fault;
-use spec::{Cell, Counts, Refusal, State, refusals};
+use spec::{Counts, Refusal, State, refusals};
 use tracker::Told;
 use used::{Frame, unused};
 
