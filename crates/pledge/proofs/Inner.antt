@@ -309,8 +309,8 @@ admit = λ κs a x y after other ask p q. (both p q, refl)
 -- the operands of an instruction that was read, kept
 pub keep_operands : Determined keep-operands-call.Kinds.ps keep-operands-call.Kinds.r keep-operands-call.Reads.Asked keep-operands-call.Reads.Learnt
 keep_operands = λ κs a x y after other ask p q.
-    let same = same_stored _ _ _ _ _ _ _ _ _ _ _ _ ask.1.1.1.1.handed.read p q in
-    (refl, and refl (and refl (and refl (and same.0 (and same.1 refl)))))
+    let same = same_stored _ _ _ _ _ _ _ _ _ _ _ _ ask.1.1.1.handed.read p q in
+    (refl, and refl (and refl (and same.0 (and same.1 refl))))
 
 -- a word put into bytes
 pub put_word : Determined put-word-call.Kinds.ps put-word-call.Kinds.r put-word-call.Reads.Asked put-word-call.Reads.Learnt
