@@ -2,7 +2,7 @@
 // refusals, then one pass that writes.
 #![tactic(auto)]
 
-ghost use Rattle.std.specs.Prelude.{◌≡◌, ◌&&◌, ◌+◌, ◌*◌, ◌/◌, ◌<◌, ◌≤◌, ltb, eqb, length, if◌then◌else◌};
+ghost use Rattle.std.specs.Prelude.{◌≡◌, ◌&&◌, ◌+◌, ◌*◌, ◌/◌, ◌<◌, ◌≤◌, ltb, length, if◌then◌else◌};
 ghost use Rattle.spec.specs.Base.{joined};
 ghost use Rattle.spec.specs.Records.{field_size, field_words, record_size, called_for, numbered};
 ghost use Rattle.spec.specs.Load.{laid_over};

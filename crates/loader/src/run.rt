@@ -70,6 +70,7 @@ fn load_from(
         state: State::Outside,
         breaks: 0,
     };
+    // The place moves by each instruction's words, which no `for` counts.
     while 4 <= s.len() - p.at {
         let read = decode(s, rows, types, hints, scratch, spare, p);
         match admit(layout, types, hints, room, p, read) {

@@ -1,6 +1,6 @@
 // Pieces of text, each kept in the output at a place or only measured: the leaves that test the flag. A place that is only measured stays
 // at the largest once it is there.
-ghost use Rattle.std.specs.Prelude.{◌≡◌, ◌∷◌, [], ◌+◌, min};
+ghost use Rattle.std.specs.Prelude.{◌≡◌, ◌∷◌, [], ◌+◌};
 ghost use Rattle.spec.specs.Digits.{decimal, hex_digits};
 ghost use Rattle.spec.specs.Disassembly.{id_text};
 ghost use Rattle.pieces.specs.Putting.{largest, Room, Wrote};

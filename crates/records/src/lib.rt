@@ -12,7 +12,7 @@ ghost use Rattle.records.specs.Good.{numbers_at, Whole, Logged};
 
 use operand::{Parts, is_two};
 use reflect::Layout;
-use spec::{Cell, Fields, Numbers, State, kinds};
+use spec::{Fields, Numbers, State, kinds};
 
 // How many words the fields of an instruction record have, which were last season's whole record.
 pub const FIELDS: usize = 8;

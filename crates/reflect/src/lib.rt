@@ -3,7 +3,7 @@
 
 ghost use Rattle.std.specs.Prelude.{◌≡◌, ◌≤◌, ◌<◌};
 ghost use Rattle.reflect.specs.Column.{code_of, column_of, layout_table, kind_table};
-ghost use Rattle.spec.specs.Layout.{opcode_kind, layout_at, layout_of};
+ghost use Rattle.spec.specs.Layout.{opcode_kind, layout_of};
 ghost use Rattle.spec.specs.Types.{is_type};
 
 use spec::State::{Block, Function, Outside};

@@ -2,23 +2,21 @@
 use Prim.Native.Nat.{ℕ, ◌+◌, ◌*◌, ◌-◌, ◌≤◌}
 use mathlib.Core.Path.{◌≡◌, sym, ◌∙◌}
 use mathlib.Core.Bool.{Bool, true, false}
-use mathlib.Core.List.{List, ◌∷◌}
+use mathlib.Core.List.{List}
 use Rattle.std.specs.Prelude.{Some}
 use native.Mathlib.Omega.{arith}
-use lib.Dec.{eqb}
 use lib.ListN.{length}
-use Rattle.std.specs.Prelude.{if◌then◌else◌}
 use Rattle.spec.specs.Kinds.{is_result}
-use Rattle.spec.proofs.Choice.{fails, either, in_range}
+use Rattle.spec.proofs.Choice.{fails, in_range}
 use Rattle.spec.specs.Records.{Operand, Entry}
 use Rattle.spec.specs.Reader.{Read}
-use Rattle.spec.specs.Grammar.{Grammar, slot}
+use Rattle.spec.specs.Grammar.{Grammar}
 use Rattle.spec.specs.Match.{read_slot}
 use Rattle.decoder.specs.declared.Decoder.{Decoder}
 use Rattle.decoder.specs.Answer.{reader_of, word_from, limit_reached}
 use Rattle.used.specs.declared.used.Used.{Used}
 use Rattle.used.specs.declared.used.Frame.{Frame}
-use Rattle.used.specs.Parse.{left_of, Went, Few, Parses, literal_for, kind_alone, slots_at, SlotWalks}
+use Rattle.used.specs.Parse.{left_of, Went, Few, Parses, literal_for, kind_alone, SlotWalks}
 use Rattle.used.specs.Fresh.{with_result}
 use Rattle.untyped.specs.Body.{Framed, start_of}
 use Rattle.simple.specs.Simple.{There, IfTaken}
@@ -58,8 +56,3 @@ pub row_there : (s : List ℕ) (d₀ d : Decoder) (u : Used) → Few s d u → W
     → d₀.offset + 4 * left_of d₀.limit ≤ length s → There s d
 unfolding limit_reached
 row_there s d₀ d u f w t p h i = record { left = left_some d.limit f.left f.limited (sym p ∙ h); inside = omega (arith, w.pace, i) }
-
--- the place after an operand that ends inside the grammar lies inside too
-pub next_in : (g : List ℕ) (p j q n : ℕ) → slots_at g p ≡ slot j q ∷ slots_at g (p + 3) → n ≡ (if eqb q 2 then p else p + 3) → p + 3 ≤ length g
-    → n ≤ length g
-next_in g p j q n at e h = rw e (either (λ k. k ≤ length g) (eqb q 2) p (p + 3) (λ x. omega (arith, h)) (λ x. h))

@@ -1,6 +1,5 @@
 // The parts of a load: where it stands, what it answers, and the fields of a record.
 ghost use Rattle.std.specs.Prelude.{◌≡◌, ◌≤◌, ◌<◌, eqb, if◌then◌else◌};
-ghost use Rattle.spec.specs.Base.{or_zero};
 ghost use Rattle.spec.specs.Plain.{first_break, tail_break};
 ghost use Rattle.spec.specs.Records.{presence};
 ghost use Rattle.spec.specs.Layout.{end_number};

@@ -13,7 +13,7 @@ use parser::{Decoded, parse_body, parse_inst};
 use records::RECORD;
 use reflect::Layout;
 use room::room_fault;
-use spec::{Cell, Counts, Refusal, State, refusals};
+use spec::{Counts, Refusal, State, refusals};
 use tracker::Told;
 use used::{Frame, unused};
 
@@ -118,6 +118,7 @@ fn put_records(log: &mut [u8], at: usize, records: &[u8])
     ensures { log.new ≡ sets log.old at records.now }
 {
     let mut i = 0;
+    // A byte and a word at a time: of so few bytes, a call that copies them takes longer.
     while 5 <= records.len() - i {
         let word = words::word_at(records, i + 1);
         log[at + i] = records[i];

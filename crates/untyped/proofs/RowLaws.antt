@@ -1,20 +1,19 @@
 -- Laws of the walk over a row's operands.
 use Prim.Native.Nat.{ℕ, zero, suc, ◌+◌, ◌*◌, ◌-◌, ◌<◌, ◌≤◌}
 use mathlib.Core.Path.{◌≡◌, refl, ap, sym, subst, ◌∙◌}
-use mathlib.Core.Bool.{Bool, true, false, not, ◌&&◌, true≢false}
+use mathlib.Core.Bool.{Bool, true, false, ◌&&◌, true≢false}
 use mathlib.Core.List.{List, [], ◌∷◌}
 use native.Mathlib.Omega.{arith}
-use borrow.Author.Tests.{eq-eqb, ne_eqb, eqb-true, eqb-false}
+use borrow.Author.Tests.{eq-eqb, ne_eqb, eqb-false}
 use lib.Dec.{eqb}
-use lib.ListN.{length, drop, length-drop}
+use lib.ListN.{drop}
 use Rattle.spec.specs.declared.Refusal.{Refusal}
 use Rattle.std.specs.Prelude.{if◌then◌else◌}
-use Rattle.spec.specs.Base.{has}
-use Rattle.spec.proofs.Choice.{cases, either}
+use Rattle.spec.proofs.Choice.{cases}
 use Rattle.spec.specs.Kinds.{may_be_operand}
 use Rattle.spec.specs.Records.{operands_log, operands_strings, Entry}
 use Rattle.spec.specs.Reader.{Read, got, after, refusal, reached, reader_at}
-use Rattle.spec.specs.Grammar.{Grammar, Item, broken, Slot, slot, is_slot, body_length, item_of, grammar_of, items, items_from, slots_of}
+use Rattle.spec.specs.Grammar.{Grammar, Slot, slot, is_slot, grammar_of, items, slots_of}
 use Rattle.spec.specs.Match.{Seen, nothing_seen, none_left, slots_after, read_slot, read_row}
 use Rattle.demands.proofs.Formed.{RowFrom}
 use Rattle.demands.proofs.Rows.{as_operands, Free, free_none, row_after}
@@ -146,14 +145,6 @@ answer_told s d k f log₀ strs₀ log strs log₁ strs₁ u₀ u x v z w h q = 
 
 module _ {s : List ℕ} {g : Grammar} {types : List Entry} {x : Read Seen} {log₀ strs₀ log strs : List ℕ} {u₀ : Used} {d₀ d : Decoder} {u : Used} {ss : List Slot}
     (r : Rowing s g types x log₀ strs₀ log strs u₀ d₀ d u ss) where
-  -- the log keeps its length
-  pub row_log : length log ≡ length log₀
-  row_log = r.walked.log_laid.same
-
-  -- the strings keep theirs
-  pub row_strings : length strs ≡ length strs₀
-  row_strings = r.walked.strings_laid.same
-
   -- a walk that ends here
   row_good_lem : x ≡ got r.seen (reader_of s d) → Walks s d₀ 0 x log₀ strs₀ log strs u₀ (Ok (u, d))
   unfolding Walks
@@ -281,34 +272,3 @@ module _ (g : List ℕ) (p : ℕ) (v : Option (ℕ × ℕ)) (h : slots_of (items
 pub three_told : (n : ℕ) (v : Option (ℕ × ℕ)) (k q : ℕ) → slot_bytes v ≤ n → v ≡ Some (k, q) → 3 ≤ n
 unfolding slot_bytes
 three_told n v k q h e = rw e at h
-
--- an item of another kind is no operand
-other_kind : (b : ℕ) (l : List ℕ) (xs : List Item) → eqb b 2 ≡ false → slots_of (item_of b l ∷ xs) ≡ []
-unfolding slots_of
-other_kind b l xs h =
-    let bare : Item → Type 0 = λ x. slots_of (x ∷ xs) ≡ [] in
-    let known = either bare (eqb b 3) _ _ (λ e. refl) (λ e. either bare (eqb b 4) _ broken (λ f. refl) (λ f. refl)) in
-    rw h (either bare (not (has (body_length b) l)) broken _ (λ e. refl) (λ e. either bare (eqb b 1) _ _ (λ f. refl) (λ f. known)))
-
--- an operand cut short is none
-cut_short : (l : List ℕ) (xs : List Item) → length l ≤ 1 → slots_of (item_of 2 l ∷ xs) ≡ []
-unfolding slots_of
-cut_short [] xs h = refl
-cut_short (x ∷ []) xs h = refl
-cut_short (x ∷ y ∷ l) xs h = absurd (omega (arith, h))
-
--- fewer bytes than an operand has say none
-few_slots : (l : List ℕ) → length l ≤ 2 → slots_of (items l) ≡ []
-unfolding slots_of items items_from
-few_slots [] h = refl
-few_slots (b ∷ l) h =
-    cases (eqb b 2) (λ e. rw (eqb-true b 2 e) (cut_short l (items_from 2 l) (omega (arith, h)))) (other_kind b l (items_from (body_length b) l))
-
--- where fewer bytes are left than an operand has, there is none
-pub end_short : (g : List ℕ) (p : ℕ) → length g ≤ p + 2 → slots_at g p ≡ []
-unfolding slots_at
-end_short g p h = few_slots (drop p g) (simp length-drop (omega (arith, h)))
-
--- past the end there is none
-pub end_past : (g : List ℕ) (p : ℕ) → length g ≤ p → slots_at g p ≡ []
-end_past g p h = end_short g p (omega (arith, h))

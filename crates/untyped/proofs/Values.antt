@@ -7,7 +7,7 @@ use Rattle.std.specs.Prelude.{Option, None, Some}
 use native.Mathlib.Omega.{arith}
 use borrow.Author.Tests.{eq-eqb, ne_eqb}
 use lib.Dec.{eqb}
-use lib.ListN.{length, drop, drop_of_length-le}
+use lib.ListN.{drop}
 use Rattle.spec.specs.declared.Refusal.{Refusal}
 use Rattle.std.specs.Prelude.{if◌then◌else◌}
 use Rattle.spec.specs.Base.{every}
@@ -15,7 +15,7 @@ use Rattle.spec.specs.Words.{bits_from, bits_of}
 use Rattle.spec.specs.Kinds.{is_mask, is_enum}
 use Rattle.spec.specs.Records.{Operand, narrow}
 use Rattle.spec.specs.Reader.{Reader, Read, got, refused, Parse, after}
-use Rattle.spec.specs.Grammar.{Grammar, Enumerant, grammar_of, items, items_from, parameters_of, listed, both_listed, bits_listed, parameters_for}
+use Rattle.spec.specs.Grammar.{Grammar, Enumerant, grammar_of, items, parameters_of, listed, both_listed, bits_listed, parameters_for}
 use Rattle.spec.specs.Match.{Known, with_parameters, parts_of, read_enumerant, read_each, read_operand}
 use Rattle.decoder.specs.declared.Decoder.{Decoder}
 use Rattle.decoder.specs.Answer.{reader_of}
@@ -146,11 +146,6 @@ none_told g p v h e = rw e at h
 pub bytes_told : (n : ℕ) (v : Option ℕ) (j : ℕ) → parameter_bytes v ≤ n → v ≡ Some j → 2 ≤ n
 unfolding parameter_bytes
 bytes_told n v j h e = rw e at h
-
--- past the end there is none
-pub none_past : (g : List ℕ) (p : ℕ) → length g ≤ p → parameters_at g p ≡ []
-unfolding parameters_at parameters_of items items_from
-none_past g p h = ap (λ (l : List ℕ). parameters_of (items l)) (drop_of_length-le g {i = p} h)
 
 -- the first of kinds that are each one record, and the rest
 pub single_first : (ks js : List ℕ) (j : ℕ) → every is_single ks ≡ true → ks ≡ (j ∷ []) ++ js → (is_single j ≡ true) × (every is_single js ≡ true)

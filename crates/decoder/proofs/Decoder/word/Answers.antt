@@ -1,6 +1,5 @@
 -- `Decoder::word` meets its contract: a spent limit, a stream that ends, a word.
 use mathlib.Core.Path.{refl, sym, ◌∙◌}
-use native.Mathlib.Omega.{arith}
 use borrow.Author.Tests.{ltb-false}
 use Rattle.decoder.proofs.Steps.{word_spent, word_ended, word_there}
 use Rattle.decoder.proofs.Decoder.word.Goals as goal
