@@ -2,12 +2,14 @@
 ghost use Rattle.std.specs.Prelude.{◌≡◌, List, [], ◌++◌, ◌+◌, ◌-◌, ◌<◌, ◌≤◌, drop};
 ghost use Rattle.spec.specs.Records.{Placed};
 ghost use Rattle.spec.specs.Write.{functions};
-ghost use Rattle.spelled.specs.Placing.{GoodStores, instrs_of, one_at, tagged};
+ghost use Rattle.spelled.specs.Placing.{one_at, tagged};
+ghost use Rattle.spelled.specs.Said.{said};
 ghost use Rattle.spelled.proofs.Orders.{sections_from};
 ghost use Rattle.disassemble.specs.Listed.{last_tagged, section_after, InSection, sections_left, parameters_left, left_of, Follows};
 
 use records::record_at;
 use spec::tags;
+use spelled::Good;
 
 // Where module order is: in a section, from an index on; in the functions, from an index on (tag 12); or in the parameters of one, from
 // an index on (tag 13), whose definition goes on at another.
@@ -19,51 +21,35 @@ pub struct Cursor {
 }
 
 // The first index from one on whose record has a tag, or the count.
-fn first_tagged(
-    instructions: &[u32],
-    log: &[u8],
-    strings: &[u8],
-    count: usize,
-    start: usize,
-    tag: u32,
-) -> usize
-    requires { GoodStores instructions.now log.now strings.now count }
-    ensures { (result < count → tagged tag (drop start (instrs_of instructions.now log.now strings.now count)) ≡ one_at (instrs_of instructions.now log.now strings.now count) result ++ tagged tag (drop (result + 1) (instrs_of instructions.now log.now strings.now count))) × (count ≤ result → tagged tag (drop start (instrs_of instructions.now log.now strings.now count)) ≡ []) }
+fn first_tagged(good: Good, start: usize, tag: u32) -> usize
+    ensures { (result < good.entry.count → tagged tag (drop start (said good.entry)) ≡ one_at (said good.entry) result ++ tagged tag (drop (result + 1) (said good.entry))) × (good.entry.count ≤ result → tagged tag (drop start (said good.entry)) ≡ []) }
 {
-    for i in start..count {
-        if record_at(instructions, i).tag == tag {
+    for i in start..good.count {
+        if record_at(good.instructions, i).tag == tag {
             return i;
         }
     }
-    count
+    good.count
 }
 
 // The last index whose record has a tag, or the count.
-fn last_tagged(instructions: &[u32], log: &[u8], strings: &[u8], count: usize, tag: u32) -> usize
-    requires { GoodStores instructions.now log.now strings.now count }
-    ensures { (result < count → last_tagged tag (instrs_of instructions.now log.now strings.now count) ≡ one_at (instrs_of instructions.now log.now strings.now count) result) × (count ≤ result → last_tagged tag (instrs_of instructions.now log.now strings.now count) ≡ []) }
+fn last_tagged(good: Good, tag: u32) -> usize
+    ensures { (result < good.entry.count → last_tagged tag (said good.entry) ≡ one_at (said good.entry) result) × (good.entry.count ≤ result → last_tagged tag (said good.entry) ≡ []) }
 {
-    for i in (0..count).rev() {
-        if record_at(instructions, i).tag == tag {
+    for i in (0..good.count).rev() {
+        if record_at(good.instructions, i).tag == tag {
             return i;
         }
     }
-    count
+    good.count
 }
 
 // The next of the functions from an index on: no section's, no parameter.
-fn next_function(
-    instructions: &[u32],
-    log: &[u8],
-    strings: &[u8],
-    count: usize,
-    start: usize,
-) -> Option<(usize, Cursor)>
-    requires { GoodStores instructions.now log.now strings.now count }
-    ensures { Follows (instrs_of instructions.now log.now strings.now count) count (functions (drop start (instrs_of instructions.now log.now strings.now count))) result }
+fn next_function(good: Good, start: usize) -> Option<(usize, Cursor)>
+    ensures { Follows (said good.entry) good.entry.count (functions (drop start (said good.entry))) result }
 {
-    for i in start..count {
-        let f = record_at(instructions, i);
+    for i in start..good.count {
+        let f = record_at(good.instructions, i);
         if f.tag == tags::FUNCTION {
             return Some((
                 i,
@@ -89,21 +75,13 @@ fn next_function(
 }
 
 // The next parameter from an index on, up to the next end of a function; else the next of the functions from another on.
-fn next_parameter(
-    instructions: &[u32],
-    log: &[u8],
-    strings: &[u8],
-    count: usize,
-    start: usize,
-    back: usize,
-) -> Option<(usize, Cursor)>
-    requires { GoodStores instructions.now log.now strings.now count }
-    ensures { Follows (instrs_of instructions.now log.now strings.now count) count (parameters_left start back (instrs_of instructions.now log.now strings.now count)) result }
+fn next_parameter(good: Good, start: usize, back: usize) -> Option<(usize, Cursor)>
+    ensures { Follows (said good.entry) good.entry.count (parameters_left start back (said good.entry)) result }
 {
-    for i in start..count {
-        let f = record_at(instructions, i);
+    for i in start..good.count {
+        let f = record_at(good.instructions, i);
         if f.tag == tags::FUNCTION_END {
-            return next_function(instructions, log, strings, count, back);
+            return next_function(good, back);
         }
         if f.tag == tags::PARAMETER {
             return Some((
@@ -116,25 +94,17 @@ fn next_parameter(
             ));
         }
     }
-    next_function(instructions, log, strings, count, back)
+    next_function(good, back)
 }
 
 // The index in a section from one on, of MemoryModel the last alone.
-fn in_section(
-    instructions: &[u32],
-    log: &[u8],
-    strings: &[u8],
-    count: usize,
-    start: usize,
-    tag: u32,
-) -> usize
-    requires { GoodStores instructions.now log.now strings.now count }
-    ensures { InSection (instrs_of instructions.now log.now strings.now count) count tag start result }
+fn in_section(good: Good, start: usize, tag: u32) -> usize
+    ensures { InSection (said good.entry) good.entry.count tag start result }
 {
     if tag == tags::MEMORY_MODEL {
-        return last_tagged(instructions, log, strings, count, tag);
+        return last_tagged(good, tag);
     }
-    first_tagged(instructions, log, strings, count, start, tag)
+    first_tagged(good, start, tag)
 }
 
 // The section after the one of an index, and the index to go on from.
@@ -157,45 +127,30 @@ fn section_after(i: usize, tag: u32) -> Cursor
 }
 
 // The next in the sections from one on, or the first of the functions.
-fn next_section(
-    instructions: &[u32],
-    log: &[u8],
-    strings: &[u8],
-    count: usize,
-    start: usize,
-    first: u32,
-) -> Option<(usize, Cursor)>
-    requires good_stores { GoodStores instructions.now log.now strings.now count }
-    requires first_bound { first < 12 }
-    ensures { Follows (instrs_of instructions.now log.now strings.now count) count (sections_left first start (instrs_of instructions.now log.now strings.now count)) result }
+fn next_section(good: Good, start: usize, first: u32) -> Option<(usize, Cursor)>
+    requires { first < 12 }
+    ensures { Follows (said good.entry) good.entry.count (sections_left first start (said good.entry)) result }
 {
     let mut at = start;
     for tag in first..tags::FUNCTION {
-        let i = in_section(instructions, log, strings, count, at, tag);
-        if i < count {
+        let i = in_section(good, at, tag);
+        if i < good.count {
             return Some((i, section_after(i, tag)));
         }
         at = 0;
     }
-    next_function(instructions, log, strings, count, 0)
+    next_function(good, 0)
 }
 
 // The next index in module order, and where it is after it; or nothing at the end.
-pub fn advance(
-    instructions: &[u32],
-    log: &[u8],
-    strings: &[u8],
-    count: usize,
-    c: Cursor,
-) -> Option<(usize, Cursor)>
-    requires { GoodStores instructions.now log.now strings.now count }
-    ensures { Follows (instrs_of instructions.now log.now strings.now count) count (left_of c (instrs_of instructions.now log.now strings.now count)) result }
+pub fn advance(good: Good, c: Cursor) -> Option<(usize, Cursor)>
+    ensures { Follows (said good.entry) good.entry.count (left_of c (said good.entry)) result }
 {
     if c.tag < tags::FUNCTION {
-        return next_section(instructions, log, strings, count, c.at, c.tag);
+        return next_section(good, c.at, c.tag);
     }
     if c.tag == tags::FUNCTION {
-        return next_function(instructions, log, strings, count, c.at);
+        return next_function(good, c.at);
     }
-    next_parameter(instructions, log, strings, count, c.at, c.back)
+    next_parameter(good, c.at, c.back)
 }

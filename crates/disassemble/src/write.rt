@@ -3,7 +3,7 @@ ghost use Rattle.std.specs.Prelude.{◌≡◌, ◌∷◌, [], ◌≤◌};
 ghost use Rattle.spec.specs.Write.{module_order};
 ghost use Rattle.spec.specs.Disassembly.{header_text, lines_text, module_text, disassemble as disassemble_of};
 ghost use Rattle.records.specs.Steps.{given};
-ghost use Rattle.spelled.specs.Placing.{GoodStores, instrs_of};
+ghost use Rattle.spelled.specs.Said.{said};
 ghost use Rattle.assemble.specs.Writes.{Writes};
 ghost use Rattle.pieces.specs.Putting.{Room, Wrote};
 ghost use Rattle.imports.specs.Imports.{ImportsEnd};
@@ -17,6 +17,7 @@ use lookup::Names;
 use pieces::{put_bytes, put_number};
 use records::{at_most, record_at};
 use spec::{Written, refusals};
+use spelled::Good;
 
 // The four lines of the header, by its version and bound.
 fn put_header(version: u32, bound: u32, out: &mut [u8], at: usize, keep: bool) -> usize
@@ -32,19 +33,10 @@ fn put_header(version: u32, bound: u32, out: &mut [u8], at: usize, keep: bool) -
 }
 
 // The lines of all instructions, in module order.
-fn put_lines(
-    names: Names,
-    instructions: &[u32],
-    log: &[u8],
-    strings: &[u8],
-    asked: Asked,
-    out: &mut [u8],
-    start: usize,
-) -> usize
-    requires good_stores { GoodStores instructions.now log.now strings.now asked.count }
-    requires imports_le_count { (asked.imports ≤ asked.count) × ImportsEnd instructions.now asked.count asked.imports }
-    requires room { Room asked.keep out.old start (lines_text (instrs_of instructions.now log.now strings.now asked.count) (module_order (instrs_of instructions.now log.now strings.now asked.count))) }
-    ensures { Wrote asked.keep out.old start (lines_text (instrs_of instructions.now log.now strings.now asked.count) (module_order (instrs_of instructions.now log.now strings.now asked.count))) result out.new }
+fn put_lines(names: Names, good: Good, asked: Asked, out: &mut [u8], start: usize) -> usize
+    requires imports_le_count { (asked.imports ≤ good.count) × ImportsEnd good.instructions.now good.count asked.imports }
+    requires room { Room asked.keep out.old start (lines_text (said good) (module_order (said good))) }
+    ensures { Wrote asked.keep out.old start (lines_text (said good.entry) (module_order (said good.entry))) result out.new }
 {
     let mut c = Cursor {
         tag: 1,
@@ -52,61 +44,33 @@ fn put_lines(
         back: 0,
     };
     let mut at = start;
-    while let Some((i, after)) = advance(instructions, log, strings, asked.count, c) {
-        at = put_line(
-            names,
-            instructions,
-            log,
-            strings,
-            asked,
-            record_at(instructions, i),
-            out,
-            at,
-        );
+    while let Some((i, after)) = advance(good, c) {
+        at = put_line(names, good, asked, record_at(good.instructions, i), out, at);
         c = after;
     }
     at
 }
 
 // The whole text, kept or only measured.
-fn put_text(
-    names: Names,
-    header: [u32; 5],
-    instructions: &[u32],
-    log: &[u8],
-    strings: &[u8],
-    asked: Asked,
-    out: &mut [u8],
-) -> usize
-    requires good_stores { GoodStores instructions.now log.now strings.now asked.count }
-    requires imports_le_count { (asked.imports ≤ asked.count) × ImportsEnd instructions.now asked.count asked.imports }
-    requires room { Room asked.keep out.old 0 (module_text header (instrs_of instructions.now log.now strings.now asked.count)) }
-    ensures { Wrote asked.keep out.old 0 (module_text header (instrs_of instructions.now log.now strings.now asked.count)) result out.new }
+fn put_text(names: Names, header: [u32; 5], good: Good, asked: Asked, out: &mut [u8]) -> usize
+    requires imports_le_count { (asked.imports ≤ good.count) × ImportsEnd good.instructions.now good.count asked.imports }
+    requires room { Room asked.keep out.old 0 (module_text header (said good)) }
+    ensures { Wrote asked.keep out.old 0 (module_text header (said good.entry)) result out.new }
 {
     let at = put_header(header[1], header[3], out, 0, asked.keep);
-    put_lines(names, instructions, log, strings, asked, out, at)
+    put_lines(names, good, asked, out, at)
 }
 
 // Good records that have their names: measured against the output, then written.
-fn write_good(
-    names: Names,
-    header: [u32; 5],
-    instructions: &[u32],
-    log: &[u8],
-    strings: &[u8],
-    count: usize,
-    out: &mut [u8],
-) -> Written
-    requires { GoodStores instructions.now log.now strings.now count }
-    ensures { Writes (text_over out.old (module_text header (instrs_of instructions.now log.now strings.now count))) out.new result }
+fn write_good(names: Names, header: [u32; 5], good: Good, out: &mut [u8]) -> Written
+    ensures { Writes (text_over out.old (module_text header (said good.entry))) out.new result }
 {
-    let imports = imports_end(instructions, count);
+    let imports = imports_end(good.instructions, good.count);
     let measured = Asked {
-        count,
         imports,
         keep: false,
     };
-    let need = put_text(names, header, instructions, log, strings, measured, out);
+    let need = put_text(names, header, good, measured, out);
     if out.len() < need {
         return Written {
             number: refusals::TEXT_LONG,
@@ -115,11 +79,10 @@ fn write_good(
         };
     }
     let kept = Asked {
-        count,
         imports,
         keep: true,
     };
-    let bytes = put_text(names, header, instructions, log, strings, kept, out);
+    let bytes = put_text(names, header, good, kept, out);
     Written {
         number: refusals::ACCEPTED,
         index: 0,
@@ -184,15 +147,13 @@ pub fn disassemble(
         return bad_record(named + 1);
     }
     let Some(first) = checked else {
-        return write_good(
-            names,
-            header,
+        let good = Good {
             instructions,
             log,
             strings,
-            instruction_count,
-            out,
-        );
+            count: instruction_count,
+        };
+        return write_good(names, header, good, out);
     };
     bad_record(first)
 }

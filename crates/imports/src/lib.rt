@@ -6,11 +6,12 @@ ghost use Rattle.spec.specs.Base.{or_zero};
 ghost use Rattle.spec.specs.Records.{record_size};
 ghost use Rattle.spec.specs.Disassembly.{set_named, import_of, set_of};
 ghost use Rattle.spelled.specs.Spelled.{AllReadable, said_by};
-ghost use Rattle.spelled.specs.Placing.{GoodStores, instrs_of};
+ghost use Rattle.spelled.specs.Said.{said};
 ghost use Rattle.imports.specs.Imports.{ImportsEnd};
 
 use records::record_at;
 use spec::{Fields, kinds, tags};
+use spelled::Good;
 
 // Where the imports end: behind the last.
 pub fn imports_end(instructions: &[u32], count: usize) -> usize
@@ -59,20 +60,12 @@ fn import_of(log: &[u8], strings: &[u8], f: Fields, id: u32) -> u8
 }
 
 // The set of an id, or 0: from the last import back.
-pub fn set_of(
-    instructions: &[u32],
-    log: &[u8],
-    strings: &[u8],
-    count: usize,
-    end: usize,
-    id: u32,
-) -> u8
-    requires good_stores { GoodStores instructions.now log.now strings.now count }
-    requires end_le_count { (end ≤ count) × ImportsEnd instructions.now count end }
-    ensures { result ≡ or_zero (set_of id (instrs_of instructions.now log.now strings.now count)) }
+pub fn set_of(good: Good, end: usize, id: u32) -> u8
+    requires { (end ≤ good.count) × ImportsEnd good.instructions.now good.count end }
+    ensures { result ≡ or_zero (set_of id (said good.entry)) }
 {
     for i in (0..end).rev() {
-        let set = import_of(log, strings, record_at(instructions, i), id);
+        let set = import_of(good.log, good.strings, record_at(good.instructions, i), id);
         if set != 0 {
             return set;
         }

@@ -8,20 +8,20 @@ use Rattle.imports.proofs.set_of.Goals as goal
 
 pub loop-i-init : goal.loop-i-init
 loop-i-init c =
-    set_start _ _ _ _ c.requires.good_stores _ _ c.requires.end_le_count.0 c.requires.end_le_count.1
+    set_start _ _ _ _ c.args.good.stores _ _ c.requires.0 c.requires.1
 
 pub record_at-requires : goal.record_at-requires
 record_at-requires c =
-    omega (arith, stores_in _ _ _ _ c.requires.good_stores (c.loop-i.i - 1) (omega arith))
+    omega (arith, stores_in _ _ _ _ c.args.good.stores (c.loop-i.i - 1) (omega arith))
 
 pub import_of-set-requires : goal.import_of-set-requires
 import_of-set-requires c =
-    (stores_at _ _ _ _ c.requires.good_stores (c.loop-i.i - 1) (omega arith) _ c.record_at.ensures).sound.operands
+    (stores_at _ _ _ _ c.args.good.stores (c.loop-i.i - 1) (omega arith) _ c.record_at.ensures).sound.operands
 
 pub returns-then-set-ne0 : goal.returns-then-set-ne0
 returns-then-set-ne0 c =
-    set_hit (stores_at _ _ _ _ c.requires.good_stores (c.loop-i.i - 1) (omega arith) _ c.record_at.ensures) _ _ (set_up _ _ _ c.loop-i-test.true c.loop-i.invariant) c.import_of-set.ensures c.if-set-ne0.true
+    set_hit (stores_at _ _ _ _ c.args.good.stores (c.loop-i.i - 1) (omega arith) _ c.record_at.ensures) _ _ (set_up _ _ _ c.loop-i-test.true c.loop-i.invariant) c.import_of-set.ensures c.if-set-ne0.true
 
 pub loop-i-preserved : goal.loop-i-preserved
 loop-i-preserved c =
-    set_miss (stores_at _ _ _ _ c.requires.good_stores (c.loop-i.i - 1) (omega arith) _ c.record_at.ensures) _ _ (set_up _ _ _ c.loop-i-test.true c.loop-i.invariant) c.import_of-set.ensures c.if-set-ne0.false
+    set_miss (stores_at _ _ _ _ c.args.good.stores (c.loop-i.i - 1) (omega arith) _ c.record_at.ensures) _ _ (set_up _ _ _ c.loop-i-test.true c.loop-i.invariant) c.import_of-set.ensures c.if-set-ne0.false

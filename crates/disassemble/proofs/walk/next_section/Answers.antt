@@ -6,15 +6,15 @@ use Rattle.disassemble.proofs.walk.next_section.Goals as goal
 
 pub loop-tag-init : goal.loop-tag-init
 loop-tag-init c =
-    or_section _ _ _ c.requires.first_bound
+    or_section _ _ _ c.requires
 
-pub returns-then-i-count : goal.returns-then-i-count
-returns-then-i-count c =
-    section_has c.in_section-i.ensures c.loop-tag-test.true _ c.loop-tag.invariant _ c.section_after.ensures c.if-i-count.true
+pub returns-then-i-good : goal.returns-then-i-good
+returns-then-i-good c =
+    section_has c.in_section-i.ensures c.loop-tag-test.true _ c.loop-tag.invariant _ c.section_after.ensures c.if-i-good.true
 
 pub loop-tag-preserved : goal.loop-tag-preserved
 loop-tag-preserved c =
-    section_lacks c.in_section-i.ensures c.loop-tag-test.true _ c.loop-tag.invariant c.if-i-count.false
+    section_lacks c.in_section-i.ensures c.loop-tag-test.true _ c.loop-tag.invariant c.if-i-good.false
 
 pub returns : goal.returns
 returns c =

@@ -30,9 +30,9 @@ pub returns-then-named-count : goal.returns-then-named-count
 returns-then-named-count c =
     call_unnamed _ _ _ _ _ _ _ c.check-checked.ensures _ _ (part_is c.args.log.now _ _ c.at_most-log_end.ensures) (part_is c.args.strings.now _ _ c.at_most-strings_end.ensures) _ c.before_bad-count.ensures _ c.named_count-named.ensures _ _ _ c.if-named-count.true c.bad_record.ensures
 
-pub write_good-requires : goal.write_good-requires
-write_good-requires c =
-    call_stores _ _ _ _ _ _ _ c.check-checked.ensures _ _ (part_is c.args.log.now _ _ c.at_most-log_end.ensures) (part_is c.args.strings.now _ _ c.at_most-strings_end.ensures) _ c.before_bad-count.ensures c.in_default.is
+pub invariant_of-good : goal.invariant_of-good
+invariant_of-good c =
+    record { stores = call_stores _ _ _ _ _ _ _ c.check-checked.ensures _ _ (part_is c.args.log.now _ _ c.at_most-log_end.ensures) (part_is c.args.strings.now _ _ c.at_most-strings_end.ensures) _ c.before_bad-count.ensures c.in_default.is }
 
 pub returns-in_default : goal.returns-in_default
 returns-in_default c =

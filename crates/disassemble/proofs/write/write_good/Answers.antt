@@ -6,7 +6,7 @@ use Rattle.disassemble.proofs.write.write_good.Goals as goal
 
 pub imports_end-imports-requires : goal.imports_end-imports-requires
 imports_end-imports-requires c =
-    stores_fit _ _ _ _ c.requires
+    stores_fit _ _ _ _ c.args.good.stores
 
 pub returns-then-out-need : goal.returns-then-out-need
 returns-then-out-need c =
