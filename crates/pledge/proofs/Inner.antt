@@ -418,7 +418,7 @@ set_of = λ κs a x y after other ask p q. (both p q, refl)
 
 -- an instruction's line
 pub put_line : Determined put-line-call.Kinds.ps put-line-call.Kinds.r put-line-call.Reads.Asked put-line-call.Reads.Learnt
-put_line = λ κs a x y after other ask p q. (both p.place q.place, and refl (and refl (and refl (and refl (and refl (and refl (and (both p.stored q.stored) refl)))))))
+put_line = λ κs a x y after other ask p q. (both p.place q.place, and refl (and refl (and refl (and refl (and (both p.stored q.stored) refl)))))
 
 -- a module's listing, written into a buffer
 pub listing : Determined listing-call.Kinds.ps listing-call.Kinds.r listing-call.Reads.Asked listing-call.Reads.Learnt
