@@ -10,7 +10,7 @@ ghost use Rattle.spelled.specs.Said.{said};
 ghost use Rattle.assemble.specs.Writes.{Writes};
 
 use order::{put_module, put_read};
-use ranges::{end_of, module_end, survey};
+use ranges::{Ranges, TAGS, end_of, module_end, survey};
 use spec::{Written, refusals, tags};
 use spelled::Good;
 use words::put_word;
@@ -72,7 +72,11 @@ fn write_read(header: [u32; 5], good: Good, out: &mut [u8]) -> Written
 fn write_whole(header: [u32; 5], good: Good, out: &mut [u8]) -> Written
     ensures { Writes (written_over out.old (order_bytes true header (said good.entry))) out.new result }
 {
-    let ranges = survey(good);
+    let mut ranges = Ranges {
+        first: [0; TAGS],
+        end: [0; TAGS],
+    };
+    survey(good, &mut ranges);
     let model = ranges.first[tags::MEMORY_MODEL as usize];
     let need = module_end(good, model);
     if out.len() < need {

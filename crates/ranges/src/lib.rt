@@ -1,7 +1,7 @@
 // One pass over good records that finds the range of each section; and where the instructions end, as read and in module order.
 #![tactic(auto)]
 
-ghost use Rattle.std.specs.Prelude.{◌≡◌, ◌+◌, ◌*◌, ◌<◌, ◌≤◌, eqb, length, take, drop, get_or, set, if◌then◌else◌};
+ghost use Rattle.std.specs.Prelude.{◌≡◌, ◌+◌, ◌*◌, ◌<◌, ◌≤◌, eqb, length, take, drop, get_or, set, replicate, if◌then◌else◌};
 ghost use Rattle.spec.specs.Write.{bytes_of_all, section_of, module_order};
 ghost use Rattle.spelled.specs.Placing.{tagged, AllRanged, begins_at};
 ghost use Rattle.spelled.specs.Said.{said};
@@ -47,19 +47,16 @@ impl Ranges {
     }
 }
 
-// The range of each section and of the definitions.
-pub fn survey(good: Good) -> Ranges
-    ensures { AllRanged (said good.entry) result.first result.end }
+// The range of each section and of the definitions, into ranges that are all zero: lent, since what is answered by value is copied by a call
+// of the C library, whose stack include/kollafrin.h would have to count.
+pub fn survey(good: Good, ranges: &mut Ranges)
+    requires { (ranges.old.first ≡ replicate 13 0) × (ranges.old.end ≡ replicate 13 0) }
+    ensures { AllRanged (said good.entry) ranges.new.first ranges.new.end }
 {
-    let mut ranges = Ranges {
-        first: [0; TAGS],
-        end: [0; TAGS],
-    };
     for i in 0..good.count {
         let f = record_at(good.instructions, i);
         ranges.note(f.tag, i);
     }
-    ranges
 }
 
 // WHERE THE INSTRUCTIONS END

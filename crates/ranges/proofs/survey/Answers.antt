@@ -1,11 +1,11 @@
-use Rattle.std.proofs.Common.{◌≤◌, refl, ap, ◌∙◌, length, length-set, arith}
+use Rattle.std.proofs.Common.{◌≤◌, ap, ◌∙◌, length, length-set, arith}
 use Rattle.spelled.specs.Said.{said}
 use Rattle.spelled.proofs.Stores.{stores_at, stores_in, stores_length}
 use Rattle.ranges.proofs.Sections.{ranges_start, ranges_more, ranges_all}
 use Rattle.ranges.proofs.survey.Goals as goal
 
 pub loop-i-init : goal.loop-i-init
-loop-i-init c = record { ranged = ranges_start _ _ refl refl; first_len = refl; end_len = refl }
+loop-i-init c = record { ranged = ranges_start _ _ c.requires.0 c.requires.1; first_len = ap length c.requires.0; end_len = ap length c.requires.1 }
 
 pub record_at-f-requires : goal.record_at-f-requires
 record_at-f-requires c = stores_in _ _ _ _ c.args.good.stores _ c.loop-i-test.true

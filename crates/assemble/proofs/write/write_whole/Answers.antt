@@ -7,7 +7,7 @@ use Rattle.assemble.proofs.write.write_whole.Goals as goal
 
 pub module_end-need-requires : goal.module_end-need-requires
 module_end-need-requires c =
-    let models = c.survey-ranges.ensures.each 4 (omega arith) in
+    let models = c.survey.ensures.each 4 (omega arith) in
     record {
       model_le_count = omega (arith, models.order, models.within, stores_length _ _ _ _ c.args.good.stores);
       count_value = models.opens;
