@@ -77,12 +77,20 @@ CODE = """\
 ghost use Rattle.std.specs.Prelude.{◌≡◌};
 ghost use Rattle.lookup.specs.Run.{name_run};
 
-// The names as one run of bytes: of each its set, its number, the length of its text, and its text.
+// The names as one run of bytes, lent from where it lies in the program: of each its set, its number, the length of its text, and its
+// text.
+pub fn bytes() -> &'static [u8; %d]
+    ensures { result.now ≡ name_run }
+{
+    b"\\
+%s"
+}
+
+// The same bytes as a value.
 pub fn table() -> [u8; %d]
     ensures { result ≡ name_run }
 {
-    *b"\\
-%s"
+    *bytes()
 }
 """
 
@@ -90,15 +98,15 @@ INDEX = """\
 // The index of the names, prepared. Made by tools/make_names.py from the files of the crate rspirv 0.11.0+1.5.4. Not to be changed by hand.
 ghost use Rattle.lookup.specs.Run.{name_run, Indexed};
 
-const INDEX: [u16; %d] = [
+static INDEX: [u16; %d] = [
 %s
 ];
 
-// The index of the names: a shift for each set, then slots with places.
-pub fn prepared() -> [u16; %d]
-    ensures { Indexed name_run result }
+// The index of the names, lent from where it lies in the program: a shift for each set, then slots with places.
+pub fn prepared() -> &'static [u16; %d]
+    ensures { Indexed name_run result.now }
 {
-    INDEX
+    &INDEX
 }
 """
 
@@ -165,7 +173,7 @@ def make_bytes(items):
 def make_code(items):
     """The file run.rt."""
     shown = ["".join(f"\\x{byte:02x}" for byte in key) + text for key, text in items]
-    return (CODE % (LENGTH, "\\\n".join(shown))).encode("utf-8")
+    return (CODE % (LENGTH, "\\\n".join(shown), LENGTH)).encode("utf-8")
 
 
 def make_shifts(sets):

@@ -73,12 +73,19 @@ CODE = """\
 ghost use Rattle.std.specs.Prelude.{◌≡◌};
 ghost use Rattle.spec.specs.Builtin.{builtin};
 
-// The built-in grammar as one run of bytes.
+// The built-in grammar as one run of bytes, lent from where it lies in the program.
+pub fn bytes() -> &'static [u8; %d]
+    ensures { result.now ≡ builtin }
+{
+    b"\\
+%s"
+}
+
+// The same bytes as a value.
 pub fn table() -> [u8; %d]
     ensures { result ≡ builtin }
 {
-    *b"\\
-%s"
+    *bytes()
 }
 """
 
@@ -88,15 +95,16 @@ INDEX = """\
 ghost use Rattle.spec.specs.Builtin.{builtin};
 ghost use Rattle.grammar.specs.Index.{Indexed};
 
-const INDEX: [u16; %d] = [
+static INDEX: [u16; %d] = [
 %s
 ];
 
-// The index of the built-in grammar: guesses, the count of rows and enumerants, and their places.
-pub fn prepared() -> [u16; %d]
-    ensures { Indexed builtin result }
+// The index of the built-in grammar, lent from where it lies in the program: guesses, the count of rows and enumerants, and their
+// places.
+pub fn prepared() -> &'static [u16; %d]
+    ensures { Indexed builtin result.now }
 {
-    INDEX
+    &INDEX
 }
 """
 
@@ -210,7 +218,7 @@ def make_text(lines):
 def make_code(raw):
     """The file run.rt, with 24 bytes to a line."""
     shown = ["".join(f"\\x{byte:02x}" for byte in raw[at : at + 24]) for at in range(0, len(raw), 24)]
-    return (CODE % (len(raw), "\\\n".join(shown))).encode("utf-8")
+    return (CODE % (len(raw), "\\\n".join(shown), len(raw))).encode("utf-8")
 
 
 def guess_place(kind, value):

@@ -3,7 +3,7 @@
 ghost use Rattle.spec.specs.Builtin.{builtin};
 ghost use Rattle.grammar.specs.Index.{Indexed};
 
-const INDEX: [u16; 2759] = [
+static INDEX: [u16; 2759] = [
     0, 1, 2, 3, 4, 5, 6, 7, 8, 0, 9, 10, 11, 0, 12, 13, 14, 15, 0, 16, 17, 18, 19, 20, 21, 22, 23,
     24, 25, 26, 27, 28, 29, 30, 31, 32, 33, 34, 35, 36, 0, 37, 38, 39, 40, 41, 42, 0, 43, 44, 45,
     46, 47, 0, 48, 49, 50, 51, 0, 52, 53, 54, 55, 56, 57, 58, 59, 60, 61, 62, 63, 64, 65, 66, 67,
@@ -158,9 +158,10 @@ const INDEX: [u16; 2759] = [
     12173, 12179, 12185, 12191, 12197, 12203, 12209, 12215, 12221, 12227, 12233, 12239, 12245,
 ];
 
-// The index of the built-in grammar: guesses, the count of rows and enumerants, and their places.
-pub fn prepared() -> [u16; 2759]
-    ensures { Indexed builtin result }
+// The index of the built-in grammar, lent from where it lies in the program: guesses, the count of rows and enumerants, and their
+// places.
+pub fn prepared() -> &'static [u16; 2759]
+    ensures { Indexed builtin result.now }
 {
-    INDEX
+    &INDEX
 }

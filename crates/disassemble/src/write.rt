@@ -125,9 +125,7 @@ pub fn disassemble(
 ) -> Written
     ensures { Writes (disassemble_of header (given instructions.now log.now strings.now instruction_count log_count string_count) out.old) out.new result }
 {
-    let run = names::table();
-    let index = names::prepared();
-    let names = Names::new(&run, &index);
+    let names = Names::new(names::bytes(), names::prepared());
     let checked = records::check(
         true,
         instructions,

@@ -45,8 +45,6 @@ pub fn load_builtin(
         (lent instructions.old log.old strings.old types.old)
         (lent instructions.new log.new strings.new types.new) result }
 {
-    let table = builtin::table();
-    let index = builtin::prepared();
-    let rows = Rows::new(&table, &index);
+    let rows = Rows::new(builtin::bytes(), builtin::prepared());
     load_indexed(module, rows, instructions, log, strings, types)
 }

@@ -1,6 +1,7 @@
 // The instructions of a module, one after the other, and a load by a grammar that is indexed.
 ghost use Rattle.std.specs.Prelude.{◌≡◌, ◌≤◌, ◌<◌, length};
 ghost use Rattle.spec.specs.Load.{lent};
+ghost use Rattle.grammar.specs.Index.{Indexed};
 ghost use Rattle.tracker.specs.Hints.{Blank};
 ghost use Rattle.loader.specs.Loading.{LoadsFrom, LoadsWith};
 
@@ -39,7 +40,8 @@ const SPARE: usize = 256;
 fn load_from(
     layout: &Layout,
     s: &[u8],
-    rows: Rows,
+    grammar: &[u8],
+    index: &[u16],
     instructions: &mut [u32],
     log: &mut [u8],
     strings: &mut [u8],
@@ -48,13 +50,18 @@ fn load_from(
     scratch: &mut [u8; SCRATCH],
     spare: &mut [u8; SPARE],
 ) -> Ended
+    requires indexed { Indexed grammar.now index.now }
     requires in_bounds { (20 ≤ length s.now) × (length s.now ≤ 67108864) }
     requires in_bounds_2 { (2048 ≤ length hints.old) × Blank hints.old }
-    ensures loads_from { LoadsFrom rows.entry.bytes.now s.now
+    ensures loads_from { LoadsFrom grammar.now s.now
         (lent instructions.old log.old strings.old types.old)
         (lent instructions.new log.new strings.new types.new) result }
     ensures instructions_bound { result.progress.instructions < 67108864 }
 {
+    let rows = Rows {
+        bytes: grammar,
+        index,
+    };
     let room = room_in(instructions.len(), log.len(), strings.len(), types.len());
     let bound = words::word_at(s, BOUND);
     let mut p = Progress {
@@ -103,11 +110,12 @@ fn load_from(
     }
 }
 
-// A load by the rows of a grammar, with everything lent that it works with.
+// A load by the bytes of a grammar and its index, with everything lent that it works with.
 fn load_with(
     layout: &Layout,
     s: &[u8],
-    rows: Rows,
+    grammar: &[u8],
+    index: &[u16],
     instructions: &mut [u32],
     log: &mut [u8],
     strings: &mut [u8],
@@ -116,8 +124,9 @@ fn load_with(
     scratch: &mut [u8; SCRATCH],
     spare: &mut [u8; SPARE],
 ) -> Loaded
-    requires { (2048 ≤ length hints.old) × Blank hints.old }
-    ensures { LoadsWith rows.entry.bytes.now s.now
+    requires indexed { Indexed grammar.now index.now }
+    requires hints_are { (2048 ≤ length hints.old) × Blank hints.old }
+    ensures { LoadsWith grammar.now s.now
         (lent instructions.old log.old strings.old types.old)
         (lent instructions.new log.new strings.new types.new) result }
 {
@@ -131,7 +140,8 @@ fn load_with(
     let ended = load_from(
         layout,
         s,
-        rows,
+        grammar,
+        index,
         instructions,
         log,
         strings,
@@ -149,20 +159,23 @@ fn load_with(
 // because a frame has room for everything that its function declares, whichever branch is taken: one function for both would have a short
 // module pay for the long hints. The compiler is told to keep them apart from their callers, and tools/stack sees to it that it does.
 // Scratch and spare are lent from here too: as locals of `load_from` they would be copied from by a call, which for a few bytes takes
-// longer than a loop.
+// longer than a loop. The bytes of the grammar and its index are lent apart, and are `Rows` in the loop alone: a struct that goes to a
+// call lies in memory, and with it what it refers to.
 
 // A load with so many hints.
 #[inline(never)]
 fn load_sized<const SIZE: usize>(
     s: &[u8],
-    rows: Rows,
+    grammar: &[u8],
+    index: &[u16],
     instructions: &mut [u32],
     log: &mut [u8],
     strings: &mut [u8],
     types: &mut [u32],
 ) -> Loaded
-    requires { (2048 ≤ SIZE) × (SIZE ≤ 32768) }
-    ensures { LoadsWith rows.entry.bytes.now s.now
+    requires indexed { Indexed grammar.now index.now }
+    requires size_in_bounds { (2048 ≤ SIZE) × (SIZE ≤ 32768) }
+    ensures { LoadsWith grammar.now s.now
         (lent instructions.old log.old strings.old types.old)
         (lent instructions.new log.new strings.new types.new) result }
 {
@@ -174,7 +187,8 @@ fn load_sized<const SIZE: usize>(
     load_with(
         &layout,
         s,
-        rows,
+        grammar,
+        index,
         instructions,
         log,
         strings,
@@ -199,7 +213,15 @@ pub fn load_indexed(
         (lent instructions.new log.new strings.new types.new) result }
 {
     if s.len() <= SHORT {
-        return load_sized::<FEW_HINTS>(s, rows, instructions, log, strings, types);
+        return load_sized::<FEW_HINTS>(
+            s,
+            rows.bytes,
+            rows.index,
+            instructions,
+            log,
+            strings,
+            types,
+        );
     }
-    load_sized::<HINTS>(s, rows, instructions, log, strings, types)
+    load_sized::<HINTS>(s, rows.bytes, rows.index, instructions, log, strings, types)
 }

@@ -1,7 +1,7 @@
 // The index of the names, prepared. Made by tools/make_names.py from the files of the crate rspirv 0.11.0+1.5.4. Not to be changed by hand.
 ghost use Rattle.lookup.specs.Run.{name_run, Indexed};
 
-const INDEX: [u16; 3069] = [
+static INDEX: [u16; 3069] = [
     0, 918, 772, 542, 889, 736, 1959, 731, 222, 626, 723, 602, 792, 2494, 522, 515, 395, 243, 677,
     367, 609, 880, 272, 719, 387, 1765, 633, 535, 592, 777, 2361, 0, 0, 0, 0, 0, 0, 0, 0, 0, 0,
     884, 289, 894, 596, 902, 798, 404, 0, 9, 20, 41, 53, 74, 84, 100, 112, 0, 122, 137, 156, 16617,
@@ -161,9 +161,9 @@ const INDEX: [u16; 3069] = [
     15425, 15459, 15504, 0, 0, 15549, 17171, 17192, 17212, 17226, 17244, 17256,
 ];
 
-// The index of the names: a shift for each set, then slots with places.
-pub fn prepared() -> [u16; 3069]
-    ensures { Indexed name_run result }
+// The index of the names, lent from where it lies in the program: a shift for each set, then slots with places.
+pub fn prepared() -> &'static [u16; 3069]
+    ensures { Indexed name_run result.now }
 {
-    INDEX
+    &INDEX
 }

@@ -5,4 +5,4 @@ mod index;
 mod run;
 
 pub use index::prepared;
-pub use run::table;
+pub use run::{bytes, table};

@@ -3,11 +3,12 @@
 ghost use Rattle.std.specs.Prelude.{◌≡◌};
 ghost use Rattle.lookup.specs.Run.{name_run};
 
-// The names as one run of bytes: of each its set, its number, the length of its text, and its text.
-pub fn table() -> [u8; 32077]
-    ensures { result ≡ name_run }
+// The names as one run of bytes, lent from where it lies in the program: of each its set, its number, the length of its text, and its
+// text.
+pub fn bytes() -> &'static [u8; 32077]
+    ensures { result.now ≡ name_run }
 {
-    *b"\
+    b"\
 \x00\x00\x00\x00\x00\x03Nop\
 \x00\x01\x00\x00\x00\x05Undef\
 \x00\x02\x00\x00\x00\x0fSourceContinued\
@@ -1474,4 +1475,11 @@ pub fn table() -> [u8; 32077]
 \x2f\xca\x00\x00\x00\x0au_abs_diff\
 \x2f\xcb\x00\x00\x00\x08u_mul_hi\
 \x2f\xcc\x00\x00\x00\x08u_mad_hi"
+}
+
+// The same bytes as a value.
+pub fn table() -> [u8; 32077]
+    ensures { result ≡ name_run }
+{
+    *bytes()
 }

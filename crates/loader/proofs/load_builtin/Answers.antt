@@ -3,4 +3,4 @@ use Rattle.loader.proofs.Beginning.{load_prepared}
 use Rattle.loader.proofs.load_builtin.Goals as goal
 
 pub returns : goal.returns
-returns c = load_prepared _ _ _ c.type_inv.module c.table-table.ensures _ _ (rw c.new-rows.ensures.0 at c.load_indexed.ensures)
+returns c = load_prepared _ _ _ c.type_inv.module c.bytes.ensures _ _ (rw c.new-rows.ensures.0 at c.load_indexed.ensures)

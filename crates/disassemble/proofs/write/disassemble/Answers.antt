@@ -17,7 +17,7 @@ slice_bounds-strings-end c =
     most_length _ _ c.args.strings.now c.at_most-strings_end.ensures
 
 pub new-names-requires : goal.new-names-requires
-new-names-requires c = indexed_by _ _ c.table-run.ensures c.prepared-index.ensures
+new-names-requires c = indexed_by _ _ c.bytes.ensures c.prepared.ensures
 
 pub named_count-named-requires : goal.named_count-named-requires
 named_count-named-requires c =

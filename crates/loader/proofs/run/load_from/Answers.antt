@@ -44,18 +44,18 @@ shape_of-hints-in-Err c = c.loop-p.invariant.same_hints
 
 pub returns-in-Err : goal.returns-in-Err
 returns-in-Err c = let running = c.loop-p.invariant in
-    record { loads_from = halts running c.loop-p-test.true _ (verdict _ _ _ _ _ _ _ c.args.rows.indexed _ c.decode-read.ensures _ c.admit.ensures _ c.in-Err.is); instructions_bound = few_kept running }
+    record { loads_from = halts running c.loop-p-test.true _ (verdict _ _ _ _ _ _ _ c.requires.indexed _ c.decode-read.ensures _ c.admit.ensures _ c.in-Err.is); instructions_bound = few_kept running }
 
 pub keep_operands-requires : goal.keep_operands-requires
 keep_operands-requires c = let running = c.loop-p.invariant in
     let word = c.loop-p-test.true in
-    let goes_in = verdict _ _ _ _ _ _ _ c.args.rows.indexed _ c.decode-read.ensures _ c.admit.ensures _ c.in-Ok.is in
+    let goes_in = verdict _ _ _ _ _ _ _ c.requires.indexed _ c.decode-read.ensures _ c.admit.ensures _ c.in-Ok.is in
     let stands = here running goes_in in
     record { s_len_bound = (stands.short, omega (arith, stands.inside, more running goes_in word)); bounded = (stands.bounded, stands.typed); log_in_bounds = operands_fit running goes_in; shown = goes_in.shown }
 
 pub keep_record-p-requires : goal.keep_record-p-requires
 keep_record-p-requires c = let running = c.loop-p.invariant in
-    let goes_in = verdict _ _ _ _ _ _ _ c.args.rows.indexed _ c.decode-read.ensures _ c.admit.ensures _ c.in-Ok.is in
+    let goes_in = verdict _ _ _ _ _ _ _ c.requires.indexed _ c.decode-read.ensures _ c.admit.ensures _ c.in-Ok.is in
     let stands = here running goes_in in
     record { bounded = (stands.bounded, stands.typed); moderate = moderate goes_in.shown stands.short; record_size_in_bounds = record_fits running goes_in; types_in_bounds = entries_fit running goes_in }
 
@@ -63,15 +63,15 @@ pub loop-p-smaller : goal.loop-p-smaller
 loop-p-smaller c =
     let running = c.loop-p.invariant in
     let word = c.loop-p-test.true in
-    let goes_in = verdict _ _ _ _ _ _ _ c.args.rows.indexed _ c.decode-read.ensures _ c.admit.ensures _ c.in-Ok.is in
+    let goes_in = verdict _ _ _ _ _ _ _ c.requires.indexed _ c.decode-read.ensures _ c.admit.ensures _ c.in-Ok.is in
     fewer running goes_in word c.keep_record-p.ensures
 
 pub loop-p-preserved : goal.loop-p-preserved
 loop-p-preserved c =
     let running = c.loop-p.invariant in
     let word = c.loop-p-test.true in
-    let goes_in = verdict _ _ _ _ _ _ _ c.args.rows.indexed _ c.decode-read.ensures _ c.admit.ensures _ c.in-Ok.is in
-    goes_on_lem running goes_in word c.keep_record-p.ensures _ _ _ c.args.rows.indexed c.keep_operands.ensures (search rules)
+    let goes_in = verdict _ _ _ _ _ _ _ c.requires.indexed _ c.decode-read.ensures _ c.admit.ensures _ c.in-Ok.is in
+    goes_on_lem running goes_in word c.keep_record-p.ensures _ _ _ c.requires.indexed c.keep_operands.ensures (search rules)
 
 pub shape_of-instructions : goal.shape_of-instructions
 shape_of-instructions c = same_instructions c.loop-p.invariant

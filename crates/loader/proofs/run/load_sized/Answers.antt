@@ -4,4 +4,4 @@ use Rattle.loader.proofs.Beginning.{blank_hints}
 use Rattle.loader.proofs.run.load_sized.Goals as goal
 
 pub load_with-requires : goal.load_with-requires
-load_with-requires g c = (search rules, blank_hints _)
+load_with-requires g c = record { indexed = c.requires.indexed; hints_are = (search rules, blank_hints _) }
