@@ -62,7 +62,7 @@ fn parse_slot(
 {
     if grammar::is_result(kind) {
         let (id, e) = d.word(s)?;
-        return Ok((with_result(u, kind, id), e));
+        return Ok((with_result(u, kind, Some(id)), e));
     }
     if (31 <= kind) & (kind <= 35) {
         return read_word(d, s, kind, log, u);

@@ -34,7 +34,7 @@ no_result k x y = fails (is_result k) (λ e. omega (arith, in_range 46 k 47 e, x
 module _ (s : List ℕ) (g : Grammar) (j : ℕ) (l : Option ℕ) (d : Decoder) (log strs : List ℕ) (u : Used) (t : Bool) (p : t ≡ is_result j) (types : List Entry)
     (f : l ≡ literal_for types u j) where
   -- a result
-  pub reads_result : t ≡ true → Few s d u → (v : ℕ) (e : Decoder) → Ok (v, e) ≡ word_from s d → (n : Used) → n ≡ with_result j v u
+  pub reads_result : t ≡ true → Few s d u → (v : ℕ) (e : Decoder) → Ok (v, e) ≡ word_from s d → (n : Used) → n ≡ with_result j (Some v) u
       → IfTaken (SlotWalks s d j (λ x. read_slot g types x j (reader_of s d)) log strs log strs u) (Some (n, e))
   reads_result q m v e h n z = take _ e n (walks_result s g j l d log strs u t p types f q m v e h n z)
 

@@ -82,7 +82,7 @@ fn simple_result(d: Decoder, s: &[u8], kind: u8, u: Used) -> Option<(Used, Decod
     ensures { (g : Grammar) (types : List Entry) (l t : List ℕ) → IfTaken (SlotWalks s.now d kind (λ x. read_slot g types x kind (reader_of s.now d)) l t l t u) result }
 {
     let x = next_word(d, s);
-    Some((with_result(u, kind, x.word), x.after))
+    Some((with_result(u, kind, Some(x.word)), x.after))
 }
 
 // One record of a word.

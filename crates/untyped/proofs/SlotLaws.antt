@@ -258,7 +258,7 @@ module _ {log₀ strs₀ log strs : List ℕ} {u₀ u : Used} {x : Seen} (w : Wa
 module _ (s : List ℕ) (g : Grammar) (j : ℕ) (l : Option ℕ) (d : Decoder) (log strs : List ℕ) (u : Used) (t : Bool) (p : t ≡ is_result j) (types : List Entry)
     (f : l ≡ literal_for types u j) where
   -- the walk goes on with a result
-  pub walks_result : t ≡ true → Few s d u → (v : ℕ) (e : Decoder) → Ok (v, e) ≡ word_from s d → (n : Used) → n ≡ with_result j v u
+  pub walks_result : t ≡ true → Few s d u → (v : ℕ) (e : Decoder) → Ok (v, e) ≡ word_from s d → (n : Used) → n ≡ with_result j (Some v) u
       → SlotWalks s d j (λ x. read_slot g types x j (reader_of s d)) log strs log strs u (Ok (n, e))
   unfolding SlotWalks SlotWalk with_result
   walks_result q m v e h n z log₀ strs₀ u₀ x w = rw z (slot_result w s g types j d (sym p ∙ q) v e h m (eqb j 46) refl)

@@ -2,7 +2,7 @@
 use Prim.Native.Nat.{ℕ, ◌+◌, ◌-◌, ◌≤◌}
 use mathlib.Core.Path.{◌≡◌, refl, ap, sym, ◌∙◌}
 use mathlib.Core.List.{List}
-use Rattle.std.specs.Prelude.{None, Some}
+use Rattle.std.specs.Prelude.{Option, None, Some}
 use native.Mathlib.Omega.{arith}
 use borrow.Author.Tests.{eq-eqb, ne_eqb}
 use lib.Dec.{leb}
@@ -125,17 +125,17 @@ first_stays a b h = simp (ne_eqb a 0 h)
 
 -- RESULTS
 
-module _ (u : Used) (k n : ℕ) where
+module _ (u : Used) (k : ℕ) (i : Option ℕ) where
   -- a result type
   pub type_more : k ≡ 46
-      → record { rtype = Some n; rid = u.rid; operands = u.operands; kind1 = u.kind1; value1 = u.value1; kind2 = u.kind2; value2 = u.value2; log = u.log; strings = u.strings; base = u.base; breaks = u.breaks }
-      ≡ with_result k n u
+      → record { rtype = i; rid = u.rid; operands = u.operands; kind1 = u.kind1; value1 = u.value1; kind2 = u.kind2; value2 = u.value2; log = u.log; strings = u.strings; base = u.base; breaks = u.breaks }
+      ≡ with_result k i u
   unfolding with_result with_results
   type_more e = simp (eq-eqb k 46 e)
 
   -- a result id
   pub id_more : (k ≡ 46 → ⊥)
-      → record { rtype = u.rtype; rid = Some n; operands = u.operands; kind1 = u.kind1; value1 = u.value1; kind2 = u.kind2; value2 = u.value2; log = u.log; strings = u.strings; base = u.base; breaks = u.breaks }
-      ≡ with_result k n u
+      → record { rtype = u.rtype; rid = i; operands = u.operands; kind1 = u.kind1; value1 = u.value1; kind2 = u.kind2; value2 = u.value2; log = u.log; strings = u.strings; base = u.base; breaks = u.breaks }
+      ≡ with_result k i u
   unfolding with_result with_results
   id_more e = simp (ne_eqb k 46 e)

@@ -32,5 +32,5 @@ with_results t i u =
     }
 
 -- a result more: the result type for 46, else the result id
-unfoldable pub with_result : ℕ → ℕ → Used → Used
-with_result k n u = if eqb k 46 then with_results (Some n) u.rid u else with_results u.rtype (Some n) u
+unfoldable pub with_result : ℕ → Option ℕ → Used → Used
+with_result k i u = if eqb k 46 then with_results i u.rid u else with_results u.rtype i u

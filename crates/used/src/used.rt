@@ -83,16 +83,13 @@ pub fn refused(number: u32, place: usize, d: Decoder) -> Answer<Used>
 }
 
 // A result more: the result type for 46, else the result id.
-pub fn with_result(u: Used, kind: u8, id: u32) -> Used
+pub fn with_result(u: Used, kind: u8, id: Option<u32>) -> Used
     ensures { result ≡ with_result kind id u }
 {
     if kind == kinds::RESULT_TYPE {
-        return Used {
-            rtype: Some(id),
-            ..u
-        };
+        return Used { rtype: id, ..u };
     }
-    Used { rid: Some(id), ..u }
+    Used { rid: id, ..u }
 }
 
 // The id that the first operand is, where it is one.
