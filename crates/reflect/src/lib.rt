@@ -144,8 +144,8 @@ pub struct Layout {
 impl Layout {
     pub fn new() -> Layout {
         Layout {
-            kinds: KINDS,
-            cells: LAYOUT,
+            kinds: kinds(),
+            cells: table(),
         }
     }
 
