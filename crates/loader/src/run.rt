@@ -159,8 +159,8 @@ fn load_with(
 // because a frame has room for everything that its function declares, whichever branch is taken: one function for both would have a short
 // module pay for the long hints. The compiler is told to keep them apart from their callers, and tools/stack sees to it that it does.
 // Scratch and spare are lent from here too: as locals of `load_from` they would be copied from by a call, which for a few bytes takes
-// longer than a loop. The bytes of the grammar and its index are lent apart, and are `Rows` in the loop alone: a struct that goes to a
-// call lies in memory, and with it what it refers to.
+// longer than a loop. `load_indexed` takes the rows apart, and `load_from` puts them together again: handed on as a struct they lie in
+// memory, and the compiler no longer sees that what they refer to is only read.
 
 // A load with so many hints.
 #[inline(never)]
