@@ -1,17 +1,17 @@
--- Laws of the search for a zero byte: what its answer says of a string, and where the byte is.
-use Prim.Native.Nat.{ℕ, suc, ◌+◌, ◌<◌}
+-- Laws of the search for a zero byte: what its answer says of a string, and how its loop goes.
+use Prim.Native.Nat.{ℕ, ◌+◌, ◌<◌, ◌≤◌}
 use mathlib.Core.Path.{◌≡◌, refl, ap, sym, ◌∙◌}
 use mathlib.Core.Bool.{Bool, true, false}
 use mathlib.Core.List.{List, [], ◌∷◌}
-use Rattle.std.specs.Prelude.{Option, None, Some, option_map, nat_lt, cond}
-use Rattle.std.specs.List.{position}
-use Rattle.std.proofs.lemmas.Bool.Decides.{nat_tests}
+use Rattle.std.specs.Prelude.{Option, None, Some, option_map}
+use native.Mathlib.Nat.{zero-add, add-zero}
 use native.Mathlib.Numerals.{add-one}
+use borrow.Author.Tests.{eq-eqb, ne_eqb}
 use native.Mathlib.Omega.{arith}
 use lib.Dec.{eqb}
-use lib.ListN.{length, take, drop, get_or}
+use lib.ListN.{length, take, drop, get_or, drop_of_length-le}
 use lib.Seq.{drop-cons}
-use Rattle.spec.specs.Text.{cons_in, until_zero}
+use Rattle.spec.specs.Text.{until_zero}
 use Rattle.text.specs.Zero.{zero_in}
 
 -- WHAT THE ANSWER SAYS
@@ -55,32 +55,53 @@ pub zero_nothing : (s : List ℕ) → None ≡ zero_in s → until_zero s ≡ No
 unfolding zero_in
 zero_nothing s e = nothing_by (until_zero s) e
 
--- WHERE IT IS
+-- HOW THE LOOP GOES
 
 -- the bytes from i on are one and those after it
 pub rest : (s : List ℕ) (i : ℕ) → i < length s → drop i s ≡ get_or s i 0 ∷ drop (i + 1) s
 rest s i h = rw (add-one, drop-cons s i 0)
 
--- one place more, where a byte comes before
-place_on : (b n m : ℕ) (o : Option (List ℕ)) → option_map length o ≡ cond (nat_lt n m) (Some n) None
-    → option_map length (cons_in b o) ≡ cond (nat_lt (1 + n) (suc m)) (Some (1 + n)) None
-place_on b n m None e = grind (arith, nat_tests)
-place_on b n m (Some bs) e = grind (arith, nat_tests)
+-- the answer where i bytes are passed and this is the string of the rest
+unfoldable pub found_from : ℕ → Option (List ℕ) → Option ℕ
+found_from i None = None
+found_from i (Some bs) = Some (i + length bs)
 
--- by whether the first byte is zero
-place_by : (b : ℕ) (s : List ℕ) (z : Bool) → eqb b 0 ≡ z → option_map length (until_zero s) ≡ position (λ x. eqb x 0) s
-    → option_map length (until_zero (b ∷ s)) ≡ position (λ x. eqb x 0) (b ∷ s)
-unfolding until_zero
-place_by b s true z e = simp z (grind (arith, nat_tests))
-place_by b s false z e = simp z (place_on b _ (length s) (until_zero s) e)
+-- no byte is passed at first
+from_start : (o : Option (List ℕ)) → option_map length o ≡ found_from 0 o
+unfolding found_from
+from_start None = refl
+from_start (Some bs) = simp zero-add
 
--- the bytes before the first zero byte are as many as its place
-pub place : (s : List ℕ) → option_map length (until_zero s) ≡ position (λ x. eqb x 0) s
-unfolding until_zero
-place [] = refl
-place (b ∷ s) = place_by b s (eqb b 0) refl (place s)
+-- a byte that is not zero is passed
+from_next : (i b : ℕ) (s : List ℕ) (o : Option (List ℕ)) → (b ≡ 0 → ⊥) → until_zero s ≡ o → found_from i (until_zero (b ∷ s)) ≡ found_from (i + 1) o
+unfolding found_from until_zero
+from_next i b s None z e = simp (ne_eqb b 0 z, e)
+from_next i b s (Some bs) z e = simp (ne_eqb b 0 z, e) (ap (λ (n : ℕ). Some n) (omega arith))
 
--- the search for a byte that is zero finds it
-pub zero_is : (s : List ℕ) (r : Option ℕ) → r ≡ position (λ x. eqb x 0) s → r ≡ zero_in s
+-- at i, the answer is that of the rest
+pub record Searched (s : List ℕ) (i : ℕ) : Type 0 where
+  pub answer : zero_in s ≡ found_from i (until_zero (drop i s))
+
+-- before the first byte
+pub search_starts : (s : List ℕ) → Searched s 0
 unfolding zero_in
-zero_is s r e = e ∙ sym (place s)
+search_starts s = record { answer = from_start (until_zero s) }
+
+module _ {s : List ℕ} {i : ℕ} (r : Searched s i) where
+  -- the byte at i decides
+  here : i < length s → zero_in s ≡ found_from i (until_zero (get_or s i 0 ∷ drop (i + 1) s))
+  here h = r.answer ∙ ap (λ (l : List ℕ). found_from i (until_zero l)) (rest s i h)
+
+  -- past a byte that is not zero
+  pub search_goes_on : i < length s → (get_or s i 0 ≡ 0 → ⊥) → Searched s (i + 1)
+  search_goes_on h z = record { answer = here h ∙ from_next i (get_or s i 0) (drop (i + 1) s) _ z refl }
+
+  -- at a zero byte
+  pub search_finds : i < length s → get_or s i 0 ≡ 0 → Some i ≡ zero_in s
+  unfolding found_from until_zero
+  search_finds h z = sym (here h ∙ simp (eq-eqb (get_or s i 0) 0 z, add-zero))
+
+  -- at the end
+  pub search_ends : length s ≤ i → None ≡ zero_in s
+  unfolding found_from until_zero
+  search_ends h = sym (r.answer ∙ ap (λ (l : List ℕ). found_from i (until_zero l)) (drop_of_length-le s h))

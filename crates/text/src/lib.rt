@@ -11,7 +11,12 @@ ghost use Rattle.text.specs.Steps.{utf8_rows, first_of};
 pub fn zero(s: &[u8]) -> Option<usize>
     ensures { result ≡ zero_in s.now }
 {
-    s.iter().position(|b| *b == 0)
+    for at in 0..s.len() {
+        if s[at] == 0 {
+            return Some(at);
+        }
+    }
+    None
 }
 
 // Whether the bytes are ASCII text, each of ASCII and none zero: looked at to the end, so that many go at once.

@@ -1,13 +1,16 @@
--- `text::zero` meets its contract: its answer is the place of the first zero byte.
-use Rattle.std.proofs.Common.{rules}
-use Rattle.std.specs.Prelude.{eqb}
-use borrow.Author.Tests.{tests}
-use Rattle.std.proofs.lemmas.Iterator.{YieldsList-from_slice}
-use Rattle.std.proofs.lemmas.Iterator.Search.{position_from_yields_List}
-use Rattle.text.proofs.Laws.{zero_is}
+-- `text::zero` meets its contract: where the bytes passed are not zero, its answer is that of the rest.
+use Rattle.std.proofs.Common.{arith}
+use Rattle.text.proofs.Laws.{search_starts, search_goes_on, search_finds, search_ends}
 use Rattle.text.proofs.zero.Goals as goal
 
+pub loop-at-init : goal.loop-at-init
+loop-at-init c = search_starts _
+
+pub returns-then-s-at-eq0 : goal.returns-then-s-at-eq0
+returns-then-s-at-eq0 c = search_finds c.loop-at.invariant c.loop-at-test.true c.if-s-at-eq0.true
+
+pub loop-at-preserved : goal.loop-at-preserved
+loop-at-preserved c = search_goes_on c.loop-at.invariant c.loop-at-test.true c.if-s-at-eq0.false
+
 pub returns : goal.returns
-returns c =
-    zero_is _ _
-    (position_from_yields_List (λ b. eqb b 0) _ _ _ c.position.ensures.ran (YieldsList-from_slice c.args.s.now cc) (λ x b q k. search (rules, tests)))
+returns c = search_ends c.loop-at.invariant (omega (arith, c.loop-at-test.false))
