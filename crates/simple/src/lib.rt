@@ -235,7 +235,11 @@ pub fn simple_operands(
     }
     let mut u = used;
     let mut p = frame.place;
-    while let Some((k, q)) = grammar::slot_at(rows.bytes, p) {
+    // An operand has three bytes.
+    while p + 3 <= rows.bytes.len() {
+        let Some((k, q)) = grammar::slot_at(rows.bytes, p) else {
+            return Some((u, d));
+        };
         if d.limit_reached() {
             if q == 0 {
                 return None;
