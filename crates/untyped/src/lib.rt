@@ -84,7 +84,9 @@ pub fn read_one(
     read_word(d, s, kind, log, u)
 }
 
-// The parameters that start at a place of the grammar, each as one record.
+// The parameters that start at a place of the grammar, each as one record. In line, or a walk over a row keeps in memory what it would have
+// handed over, for each value of an enumeration, with parameters or without.
+#[inline(always)]
 pub fn parse_parameters(
     start: Decoder,
     s: &[u8],
